@@ -435,9 +435,9 @@ static inline const char *regress_c_message(uint32_t code)
     case REGRESS_C_MEMORY: return "out of memory";
     case REGRESS_C_STEP_LIMIT: return "the step limit is reached";
     case REGRESS_C_SYNTAX: return "the pattern has a syntax error";
-    case REGRESS_C_TOO_MANY_GROUPS: return "too many groups";
-    case REGRESS_C_TOO_MANY_LOOPS: return "too many loops";
-    case REGRESS_C_TOO_MANY_INSTRUCTIONS: return "too many instructions";
+    case REGRESS_C_TOO_MANY_GROUPS: return "too many groups (at most 65535)";
+    case REGRESS_C_TOO_MANY_LOOPS: return "too many loops (at most 65535)";
+    case REGRESS_C_TOO_MANY_INSTRUCTIONS: return "too many instructions (at most 4294967295)";
     case REGRESS_C_UNKNOWN_FLAG: return "unknown flag";
     case REGRESS_C_TOO_LONG: return "the pattern is too long";
     case REGRESS_C_TOO_DEEP: return "the pattern is nested too deeply";

@@ -33,7 +33,7 @@ def _letters(flags):
     """Returns the letters of flags. PROFILE has none."""
     unknown = int(flags) & ~int(sum(_LETTERS)) & ~int(RegexFlag.PROFILE)
     if unknown:
-        raise ValueError(f"unknown flags {unknown}")
+        raise ValueError(f"unknown flags {unknown:#x}")
     return b"".join(letter for flag, letter in _LETTERS.items() if flags & flag)
 
 
@@ -124,8 +124,10 @@ class Pattern:
         place = _Place(self, string, pos, endpos)
         left = None
         if steps is not None:
-            if steps < 0 or not place.text.counts_steps:
-                raise ValueError("steps are not negative, and are not counted in a str with surrogates")
+            if steps < 0:
+                raise ValueError("steps must not be negative")
+            if not place.text.counts_steps:
+                raise ValueError("steps are not counted in a str with surrogates")
             left = c_uint64(min(steps, 2**64 - 1))
         text, search = place.text, lib.closed_search()
         lib.check(text.open(search, *place.arguments))

@@ -584,9 +584,9 @@ fn refusal(
 ) -> Error {
     let (cause, reason) = match code {
         code::SYNTAX => return syntax(diagnose, place),
-        code::TOO_MANY_GROUPS => (Cause::TooManyGroups, "too many groups"),
-        code::TOO_MANY_LOOPS => (Cause::TooManyLoops, "too many loops"),
-        code::TOO_MANY_INSTRUCTIONS => (Cause::TooManyInstructions, "too many instructions"),
+        code::TOO_MANY_GROUPS => (Cause::TooManyGroups, "too many groups (at most 65535)"),
+        code::TOO_MANY_LOOPS => (Cause::TooManyLoops, "too many loops (at most 65535)"),
+        code::TOO_MANY_INSTRUCTIONS => (Cause::TooManyInstructions, "too many instructions (at most 4294967295)"),
         code::TOO_LONG => (Cause::TooLong, "the pattern is too long"),
         code::TOO_DEEP => (Cause::TooDeep, "the pattern is nested too deeply"),
         _ => (Cause::Memory, "out of memory"),

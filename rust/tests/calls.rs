@@ -291,11 +291,11 @@ fn errors_say_where() {
     let groups = Regex::new(&"()".repeat(65_536)).unwrap_err();
     assert_eq!(
         (groups.cause(), groups.to_string().as_str()),
-        (Cause::TooManyGroups, "too many groups")
+        (Cause::TooManyGroups, "too many groups (at most 65535)")
     );
     assert_eq!(
         (groups.position(), groups.below("()").as_str()),
-        (None, "too many groups")
+        (None, "too many groups (at most 65535)")
     );
     let loops = Regex::new(&"(?:a)*".repeat(65_537)).unwrap_err();
     assert_eq!(loops.cause(), Cause::TooManyLoops);

@@ -22,19 +22,19 @@ use Rattle.regex_meaning.proofs.FirstByteOfCharacter.{in_range-true, true-in_ran
 use Rattle.std.proofs.lemmas.Bool.{cases_lt, not-true, and_from, or_left, or_right, lt-ltb, eq-eqb, eqb-true}
 use Rattle.regex_meaning.proofs.BoolLemmas.{or-false-left, or-false-right, and-left, and-right}
 
--- what a beginning says of the bytes from a place and of the end of an outcome there
+-- An abstract start predicate says this of the bytes from a place and of the end of an outcome.
 abbrev pub Says : AbstractStartPredicate → List ℕ → (place end : ℕ) → Type 0
 Says open_ended bytes place end = end ≡ place
 Says arbitrary bytes place end = Unit {0}
 Says (sequence bs) bytes place end = (0 < length bs) × (starts_with nat_eq bytes bs ≡ true)
 Says (one_of members) bytes place end = first_byte_is_one_of members bytes ≡ true
 
--- the first number, if any, is a byte
+-- The first number of the list, if it has one, is a byte.
 abbrev pub BeginsInByte : List ℕ → Type 0
 BeginsInByte [] = Unit {0}
 BeginsInByte (b ∷ bs) = b < 256
 
--- a set says the same of any end
+-- What a set of first bytes says does not depend on the end of the outcome.
 says-any-end : (members : List ℕ) (bytes : List ℕ) (p e f : ℕ) → Says (one_of members) bytes p e → Says (one_of members) bytes p f
 says-any-end members bytes p e f h = h
 
@@ -61,7 +61,7 @@ starts-shared-right (b ∷ bytes) (x ∷ xs) (y ∷ ys) h = go (x == y) refl (st
     go true e k = and_from _ _ (rw (eqb-true x y e) (and-left (nat_eq y b) _ h)) k
     go false e k = refl
 
--- a sequence's first byte stands first
+-- Bytes that start with a non-empty sequence begin with a member of its first-byte set.
 pub starts-first : (bytes xs : List ℕ) → 0 < length xs → starts_with nat_eq bytes xs ≡ true → first_byte_is_one_of (first_byte_as_set xs) bytes ≡ true
 starts-first bytes [] l h = absurd (omega arith)
 starts-first [] (x ∷ xs) l h = grind arith
@@ -100,7 +100,7 @@ join-right _ _ bytes p e i h = tt
 
 -- ---- Texts
 
--- every character of the text is a `char`
+-- Each character of the text is a Unicode scalar value.
 abbrev pub OfChars : Text → Type 0
 OfChars text = list_all is_scalar text.characters ≡ true
 
@@ -116,7 +116,7 @@ byte-first (c ∷ cs) h = let f = first_of_char c (and-left (is_scalar c) _ h) i
 pub from-byte : (text : Text) → OfChars text → (place : ℕ) → BeginsInByte (utf8_bytes_of_text_from_place text place)
 from-byte text h place = byte-first (drop place text.characters) (drop-chars place text.characters h)
 
--- where a character stands that passes the test, the text goes on with its bytes
+-- If a set has the first byte of each passing character, the bytes at one begin with a member.
 pub next-says : (test : ℕ → Bool) (members : List ℕ)
     → ((c : ℕ) (f : FirstOf c) → is_scalar c ≡ true → test c ≡ true → contains members f.byte ≡ true)
     → (cs : List ℕ) (place : ℕ) → list_all is_scalar cs ≡ true → is_some_and (slice_get cs place) test ≡ true
@@ -127,7 +127,7 @@ next-says test members h (c ∷ cs) zero s t =
     let f = first_of_char c scalar in rw f.is (h c f scalar t)
 next-says test members h (c ∷ cs) (suc place) s t = next-says test members h cs place (and-right (is_scalar c) _ s) t
 
--- the bytes of these characters stand at the front of those of a text that begins with them
+-- If a list is the front of another, it stays so when the same list is put before both.
 cancel-front : (xs ys zs : List ℕ) → pointwise nat_eq ys (take (length ys) zs) ≡ true
     → pointwise nat_eq (xs ++ ys) (take (length (xs ++ ys)) (xs ++ zs)) ≡ true
 cancel-front [] ys zs h = h
@@ -196,7 +196,7 @@ in-without these (other ∷ others) c h k =
     in-without (flat_map (interval_minus other) these) others c
     (in-each-outside other these c h (or-false-left (is_in_range other.0 other.1 c) _ k)) (or-false-right (is_in_range other.0 other.1 c) _ k)
 
--- the first byte of a member is among the first bytes
+-- The first byte of a character in the intervals is among the first bytes of the intervals.
 pub first-byte-in : (ivs : Intervals) (c : ℕ) (f : FirstOf c) → in_intervals ivs c ≡ true → contains (first_bytes ivs) f.byte ≡ true
 first-byte-in ivs c f h = contains-bytes_where (λ b. intersects (chars_with_first_byte b) ivs) f.byte f.lead.is_byte (f.lead.meets ivs h)
 

@@ -22,7 +22,7 @@ same-truth true b h k = sym (h refl)
 same-truth false true h k = k refl
 same-truth false false h k = refl
 
--- two tests of order are the same where the orders are
+-- Two tests of order are equal if each of the two orders implies the other.
 pub le-same : (a b c d : ℕ) → (a ≤ b → c ≤ d) → (c ≤ d → a ≤ b) → nat_le a b ≡ nat_le c d
 le-same a b c d to back = elim (cases_lt b a) [
   | inl less ↦ lt-leb a b less ∙ sym (not-le (λ le. let l = back le in omega arith))

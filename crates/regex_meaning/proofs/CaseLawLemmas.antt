@@ -22,7 +22,7 @@ use Rattle.regex_meaning.specs.CaseLaws.{OnlyTwoCharactersFoldIntoAscii, Profile
 abbrev folded : (ℕ → List ℕ) → ℕ → ℕ
 folded f c = slice_index_or (f c) 0 c
 
--- the character and what it becomes fold alike
+-- The two characters have equal foldings.
 abbrev goes : (ℕ → List ℕ) → (c d : ℕ) → Bool
 goes f c d = folded f d == folded f c
 
@@ -73,14 +73,14 @@ canonicalize-folds c =
     (λ _. refl)
     (λ _. eqb-true _ _ (by_strings-goes simple_folding (by_runs uppercase_runs c) uppercase_strings c (by_runs-goes simple_folding uppercase_runs c runs_go)))
 
--- what is alike without u is alike with u
+-- Characters that become the same without `u` become the same with `u`.
 pub alike-folds : (c d : ℕ) → canonicalize false c ≡ canonicalize false d → canonicalize true c ≡ canonicalize true d
 unfolding canonicalize
 alike-folds c d same = sym (canonicalize-folds c) ∙ ap simple_fold same ∙ canonicalize-folds d
 
--- ---- What folds into ASCII
+-- ---- Folding into ASCII
 
--- a row of the table folds nothing beyond ASCII into it, but for the two characters
+-- A row that reaches beyond ASCII does not fold into ASCII, unless it is U+017F or U+212A alone.
 abbrev row_stays : ℕ × ℕ × List ℕ → Bool
 row_stays r =
     (nat_lt r.1 128 || nat_le 128 (slice_index_or r.2 0 128)) || ((r.0 == 0x017F && r.1 == 0x017F) || (r.0 == 0x212A && r.1 == 0x212A))
@@ -122,7 +122,7 @@ rows-into (r ∷ rows) c h le lt = by (nat_le r.0 c && nat_le c r.1) refl (λ k.
         row-into r c (and_parts (row_stays r) _ h).0 (leb-true r.0 c p.0) (leb-true c r.1 p.1) le (subst (λ (x : Bool). slice_index_or (if x then r.2 else value_in [] rows c) 0 c < 128) e lt)
     by false e later = later (subst (λ (x : Bool). slice_index_or (if x then r.2 else value_in [] rows c) 0 c < 128) e lt)
 
--- without u nothing beyond ASCII becomes one of it
+-- Without `u`, no character beyond ASCII becomes an ASCII character.
 upper-stays : (c : ℕ) (s : List ℕ) → 128 ≤ c → uppercase_or_itself c s < 128 → ⊥
 upper-stays c [] le lt = omega (arith, le, lt)
 upper-stays c (d ∷ e ∷ s) le lt = omega (arith, le, lt)

@@ -4,7 +4,7 @@ use Rattle.std.proofs.Common.{Contains, refl, sym, ap, ap₂, subst, ◌∙◌, 
 use Rattle.std.proofs.Common.{true≢false, le_of_suc-le-suc, not-suc-le-zero}
 use Rattle.std.specs.Prelude.{if◌then◌else◌}
 use Rattle.std.specs.List.{list_all}
-use Rattle.std.proofs.lemmas.Bool.{cond_both, and_parts, or_cases, or_left, or_right, lt-ltb, ltb-true, false_from_ne_true, ltb-false, cases_lt}
+use Rattle.std.proofs.lemmas.Bool.{cond_both, and_parts, or_cases, or_left, or_right, lt-ltb, ltb-true, false_from_ne_true, ltb-false, cases_lt, not-true}
 use Rattle.ucd_table.specs.Rows.{Row, value_in}
 use Rattle.ucd_table.proofs.Computing.{tables}
 use Rattle.ucd_table.proofs.Stepped.{Stepped, of_rows}
@@ -23,13 +23,13 @@ rest-increasing : (x : ℕ) (xs : List ℕ) → AreIncreasing (x ∷ xs) → Are
 rest-increasing x [] h = tt
 rest-increasing x (y ∷ ys) h = h.1
 
--- without its second
+-- An increasing list stays increasing without its second member.
 skip-second : (x y : ℕ) (ys : List ℕ) → AreIncreasing (x ∷ y ∷ ys) → AreIncreasing (x ∷ ys)
 skip-second x y [] h = tt
 skip-second x y (z ∷ zs) h =
     let a = ltb-true x y h.0 in let b = ltb-true y z h.1.0 in (lt-ltb x z (omega (arith, a, b)), h.1.1)
 
--- the first is the least
+-- The first member of an increasing list is less than each later one.
 first-least : (x : ℕ) (xs : List ℕ) (d : ℕ) → AreIncreasing (x ∷ xs) → contains xs d ≡ true → x < d
 first-least x [] d h e = absurd (true≢false (sym e))
 first-least x (y ∷ ys) d h e =
@@ -48,7 +48,7 @@ at-least : (x : ℕ) (xs : List ℕ) (d : ℕ) → AreIncreasing (x ∷ xs) → 
 at-least x xs d h e =
     ⊎_elim (λ f. let a = eqb-true d x f in omega (arith, a)) (λ f. let a = first-least x xs d h f in omega (arith, a)) (or_cases (nat_eq d x) (contains xs d) e)
 
--- two that have the same numbers are one
+-- Increasing lists with the same members are equal.
 pub one-increasing : (xs ys : List ℕ) → AreIncreasing xs → AreIncreasing ys → ((d : ℕ) → contains xs d ≡ contains ys d) → xs ≡ ys
 one-increasing [] [] h k same = refl
 one-increasing [] (y ∷ ys) h k same = absurd (true≢false (sym (same y ∙ itself y ys)))
@@ -114,7 +114,7 @@ fits-within (m ∷ ms) xs h within =
 
 -- ---- The characters with one folding
 
--- the others that the table has
+-- The table gives these other characters for a character.
 others : ℕ → List ℕ
 others = value_in [] fold_other_rows
 
@@ -142,14 +142,14 @@ fold-listed c d same = by (nat_eq d c) refl
     by false e =
         or_right (nat_eq d c) _ (all-contained (is_listed others) fold_pairs (c, d) pairs_listed ((IsFoldPairs-fold_pairs c d).1 (λ f. true≢false (sym (eq-eqb d c (sym f)) ∙ e), same)))
 
--- what matches a character is it, or among its others
+-- A character that matches `c` is `c` or one of the others that the table gives for `c`.
 alike-listed : (icase unicode : Bool) (c d : ℕ) → are_alike icase unicode c d ≡ true → contains (c ∷ others c) d ≡ true
 unfolding canonicalize
 alike-listed false unicode c d e = or_left (nat_eq d c) _ (eq-eqb d c (sym (eqb-true c d e)))
 alike-listed true true c d e = fold-listed c d (eqb-true (simple_fold c) (simple_fold d) e)
 alike-listed true false c d e = fold-listed c d (alike-folds c d (eqb-true _ _ e))
 
--- the others of a character increase, have not the character itself, and are at most three
+-- The others of a character increase, do not contain the character, and are at most three.
 abbrev rises : List ℕ → Bool
 rises [] = true
 rises (x ∷ []) = true
@@ -284,10 +284,6 @@ are-case-variants icase unicode c =
       },
     )
   where
-    not-true : (b : Bool) → not b ≡ true → b ≡ false
-    not-true false e = refl
-    not-true true e = absurd (true≢false (sym e))
-
     both : (a b : Bool) → (a ≡ true → b ≡ true) → (b && a) ≡ a
     both true b h = ap (λ x. x && true) (h refl)
     both false true h = refl

@@ -5,7 +5,7 @@ use Rattle.std.specs.Prelude.{codes, ◌||◌, Some, if◌then◌else◌}
 use Rattle.std.specs.List.{list_all}
 use Rattle.std.specs.Char.{is_digit, is_ascii_alphanumeric}
 use Rattle.std.specs.Int.{is_in_range}
-use Rattle.std.proofs.lemmas.Bool.{or_left, or_right, or_cases, and_parts, false_from_ne_true, eqb-true}
+use Rattle.std.proofs.lemmas.Bool.{or_left, or_right, or_cases, and_parts, eqb-true, not-true}
 use Rattle.regex_meaning.specs.NumberListHelpers.{contains}
 use Rattle.regex_meaning.specs.Tree.{Node, Flags, BracketContents, Intervals, back_ref, bracket, by_case}
 use Rattle.regex_meaning.specs.ReadingStatesAndDigits.{RemainingCodePoints, PatternContext, ◌∈◌, begins_with_characters, Digits, group_number_of}
@@ -17,21 +17,22 @@ use Rattle.regex_meaning.specs.CharacterClasses.{plain, inverted, IsSetOf}
 use Rattle.regex_meaning.specs.Grammar.{SimpleAtom, pattern_character, extended_character, any_character, decimal_escape, named_reference}
 use Rattle.regex_meaning.specs.Grammar.{character_escape, character_class_escape, character_class, character_node, profile}
 use Rattle.regex_meaning.proofs.DisjunctionReadingLemmas.{first, rest_of, unlike, leaf_begins, IsReadInOneWay}
-use Rattle.regex_meaning.proofs.EscapesAndNamesLemmas.{Same, behind, apart, firsts, inside, digits_on, one_character, one_name, is_some, Some_inj, controls}
+use Rattle.regex_meaning.proofs.EscapesAndNamesLemmas.{Same, behind, apart, firsts, inside, outside, digits_on, one_character, one_name, is_some, Some_inj, is_control_letter}
+use Rattle.regex_meaning.proofs.EscapesAndNamesLemmas.{control_letter}
 use Rattle.regex_meaning.proofs.CanonicalIntervalsLemmas.{one_set}
 pub use Rattle.regex_meaning.proofs.FirstDigitOfNumber.{digit_begins}
 
--- ---- What stands behind a backslash
+-- ---- Characters behind a backslash
 
 abbrev pub may_escape : ℕ → Bool
-may_escape c = c ∈ "tnvfr0xu" || not (is_ascii_alphanumeric c)
+may_escape c = is_control_letter c || (c ∈ "0xu" || not (is_ascii_alphanumeric c))
 
 pub escape_begins : {unicode : Bool} {here there : RemainingCodePoints} {c : ℕ} → CharacterEscape unicode here there c → may_escape (first here) ≡ true
-escape_begins (control_escape {letter = l} e f) = ap (λ x. may_escape (first x)) e ∙ inside may_escape (codes "tnvfr") l refl (controls l (ap is_some f))
+escape_begins (control_escape {letter = l} e f) = ap (λ x. may_escape (first x)) e ∙ control_letter may_escape l refl (ap is_some f)
 escape_begins (null e k) = ap (λ x. may_escape (first x)) e
 escape_begins (hex_escape e k) = ap (λ x. may_escape (first x)) e
 escape_begins (unicode_escape e k) = ap (λ x. may_escape (first x)) e
-escape_begins (identity_escape {c = c} e f) = ap (λ x. may_escape (first x)) e ∙ or_right (c ∈ "tnvfr0xu") _ (ap not f)
+escape_begins (identity_escape {c = c} e f) = ap (λ x. may_escape (first x)) e ∙ or_right (is_control_letter c) _ (or_right (c ∈ "0xu") _ (ap not f))
 
 class_letters : (c : ℕ) → is_some (class_escape c) ≡ true → c ∈ "dDwWsS" ≡ true
 class_letters c e = grind arith
@@ -81,7 +82,7 @@ is_range e d = let h = atom_starts d in (h.0, h.1, e ∙ ap (λ x. 45 ∷ x) h.2
 pub atom_from : {flags : Flags} {here there a : RemainingCodePoints} {m : ClassMember} → here ≡ there → ClassAtom flags there a m → ClassAtom flags here a m
 atom_from {flags} {a = a} {m = m} e d = subst (λ x. ClassAtom flags x a m) (sym e) d
 
-range_from : {a b : RemainingCodePoints} → a ≡ b → IsRangeDash b → IsRangeDash a
+pub range_from : {a b : RemainingCodePoints} → a ≡ b → IsRangeDash b → IsRangeDash a
 range_from e k = subst IsRangeDash (sym e) k
 
 pub character_inj : {c d : ℕ} → character c ≡ character d → c ≡ d
@@ -129,7 +130,7 @@ one_ranges (more m r) (more m' r') =
 same_set : {flags : Flags} {ms ns : List ClassMember} {s t : Intervals} → ms ≡ ns → IsSetOf flags ms s → IsSetOf flags ns t → s ≡ t
 same_set {flags} {ms} {ns} {s} {t} e a b = let c : IsSetOf flags ms t = subst (λ x. IsSetOf flags x t) (sym e) b in one_set s t a.apart c.apart (λ d. a.same d ∙ sym (c.same d))
 
-no_hat : {here rest : RemainingCodePoints} → begins_with_characters "^" here ≡ false → here ≡ 94 ∷ rest → ⊥
+pub no_hat : {here rest : RemainingCodePoints} → begins_with_characters "^" here ≡ false → here ≡ 94 ∷ rest → ⊥
 no_hat f e = true≢false (subst (λ x. begins_with_characters "^" x ≡ false) e f)
 
 one_class : {flags : Flags} {here a b : RemainingCodePoints} {x y : BracketContents} → CharacterClass flags here a x → CharacterClass flags here b y → Same a b x y
@@ -140,9 +141,6 @@ one_class (plain n o r s) (inverted e o' r' s') = absurd (no_hat n e)
 one_class (inverted e o' r' s') (plain n o r s) = absurd (no_hat n e)
 
 -- ---- Atoms without groups
-
-outside : (word big : RemainingCodePoints) (c : ℕ) → list_all (contains big) word ≡ true → contains big c ≡ false → contains word c ≡ false
-outside word big c e f = false_from_ne_true (contains word c) (λ g. true≢false (sym (inside (contains big) word c e g) ∙ f))
 
 pub leaf_apart : (u : PatternContext) (here there : RemainingCodePoints) (n : Node) → SimpleAtom u here there n → leaf_begins here ≡ true
 leaf_apart u here there n (pattern_character {c = c} e f) = ap leaf_begins e ∙ ap not (outside (codes "^$*+?()|") (codes "^$\\.*+?()[]{}|") c refl f)
@@ -162,20 +160,17 @@ digit_range : (c : ℕ) → is_digit c 10 ≡ true → is_in_range 48 57 c ≡ t
 digit_range c e = grind arith
 
 not_both : (c : ℕ) → is_digit c 10 ≡ true → (c ≡ 48 → ⊥) → may_escape c ≡ true → ⊥
-not_both c e f g = ⊎_elim (λ x. letters x) (λ x. true≢false (sym alphanumeric ∙ not_true _ x)) (or_cases (c ∈ "tnvfr0xu") _ g)
+not_both c e f g = ⊎_elim (λ x. true≢false (sym e ∙ not-true _ (control_letter (λ d. not (is_digit d 10)) c refl x)))
+    (λ x. ⊎_elim letters (λ y. true≢false (sym alphanumeric ∙ not-true _ y)) (or_cases (c ∈ "0xu") _ x)) (or_cases (is_control_letter c) _ g)
   where
     alphanumeric : is_ascii_alphanumeric c ≡ true
     alphanumeric = or_left _ _ (or_left _ _ (digit_range c e))
 
-    not_true : (b : Bool) → not b ≡ true → b ≡ false
-    not_true false k = refl
-    not_true true k = sym k
+    letters : c ∈ "0xu" ≡ true → ⊥
+    letters x = ⊎_elim (λ k. true≢false (sym e ∙ not-true _ k)) (λ k. f (eqb-true c 48 k))
+        (or_cases (not (is_digit c 10)) _ (inside (λ d. not (is_digit d 10) || nat_eq d 48) (codes "0xu") c refl x))
 
-    letters : c ∈ "tnvfr0xu" ≡ true → ⊥
-    letters x = ⊎_elim (λ k. true≢false (sym e ∙ not_true _ k)) (λ k. f (eqb-true c 48 k))
-        (or_cases (not (is_digit c 10)) _ (inside (λ d. not (is_digit d 10) || nat_eq d 48) (codes "tnvfr0xu") c refl x))
-
--- what stands second in each: a digit from 1, a k, what may escape, or a letter of a class
+-- These characters are special outside classes.
 abbrev special : RemainingCodePoints
 special = codes "^$\\.*+?()[]{}|"
 
@@ -285,13 +280,13 @@ pub leaf_no_boundary : (u : PatternContext) (here there rest : RemainingCodePoin
 leaf_no_boundary u here there rest n true d e = no_boundary_letter 66 refl d e
 leaf_no_boundary u here there rest n false d e = no_boundary_letter 98 refl d e
 
--- no name begins with the sign of a lookbehind
+-- No group name begins with `=` or `!`, the signs of a lookbehind.
 no_sign : (c : ℕ) (there name rest : RemainingCodePoints) → c ∈ "=!" ≡ true → GroupName (c ∷ rest) there name → ⊥
 no_sign c there name rest e (group_name {name = []} f g) = true≢false (sym g)
 no_sign c there name rest e (group_name {name = d ∷ ds} f g) =
     apart (λ x. not (is_ascii_identifier_start x)) (inside (λ x. not (is_ascii_identifier_start x)) (codes "=!") c refl e) (ap not (and_parts (is_ascii_identifier_start d) _ g).0) (ap first f)
 
--- in the dialect of the profile there is one reading
+-- The profile's dialect reads atoms without groups, and names, in one way.
 pub reads : IsReadInOneWay profile
 reads =
     record {

@@ -3,14 +3,14 @@ use Rattle.std.proofs.Common.{◌≡◌, ℕ, ◌+◌, ◌<◌, ◌^◌, Bool, L
 use Rattle.std.specs.Char.{len_utf8}
 use Rattle.std.proofs.lemmas.Str.{length-encode, encodes-chars, IsUtf8-had}
 use lib.Utf8.{encode, encodes}
-use Rattle.regex_meaning.specs.Text.{offsets_from, one_unit, utf8_text, ascii_text, ucs2_text}
+use Rattle.regex_meaning.specs.Text.{offsets_from, width_of_single_unit_character, utf8_text, ascii_text, ucs2_text}
 use Rattle.regex_meaning.specs.CodeUnitOffsets.{units}
 
 abbrev total : (width : ℕ → ℕ) → List ℕ → ℕ
 total width [] = 0
 total width (c ∷ cs) = width c + total width cs
 
--- the offset of the last place is the sum of the widths
+-- The offset of the last place is the first offset plus the sum of the widths.
 last-offset : (width : ℕ → ℕ) (a : ℕ) (cs : List ℕ) → get_or (offsets_from a (map width cs)) (length cs) 0 ≡ a + total width cs
 last-offset width a [] = omega arith
 last-offset width a (c ∷ cs) = last-offset width (a + width c) cs ∙ omega arith
@@ -19,7 +19,7 @@ widths-encodes : (cs : List ℕ) → total len_utf8 cs ≡ length (encodes cs)
 widths-encodes [] = refl
 widths-encodes (c ∷ cs) = omega (arith, widths-encodes cs, length-append (encode c) (encodes cs), length-encode c)
 
-total-ones : (cs : List ℕ) → total one_unit cs ≡ length cs
+total-ones : (cs : List ℕ) → total width_of_single_unit_character cs ≡ length cs
 total-ones [] = refl
 total-ones (c ∷ cs) = omega (arith, total-ones cs)
 
@@ -27,12 +27,12 @@ pub utf8_text-units : (bytes : List ℕ) (unicode : Bool) → IsUtf8 bytes → u
 utf8_text-units bytes unicode u = last-offset len_utf8 0 (chars bytes) ∙ omega (arith, widths-encodes (chars bytes), ap length (encodes-chars bytes u))
 
 pub ascii_text-units : (bytes : List ℕ) (unicode : Bool) → units (ascii_text bytes unicode) ≡ length bytes
-ascii_text-units bytes unicode = last-offset one_unit 0 bytes ∙ omega (arith, total-ones bytes)
+ascii_text-units bytes unicode = last-offset width_of_single_unit_character 0 bytes ∙ omega (arith, total-ones bytes)
 
 pub ucs2_text-units : (us : List ℕ) (unicode : Bool) → units (ucs2_text us unicode) ≡ length us
-ucs2_text-units us unicode = last-offset one_unit 0 us ∙ omega (arith, total-ones us)
+ucs2_text-units us unicode = last-offset width_of_single_unit_character 0 us ∙ omega (arith, total-ones us)
 
--- ---- They fit, where the lengths of the lists do
+-- ---- Lengths below 2^64
 
 pub utf8_text-fits : (bytes : List ℕ) (unicode : Bool) → ∥ IsUtf8 bytes ∥₁ → length bytes < 2 ^ 64 → units (utf8_text bytes unicode) < 2 ^ 64
 utf8_text-fits bytes unicode u l = omega (arith, l, utf8_text-units bytes unicode (IsUtf8-had bytes u))

@@ -6,14 +6,14 @@ use Rattle.std.proofs.lemmas.Bool.{or_right, or_cases, eq-eqb, eqb-true}
 use Rattle.std.proofs.lemmas.List.{append_cancel_left}
 use Prim.Native.String.{String}
 use Rattle.regex_meaning.specs.Tree.{Node, Quantifier, anchor, start_of_line, end_of_line, word_boundary, capture_group, lookaround, loop}
-use Rattle.regex_meaning.specs.ReadingStatesAndDigits.{RemainingCodePoints, ParseState, PatternContext, groups_at, ◌▸◌, state_with_text_left, with_opened_group, ◌∈◌}
+use Rattle.regex_meaning.specs.ReadingStatesAndDigits.{RemainingCodePoints, ParseState, PatternContext, number_of_opened_groups, ◌▸◌, state_with_text_left, with_opened_group, ◌∈◌}
 use Rattle.regex_meaning.specs.ReadingStatesAndDigits.{begins_with_characters, arm}
 use Rattle.regex_meaning.specs.EscapesNamesQuantifiers.{BeginsQuantifier, ValidQuantifier, greedy, lazy}
 use Rattle.regex_meaning.specs.Grammar.{PatternDialect, Disjunction, Alternative, Term, Assertion, Atom, last_alternative, alternatives, no_terms, terms}
 use Rattle.regex_meaning.specs.Grammar.{assertion, repeated_assertion, atom, quantified, start, end, boundary, look, lookaround_opener, leaf, group, named_group}
 use Rattle.regex_meaning.specs.Grammar.{plain_group}
 
--- nothing is left, or a parenthesis closes
+-- Nothing is left, or a closing parenthesis is next.
 abbrev pub closes_here : RemainingCodePoints → Bool
 closes_here [] = true
 closes_here (c ∷ cs) = c ∈ ")"
@@ -62,14 +62,14 @@ unlike c d e f = true≢false (sym (eq-eqb c d f) ∙ e)
 pub places_differ : {p q r : ParseState} (char_at : RemainingCodePoints → ℕ) → p ≡ q → p ≡ r → nat_eq (char_at q.text) (char_at r.text) ≡ false → ⊥
 places_differ {p} {q} {r} char_at e f g = unlike (char_at q.text) (char_at r.text) g (ap (λ x. char_at x.text) (sym e ∙ f))
 
--- an atom that is no leaf begins with a parenthesis
+-- An atom that is no atom without groups begins with a parenthesis.
 no_group : {S : PatternDialect} {in_lookbehind : Bool} {p r : ParseState} {m : Node} (u : PatternContext) → Atom S u in_lookbehind p r m → ((there : RemainingCodePoints) (n : Node) → S.simple_atom u p.text there n → ⊥) → nat_eq (first p.text) 40 ≡ false → ⊥
 no_group u (leaf {there = there} {n = n} a) never f = never there n a
 no_group {p = p} u (group e o d g) never f = unlike (first p.text) 40 f (ap (λ x. first x.text) e)
 no_group {p = p} u (named_group e o d g) never f = unlike (first p.text) 40 f (ap (λ x. first x.text) e)
 no_group {p = p} u (plain_group e d g) never f = unlike (first p.text) 40 f (ap (λ x. first x.text) e)
 
--- ---- What an assertion is, by the word that it begins with
+-- ---- Assertions by the word that they begin with
 
 pub data Word : Type 0 where
   of_start : Word
@@ -92,7 +92,7 @@ Meant S w p s n (of_boundary invert) =
     (p ≡ (if invert then "\\B" else "\\b") ▸ s) × (n ≡ word_boundary invert (w.flags.icase && w.flags.unicode))
 Meant S w p s n (of_look negate backwards) =
     (q r : ParseState) × (c : Node) × (p ≡ lookaround_opener negate backwards ▸ q) × Disjunction S w backwards q r c × (r ≡ ")" ▸ s)
-    × (n ≡ lookaround (record { negate = negate; backwards = backwards; start_group = groups_at p; end_group = groups_at s }) c)
+    × (n ≡ lookaround (record { negate = negate; backwards = backwards; start_group = number_of_opened_groups p; end_group = number_of_opened_groups s }) c)
 
 pub boundary_word : (invert : Bool) (q : ParseState) {p : ParseState} → p ≡ (if invert then "\\B" else "\\b") ▸ q → word_at p.text ≡ of_boundary invert
 boundary_word false q e = ap (λ x. word_at x.text) e
@@ -111,11 +111,11 @@ meant_here S w p s n word (boundary invert e) f = subst (Meant S w p s n) (sym (
 meant_here S w p s n word (look {q = q} {r = r} {n = c} negate backwards e d g) f =
     subst (Meant S w p s n) (sym (look_word negate backwards _ e) ∙ f) (q, r, c, e, d, g, refl)
 
--- an assertion where a word stands is what the word means
+-- An assertion that begins with a word is what the word means.
 pub meant : {S : PatternDialect} {w : PatternContext} {p s : ParseState} {n : Node} (word : Word) → word_at p.text ≡ word → Assertion S w p s n → Meant S w p s n word
 meant word f a = meant_here _ _ _ _ _ word a f
 
--- the same place and the same tree
+-- Two readings agree if they end in the same state with the same result.
 abbrev pub Agree : {A : Type 0} → (q r : ParseState) (a b : A) → Type 0
 Agree q r a b = (q ≡ r) × (a ≡ b)
 
@@ -129,8 +129,9 @@ abbrev pub leaf_begins : RemainingCodePoints → Bool
 leaf_begins [] = false
 leaf_begins (c ∷ cs) = not (c ∈ "^$*+?()|")
 
--- A dialect whose atoms without groups and names are read in one way. No such atom begins with a sign of the
--- productions with groups or with a word boundary, and no name with the sign of a lookbehind.
+-- The dialect reads atoms without groups, and names, in one way. No such atom begins with a sign of
+-- the productions with groups or with a word boundary, and no name begins with the sign of a
+-- lookbehind.
 pub record IsReadInOneWay (S : PatternDialect) : Type 0 where
   pub one_leaf : (w : PatternContext) (here a b : RemainingCodePoints) (n m : Node) → S.simple_atom w here a n → S.simple_atom w here b m → (a ≡ b) × (n ≡ m)
   pub one_name : (here a b n m : RemainingCodePoints) → S.group_name here a n → S.group_name here b m → (a ≡ b) × (n ≡ m)
@@ -166,8 +167,8 @@ is_quantified (lazy {a = a} h f o) = (a, _, _, h)
 module _ (S : PatternDialect) (one : IsReadInOneWay S) (one_quantifier : QuantifiersAgree) (w : PatternContext) where
   one_look : {p q q' r r' s s' : ParseState} {n n' : Node} (negate backwards : Bool) → p ≡ lookaround_opener negate backwards ▸ q → p ≡ lookaround_opener negate backwards ▸ q' → r ≡ ")" ▸ s → r' ≡ ")" ▸ s'
       → (q ≡ q' → Agree r r' n n')
-      → Agree s s' (lookaround (record { negate = negate; backwards = backwards; start_group = groups_at p; end_group = groups_at s }) n)
-      (lookaround (record { negate = negate; backwards = backwards; start_group = groups_at p; end_group = groups_at s' }) n')
+      → Agree s s' (lookaround (record { negate = negate; backwards = backwards; start_group = number_of_opened_groups p; end_group = number_of_opened_groups s }) n)
+      (lookaround (record { negate = negate; backwards = backwards; start_group = number_of_opened_groups p; end_group = number_of_opened_groups s' }) n')
   one_look negate backwards e e' f f' k =
       let h = k (behind_word (lookaround_opener negate backwards) e e') in
       let there = behind_word ")" f (h.0 ∙ f') in
@@ -241,12 +242,12 @@ module _ (S : PatternDialect) (one : IsReadInOneWay S) (one_quantifier : Quantif
   term_begins (atom a k) e = atom_begins a e
   term_begins (quantified a k) e = atom_begins a e
 
-  -- a quantifier behind the same
+  -- Quantifiers after readings that agree give loops that agree.
   one_loop : (p : ParseState) {q r : ParseState} {n m : Node} {a b : RemainingCodePoints} {x y : Quantifier} → Agree q r n m → ValidQuantifier q.text a x → ValidQuantifier r.text b y
-      → Agree (state_with_text_left a q) (state_with_text_left b r) (loop x (groups_at p) (groups_at q) n) (loop y (groups_at p) (groups_at r) m)
+      → Agree (state_with_text_left a q) (state_with_text_left b r) (loop x (number_of_opened_groups p) (number_of_opened_groups q) n) (loop y (number_of_opened_groups p) (number_of_opened_groups r) m)
   one_loop p h k l = let g = one_quantifier _ _ _ _ _ k (quantified_from h.0 l) in (rw (h.0, g.0) refl, rw (h.0, h.1, g.1) refl)
 
-  -- a quantifier, and none, behind the same
+  -- No quantifier is read at a state where none begins.
   only_one : {p q : ParseState} {there : RemainingCodePoints} {x : Quantifier} → p ≡ q → ¬ (BeginsQuantifier p.text) → ValidQuantifier q.text there x → ⊥
   only_one e none k = none (subst (λ x. BeginsQuantifier x.text) (sym e) (is_quantified k))
 
@@ -322,7 +323,7 @@ module _ (S : PatternDialect) (one : IsReadInOneWay S) (one_quantifier : Quantif
         let here = behind_word "(?<" e e' in
         let name = one.one_name _ _ _ _ _ o (name_from S here o') in
         let h = one_disjunction d (from_named here name.0 name.1 d') (closes f) (closes f') in
-        (behind_word ")" f (h.0 ∙ f'), ap₂ (λ x y. capture_group (groups_at p) x y) name.1 h.1)
+        (behind_word ")" f (h.0 ∙ f'), ap₂ (λ x y. capture_group (number_of_opened_groups p) x y) name.1 h.1)
     one_atom (plain_group e d f) (plain_group e' d' f') =
         let here = behind_word "(?:" e e' in
         let h = one_disjunction d (from_here here d') (closes f) (closes f') in

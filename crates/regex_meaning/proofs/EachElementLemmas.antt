@@ -62,7 +62,7 @@ module _ {A B : Type 0} where
   flat_map-if_same f g true x ys here below = rw (here refl, below)
   flat_map-if_same f g false x ys here below = below
 
-  -- the lists are the same where the functions agree on what passes the test
+  -- The flat maps of a filtered list are equal if the functions agree on each element that passes.
   pub flat_map-filter_same : (test : A → Bool) (f g : A → List B) (xs : List A)
       → Each (λ x. test x ≡ true → f x ≡ g x) xs → flat_map f (filter test xs) ≡ flat_map g (filter test xs)
   flat_map-filter_same test f g [] h = refl

@@ -3,7 +3,7 @@ use Rattle.std.proofs.Common.{◌≡◌, ◌≢◌, ℕ, Bool, true, false, not,
 use Rattle.std.specs.Prelude.{codes, Some, if◌then◌else◌}
 use Rattle.std.specs.List.{list_all}
 use Rattle.std.specs.Char.{is_digit}
-use Rattle.std.proofs.lemmas.Bool.{or_cases, and_parts, false_from_ne_true, eqb-true}
+use Rattle.std.proofs.lemmas.Bool.{or_cases, and_parts, eqb-true}
 use Rattle.regex_meaning.specs.NumberListHelpers.{contains}
 use Rattle.regex_meaning.specs.Tree.{Node, Flags, BracketContents, Intervals, char, bracket}
 use Rattle.regex_meaning.specs.Canonical.{AreCaseVariants}
@@ -26,7 +26,8 @@ use Rattle.regex_meaning.specs.EcmaGrammarWithAnnexB.{decimal_escape, character_
 use Rattle.regex_meaning.specs.EcmaGrammarWithAnnexB.{SimpleAtom, pattern_character, extended_pattern_character, any_character, atom_escape, backslash, character_class}
 use Rattle.regex_meaning.specs.EcmaGrammarWithAnnexB.{ecmascript}
 use Rattle.regex_meaning.proofs.DisjunctionReadingLemmas.{first, rest_of, unlike, leaf_begins, IsReadInOneWay}
-use Rattle.regex_meaning.proofs.EscapesAndNamesLemmas.{Same, behind, apart, firsts, inside, digits_on, is_some, Some_inj}
+use Rattle.regex_meaning.proofs.EscapesAndNamesLemmas.{Same, behind, apart, firsts, inside, outside, digits_on, is_some, Some_inj, is_control_letter}
+use Rattle.regex_meaning.proofs.ClassAndAtomLemmas.{range_from, no_hat}
 use Rattle.regex_meaning.proofs.FirstDigitOfNumber.{digit_begins}
 use Rattle.regex_meaning.proofs.CanonicalIntervalsLemmas.{one_set}
 use Rattle.regex_meaning.proofs.EcmaEscapesAndNamesLemmas.{one_character, proper-kind, one_property, one_name, name-no-sign, seconds, escape_kind}
@@ -43,7 +44,7 @@ abbrev pub property_letter : Bool → ℕ
 property_letter true = 80
 property_letter false = 112
 
--- the letter of a property and what stands behind it
+-- A property escape begins with its letter.
 pub property-here : (invert : Bool) {here a : RemainingCodePoints} → here ≡ codes (if invert then "P" else "p") ++ a → here ≡ property_letter invert ∷ a
 property-here true e = e
 property-here false e = e
@@ -73,7 +74,7 @@ one_class_escape (by_property i u e p) (by_property j v e' q) =
     let s = one_property p (property-from (behind x y) q) in
     (s.0, ap₂ (λ z k. is_in_invertible_set (has_property z, k)) s.1 (same-letter i j (firsts x y)))
 
--- a class escape begins with none of these
+-- A class escape begins with one of the letters `dDwWsSpP`.
 pub no-class : {flags : Flags} {here there rest : RemainingCodePoints} {s : ℕ → Bool} (c : ℕ) → c ∈ "dDwWsSpP" ≡ false → here ≡ c ∷ rest → CharacterClassEscape flags here there s → ⊥
 no-class {flags} c f e (by_letter {letter = l} e' g) = apart (λ d. d ∈ "dDwWsSpP") (class_letter (λ d. d ∈ "dDwWsSpP") flags l refl g) f (firsts e' e)
 no-class c f e (by_property i u e' p) = apart (λ d. d ∈ "dDwWsSpP") (property-test (λ d. d ∈ "dDwWsSpP") i refl) f (firsts (property-here i e') e)
@@ -134,9 +135,6 @@ is_range e d = let h = atom_starts d in (h.0, h.1, e ∙ ap (λ x. 45 ∷ x) h.2
 pub atom_from : {flags : Flags} {named : Bool} {here there a : RemainingCodePoints} {m : ClassMember} → here ≡ there → ClassAtom flags named there a m → ClassAtom flags named here a m
 atom_from {flags} {named} {a = a} {m = m} e d = subst (λ x. ClassAtom flags named x a m) (sym e) d
 
-range_from : {a b : RemainingCodePoints} → a ≡ b → IsRangeDash b → IsRangeDash a
-range_from e k = subst IsRangeDash (sym e) k
-
 pub character_inj : {c d : ℕ} → character c ≡ character d → c ≡ d
 character_inj {c} {d} e = ap (λ m. elim m [ character x ↦ x | range x y ↦ c | class x ↦ c ]) e
 
@@ -184,9 +182,6 @@ same_set {flags} {ms} {ns} {s} {t} e a b =
     let c : IsSetOf flags ms t = subst (λ x. IsSetOf flags x t) (sym e) b in
     one_set s t a.apart c.apart (λ d. same-truth _ _ (λ h. (c.same d).1 ((a.same d).0 h)) (λ h. (a.same d).1 ((c.same d).0 h)))
 
-no_hat : {here rest : RemainingCodePoints} → begins_with_characters "^" here ≡ false → here ≡ 94 ∷ rest → ⊥
-no_hat f e = true≢false (subst (λ x. begins_with_characters "^" x ≡ false) e f)
-
 one_class : {flags : Flags} {named : Bool} {here a b : RemainingCodePoints} {x y : BracketContents} → CharacterClass flags named here a x → CharacterClass flags named here b y → Same a b x y
 one_class (plain n r s) (plain n' r' s') = let h = one_ranges r r' in (h.0, ap (λ t. record { invert = false; intervals = t }) (same_set h.1 s s'))
 one_class (inverted e r s) (inverted e' r' s') =
@@ -202,13 +197,13 @@ class_from {flags} {named} {a = a} {x = x} e d = subst (λ y. CharacterClass fla
 character-from : {g : GrammarParameters} {here there a : RemainingCodePoints} {c : ℕ} → here ≡ there → CharacterEscape g there a c → CharacterEscape g here a c
 character-from {g} {a = a} {c = c} e d = subst (λ x. CharacterEscape g x a c) (sym e) d
 
--- what a letter behind a backslash begins, by a number
+-- This number tells which kind of escape a character behind a backslash begins.
 abbrev pub kind : ℕ → ℕ
 kind c = if is_digit c 10 then 48 else if c ∈ "dDwWsS" then 1 else if c ∈ "pP" then 112 else c
 
--- with names, `\k` is no character
+-- In a pattern with named groups, `\k` is no character escape.
 pub no-k : (w : PatternContext) {here there rest : RemainingCodePoints} {c : ℕ} → has_named_groups w ≡ true → here ≡ 107 ∷ rest → CharacterEscape (grammar_parameters_of w) here there c → ⊥
-no-k w named e (non_identity_escape p) = true≢false (sym (proper-kind p (ap (λ x. escape_kind (first x)) e)) ∙ ap (λ x. first x ∈ "tnvfr") e)
+no-k w named e (non_identity_escape p) = true≢false (sym (proper-kind p (ap (λ x. escape_kind (first x)) e)) ∙ ap (λ x. is_control_letter (first x)) e)
 no-k w named e (identity_escape {c = c} f i k) = true≢false (sym (ap (is_identity_escape (grammar_parameters_of w)) (firsts e f) ∙ i) ∙ by w.flags.unicode (has_named_groups w) named)
   where
     by : (u n : Bool) → n ≡ true → (if u then false else not (n && true)) ≡ false
@@ -216,7 +211,7 @@ no-k w named e (identity_escape {c = c} f i k) = true≢false (sym (ap (is_ident
     by false n h = ap (λ x. not (x && true)) h
 
 module _ {w : PatternContext} {here : RemainingCodePoints} where
-  -- escapes but for characters
+  -- Each kind of atom escape has a number, and a character escape has 0.
   abbrev tag : {there : RemainingCodePoints} {n : Node} → AtomEscape w here there n → ℕ
   tag (decimal_escape g) = 48
   tag (character_class_escape e f s) = 1
@@ -294,7 +289,7 @@ c-first (c ∷ cs) e = by (nat_eq 99 c) refl
     by true f = sym (eqb-true 99 c f)
     by false f = absurd (true≢false (sym e ∙ rw f refl))
 
--- `\c` where no CharacterEscape is has no AtomEscape
+-- If `\c` begins no CharacterEscape, it begins no AtomEscape.
 pub no-escape : (w : PatternContext) {here there : RemainingCodePoints} {n : Node} → begins_with_characters "c" here ≡ true → ((a : RemainingCodePoints) (c : ℕ) → CharacterEscape (grammar_parameters_of w) here a c → ⊥) → AtomEscape w here there n → ⊥
 no-escape w {here} is none (decimal_escape g) = apart-kinds here (number-kind g) (ap kind (c-first here is)) refl
 no-escape w {here} is none (character_class_escape {letter = l} e f s) = apart-kinds here (ap (λ x. kind (first x)) e ∙ letter-kind w.flags l f) (ap kind (c-first here is)) refl
@@ -307,7 +302,7 @@ no-escape w {here} is none (named_reference h e d f) = apart-kinds here (ap (λ 
 abbrev special : RemainingCodePoints
 special = codes "^$\\.*+?()[]{}|"
 
--- what the first character of an atom begins, by a number
+-- This number tells which kind of atom a first character begins.
 abbrev pub atom_kind : ℕ → ℕ
 atom_kind c = if contains special c then (if c ∈ "{}]" then 1 else c) else 0
 
@@ -350,9 +345,6 @@ one_leaf w here a b n m (backslash u e f k) (backslash u' e' f' k') = (behind e 
 one_leaf w here a b n m (character_class e d) (character_class e' d') = let x = one_class d (class_from (behind e e') d') in (x.0, ap bracket x.1)
 one_leaf w here a b n m x y = absurd (unlike (atom_tag x) (atom_tag y) refl (same-atom-tag x y))
 
-outside : (word big : RemainingCodePoints) (c : ℕ) → list_all (contains big) word ≡ true → contains big c ≡ false → contains word c ≡ false
-outside word big c e f = false_from_ne_true (contains word c) (λ g. true≢false (sym (inside (contains big) word c e g) ∙ f))
-
 leaf_apart : (w : PatternContext) (here there : RemainingCodePoints) (n : Node) → SimpleAtom w here there n → leaf_begins here ≡ true
 leaf_apart w here there n (pattern_character {c = c} e f s) = ap leaf_begins e ∙ ap not (outside (codes "^$*+?()|") special c refl f)
 leaf_apart w here there n (extended_pattern_character {c = c} e f k l) = ap leaf_begins e ∙ inside (λ d. not (d ∈ "^$*+?()|")) (codes "{}]") c refl f
@@ -361,7 +353,7 @@ leaf_apart w here there n (atom_escape e f g d) = ap leaf_begins e
 leaf_apart w here there n (backslash u e f k) = ap leaf_begins e
 leaf_apart w here there n (character_class e d) = ap leaf_begins e
 
--- no atom begins with a boundary
+-- No atom without groups begins with `\b` or `\B`.
 no-boundary : (c : ℕ) → c ∈ "bB" ≡ true → {w : PatternContext} {here there rest : RemainingCodePoints} {n : Node} → SimpleAtom w here there n → here ≡ 92 ∷ c ∷ rest → ⊥
 no-boundary c is (pattern_character e f s) k = apart (contains special) refl f (firsts k e)
 no-boundary c is (extended_pattern_character e f l m) k = apart (λ d. d ∈ "{}]") f refl (firsts e k)
@@ -377,7 +369,7 @@ leaf_no_boundary : (w : PatternContext) (here there rest : RemainingCodePoints) 
 leaf_no_boundary w here there rest n true d e = no-boundary 66 refl d e
 leaf_no_boundary w here there rest n false d e = no-boundary 98 refl d e
 
--- in the dialect of the whole language there is one reading
+-- The dialect of all of ECMAScript reads atoms without groups, and names, in one way.
 pub ecmascript-reads : IsReadInOneWay ecmascript
 ecmascript-reads =
     record {

@@ -21,7 +21,7 @@ use Rattle.regex_meaning.specs.EcmaClasses.{InvertibleSet, word_characters}
 use Rattle.regex_meaning.specs.EcmaGrammarLaws.{EcmaScriptClassesAreClosed}
 use Rattle.regex_meaning.proofs.EscapesAndNamesLemmas.{is_some, Some_inj}
 
--- no number from `low` to `high` is in the set
+-- No number from `low` to `high` is in the set.
 abbrev are_apart : Intervals → (low high : ℕ) → Bool
 are_apart set low high = list_all (λ i. nat_lt high i.0 || nat_lt i.1 low) set
 
@@ -41,7 +41,7 @@ none-in (i ∷ set) low high c h le ge =
 abbrev Stays : Intervals → (c d : ℕ) → Type 0
 Stays set c d = in_intervals set d ≡ in_intervals set c
 
--- ---- With `u`
+-- ---- Foldings with `u`
 
 abbrev fold_apart : Intervals → Row (List ℕ) → Bool
 fold_apart set r = are_apart set r.0 r.1 && list_all (λ d. are_apart set d d) r.2
@@ -66,7 +66,7 @@ fold-stays set (r ∷ rows) c h =
     first-out set r.2 c q.1 out ∙ sym out)
     (λ _. fold-stays set rows c p.1)
 
--- ---- Without `u`
+-- ---- Upper case without `u`
 
 abbrev run_apart : Intervals → CaseRow → Bool
 run_apart set r = are_apart set r.0 r.1 && are_apart set r.3 (r.3 + (r.1 - r.0))
@@ -129,7 +129,7 @@ caseless-closed flags set h c d same =
 word-closed : (flags : Flags) → Closed flags (word_characters flags)
 word-closed flags c d same = word-folds flags.icase flags.unicode c ∙ ap (is_word_char false) same ∙ sym (word-folds flags.icase flags.unicode d)
 
--- a choice of sets
+-- A set that is chosen from closed sets is closed.
 choose : (flags : Flags) (b : Bool) (x : InvertibleSet) (o : Option InvertibleSet) (s : InvertibleSet) → Closed flags x.0 → (o ≡ Some s → Closed flags s.0)
     → (if b then Some x else o) ≡ Some s → Closed flags s.0
 choose flags true x o s h k e = subst (λ y. Closed flags y.0) (Some_inj e) h

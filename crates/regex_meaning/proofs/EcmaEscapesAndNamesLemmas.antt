@@ -4,7 +4,7 @@ use Rattle.std.specs.Prelude.{encode_utf8_all, codes, ◌||◌, nat_lt, nat_le, 
 use Rattle.std.specs.Option.{option_or}
 use Rattle.std.specs.List.{list_all}
 use Rattle.std.specs.Char.{digit_value, is_ascii_digit, is_ascii_alphanumeric}
-use Rattle.std.proofs.lemmas.Bool.{or_cases, or_right, and_parts, false_from_ne_true, leb-true, ltb-true, eqb-true}
+use Rattle.std.proofs.lemmas.Bool.{or_cases, or_right, and_parts, false_from_ne_true, leb-true, ltb-true, eqb-true, not-true}
 use Rattle.std.specs.Cmp.Lexicographic.{same_text}
 use Prim.Native.String.{String}
 use Rattle.ucd_table.specs.Rows.{in_ranges, Range}
@@ -26,7 +26,8 @@ use Rattle.regex_meaning.specs.EcmaEscapesAndNames.{CharacterEscape, non_identit
 use Rattle.regex_meaning.specs.EcmaEscapesAndNames.{PropertyExpression, with_value, alone, is_identifier_start, is_identifier_part, NameCharacter, verbatim, escaped}
 use Rattle.regex_meaning.specs.EcmaEscapesAndNames.{surrogates, NameRest, name_end, name_part, GroupName, group_name}
 use Rattle.regex_meaning.proofs.DisjunctionReadingLemmas.{first, rest_of, unlike}
-use Rattle.regex_meaning.proofs.EscapesAndNamesLemmas.{Same, behind, apart, firsts, inside, one_hex, one_unicode, is_some, Some_inj, controls}
+use Rattle.regex_meaning.proofs.EscapesAndNamesLemmas.{Same, behind, apart, firsts, inside, one_hex, one_unicode, is_some, Some_inj, is_control_letter}
+use Rattle.regex_meaning.proofs.EscapesAndNamesLemmas.{control_letter as control_letter_passes}
 
 -- ---- Octal escapes
 
@@ -76,14 +77,14 @@ octal_begins (three_digits {d = d} e x y z) = (d, _, e, low d x)
     low : (d : ℕ) → is_zero_to_three d ≡ true → is_octal_digit d ≡ true
     low d x = grind arith
 
--- where no digit is, no octal digit is
+-- If the next character is no digit, it is no octal digit.
 no-octal-digit : {there rest : RemainingCodePoints} {d : ℕ} → next_code_point_passes is_ascii_digit there ≡ false → there ≡ d ∷ rest → is_octal_digit d ≡ true → ⊥
 no-octal-digit {d = d} k e y = true≢false (sym (decimal d y) ∙ sym (ap (next_code_point_passes is_ascii_digit) e) ∙ k)
   where
     decimal : (d : ℕ) → is_octal_digit d ≡ true → is_ascii_digit d ≡ true
     decimal d y = grind arith
 
--- `\0` is the same by both alternatives
+-- A legacy octal escape of `0` before no digit ends behind the `0` and has the value 0.
 null_octal : {here a b : RemainingCodePoints} {m : ℕ} → here ≡ 48 ∷ a → next_code_point_passes is_ascii_digit a ≡ false → LegacyOctalEscape here b m → Same a b 0 m
 null_octal e k (one_digit f x l) = (behind e f, ap digit_value (firsts e f))
 null_octal e k (two_digits f x y l) = absurd (no-octal-digit k (behind e f) y)
@@ -92,7 +93,7 @@ null_octal e k (three_digits f x y z) = absurd (no-octal-digit k (behind e f) y)
 
 -- ---- Characters
 
--- what a letter behind a backslash begins, by a number: 1 is a control character, 48 an octal digit
+-- An octal digit has the kind 48, `c`, `x` and `u` have their own code, and others have 1.
 abbrev pub escape_kind : ℕ → ℕ
 escape_kind c = if is_octal_digit c then 48 else if c ∈ "cxu" then c else 1
 
@@ -112,7 +113,7 @@ module _ {g : GrammarParameters} {here : RemainingCodePoints} where
   tag (legacy_octal_escape u o) = 48
 
   pub tagged : {there : RemainingCodePoints} {c : ℕ} (x : NonIdentityEscape g here there c) → (letter : ℕ) × (rest : RemainingCodePoints) × (here ≡ letter ∷ rest) × (escape_kind letter ≡ tag x)
-  tagged (control_escape {letter = l} e f) = (l, _, e, same-eq (escape_kind l) 1 (inside is_control (codes "tnvfr") l refl (controls l (ap is_some f))))
+  tagged (control_escape {letter = l} e f) = (l, _, e, same-eq (escape_kind l) 1 (control_letter_passes is_control l refl (ap is_some f)))
   tagged (control_letter e f) = (_, _, e, refl)
   tagged (null e k) = (_, _, e, refl)
   tagged (hex_escape e h) = (_, _, e, refl)
@@ -122,9 +123,9 @@ module _ {g : GrammarParameters} {here : RemainingCodePoints} where
   same-tag : {a b : RemainingCodePoints} {n m : ℕ} (x : NonIdentityEscape g here a n) (y : NonIdentityEscape g here b m) → tag x ≡ tag y
   same-tag x y = let (l, r, e, k) = tagged x in let (l', r', e', k') = tagged y in sym k ∙ ap escape_kind (firsts e e') ∙ k'
 
-  -- such an escape begins with none of the letters that make a class or a reference
-  pub proper-kind : {there : RemainingCodePoints} {c : ℕ} → NonIdentityEscape g here there c → (escape_kind (first here) ≡ 1 → first here ∈ "tnvfr" ≡ true)
-  proper-kind (control_escape {letter = l} e f) k = ap (λ x. first x ∈ "tnvfr") e ∙ controls l (ap is_some f)
+  -- A non-identity escape of kind 1 begins with the letter of a control escape.
+  pub proper-kind : {there : RemainingCodePoints} {c : ℕ} → NonIdentityEscape g here there c → (escape_kind (first here) ≡ 1 → is_control_letter (first here) ≡ true)
+  proper-kind (control_escape {letter = l} e f) k = ap (λ x. is_control_letter (first x)) e ∙ ap is_some f
   proper-kind (control_letter e f) k = absurd (unlike 99 1 refl (sym (ap (λ x. escape_kind (first x)) e) ∙ k))
   proper-kind (null e f) k = absurd (unlike 48 1 refl (sym (ap (λ x. escape_kind (first x)) e) ∙ k))
   proper-kind (hex_escape e f) k = absurd (unlike 120 1 refl (sym (ap (λ x. escape_kind (first x)) e) ∙ k))
@@ -152,7 +153,7 @@ one_character (identity_escape e f k) (identity_escape e' f' k') = (behind e e',
 
 -- ---- Properties
 
--- the characters of names of properties and of values
+-- The characters of names and values of properties are ASCII letters, ASCII digits and `_`.
 abbrev pub is_name_character : ℕ → Bool
 is_name_character c = is_ascii_alphanumeric c || c ∈ "_"
 
@@ -205,7 +206,7 @@ category-good name e =
     if-either (is_word "Any" name || is_word "ASCII" name || is_word "Assigned" name) None (option_map in_database (value_named category_names name))
     (λ f. nothing-named f) (λ f. named-good category_names name categories-good (some-map in_database (value_named category_names name) f)) e
 
--- a choice by a word
+-- A name is good if it is accepted as a good word or by a branch that accepts only good names.
 if-word : {A : Type 0} (word : String) (name : RemainingCodePoints) (x y : Option A) → is_good (codes word) ≡ true → (is_some y ≡ true → is_good name ≡ true) → is_some (if is_word word name then x else y) ≡ true → is_good name ≡ true
 if-word word name x y g k e = by (is_word word name) refl e
   where
@@ -254,7 +255,7 @@ value-good property value e =
     (if-either extensions (script_named set.ScriptExtension value) None (script-good set.ScriptExtension value) (λ f. nothing-named f)))
     (ap is_some e)
 
--- two texts of names, each before another sign
+-- If two good names, each before another sign, begin the same text, they and the rest are equal.
 pub name-and-sign : (n m a b : RemainingCodePoints) (c d : ℕ) → is_good n ≡ true → is_good m ≡ true → is_name_character c ≡ false → is_name_character d ≡ false
     → n ++ c ∷ a ≡ m ++ d ∷ b → (n ≡ m) × (c ∷ a ≡ d ∷ b)
 name-and-sign [] [] a b c d g h x y e = (refl, e)
@@ -281,7 +282,7 @@ one_property (alone {there = u} name e f) (alone {there = u'} name' e' f') =
 
 -- ---- Names
 
--- no surrogate is in these ranges
+-- The range contains no surrogate.
 abbrev range_apart : Range → Bool
 range_apart r = nat_lt r.1 0xD800 || nat_lt 0xDFFF r.0
 
@@ -302,7 +303,7 @@ none-between (r ∷ rs) c h e =
         let to = leb-true c 0xDBFF lead.1 in
         ⊎_elim (λ x. let y = ltb-true r.1 0xD800 x in omega (arith, y, high, from)) (λ x. let y = ltb-true 0xDFFF r.0 x in omega (arith, y, low, to)) k
 
--- a test of names: no surrogate and none of these signs passes
+-- A test of names accepts no high surrogate and none of the signs `\[](=!>`.
 pub record TestsNames (test : ℕ → Bool) : Type 0 where
   pub no_lead : (c : ℕ) → is_high_surrogate c ≡ true → test c ≡ false
   pub no_signs : list_all (λ c. not (test c)) (codes "\\[](=!>") ≡ true
@@ -334,10 +335,6 @@ part-tests = record { no_lead = part-no-lead; no_signs = refl }
 
 pub no-sign : {test : ℕ → Bool} → TestsNames test → (c : ℕ) → c ∈ "\\[](=!>" ≡ true → test c ≡ false
 no-sign {test} t c e = not-true (test c) (inside (λ d. not (test d)) (codes "\\[](=!>") c t.no_signs e)
-  where
-    not-true : (b : Bool) → not b ≡ true → b ≡ false
-    not-true false k = refl
-    not-true true k = sym k
 
 pub one_name_character : {test : ℕ → Bool} → TestsNames test → {here a b : RemainingCodePoints} {c d : ℕ} → NameCharacter test here a c → NameCharacter test here b d → Same a b c d
 one_name_character t (verbatim e f) (verbatim e' f') = (behind e e', firsts e e')
@@ -353,7 +350,7 @@ one_name_character t (surrogates e l r f) (surrogates e' l' r' f') = let s = sec
 character-from : {test : ℕ → Bool} {here there a : RemainingCodePoints} {c : ℕ} → here ≡ there → NameCharacter test there a c → NameCharacter test here a c
 character-from {test} {a = a} {c = c} e n = subst (λ x. NameCharacter test x a c) (sym e) n
 
--- a character of a name begins with none of these signs, but for a backslash
+-- A character of a name begins with none of the signs `[](=!>`.
 pub name-sign : {test : ℕ → Bool} → TestsNames test → {here a rest : RemainingCodePoints} {c : ℕ} (d : ℕ) → d ∈ "[](=!>" ≡ true → NameCharacter test here a c → here ≡ d ∷ rest → ⊥
 name-sign {test} t d e (verbatim f g) h = apart test g (no-sign t d (or_right (nat_eq d 92) _ e)) (firsts f h)
 name-sign t d e (escaped f u g) h = apart (λ x. x ∈ "[](=!>") e refl (firsts h f)
@@ -375,6 +372,6 @@ one_name here a b n m (group_name c r) (group_name d s) =
     let h = one_name_character start-tests c d in
     let k = one_rest r (rest-from h.0 s) in (k.0, ap encode_utf8_all (ap₂ (λ x y. x ∷ y) h.1 k.1))
 
--- no name begins with the sign of a lookbehind
+-- No group name begins with `=` or `!`, the signs of a lookbehind.
 pub name-no-sign : (c : ℕ) (there name rest : RemainingCodePoints) → c ∈ "=!" ≡ true → GroupName (c ∷ rest) there name → ⊥
 name-no-sign c there name rest e (group_name d r) = name-sign start-tests c (inside (λ x. x ∈ "[](=!>") (codes "=!") c refl e) d refl

@@ -14,7 +14,7 @@ use Rattle.regex_meaning.specs.EcmaGrammarWithAnnexB.{named_reference}
 use Rattle.regex_meaning.specs.EcmaGrammarWithAnnexB.{SimpleAtom, pattern_character, extended_pattern_character, any_character, atom_escape, backslash, character_class}
 use Rattle.regex_meaning.specs.EcmaGrammarWithAnnexB.{ecmascript}
 use Rattle.regex_meaning.specs.SubtreeInvariants.{IsWellFormedGrouplessSubtree}
-use Rattle.regex_meaning.specs.EcmaGrammarLaws.{EcmaScriptGroupsAreFound, EcmaScriptGroupsIndependentOfContext, EcmaScriptOneTree, EcmaScriptTreesAreWellFormed}
+use Rattle.regex_meaning.specs.EcmaGrammarLaws.{EcmaScriptGroupsAreFound, EcmaScriptGroupsIndependentOfContext, EcmaScriptPatternHasAtMostOneTree, EcmaScriptTreesAreWellFormed}
 use Rattle.regex_meaning.specs.EcmaGrammarLaws.{EcmaScriptGroupsAgreeWithScan}
 use Rattle.regex_meaning.proofs.BackreferenceNumberLemmas.{number-positive, number_of-bounds}
 use Rattle.regex_meaning.proofs.GroupNamesOfTreeLemmas.{names-by}
@@ -63,7 +63,7 @@ pub groups-are-decided : EcmaScriptGroupsIndependentOfContext
 groups-are-decided w v pattern groups others n m d e =
     one-groups ecmascript ecmascript-reads (groups-are-found w pattern groups n d) (groups-are-found v pattern others m e)
 
-pub one-tree : EcmaScriptOneTree
+pub one-tree : EcmaScriptPatternHasAtMostOneTree
 one-tree = one-tree-by ecmascript ecmascript-reads ecmascript-scanned
 
 pub trees-are-well-formed : EcmaScriptTreesAreWellFormed

@@ -30,11 +30,11 @@ use Rattle.regex_meaning.proofs.GroupOpeningScanLemmas.{past_unicode, past_exten
 use Rattle.regex_meaning.proofs.EcmaEscapesAndNamesLemmas.{is_name_character, is_good, lone-good, property-good, value-good, TestsNames, start-tests, part-tests, no-sign}
 use Rattle.regex_meaning.proofs.EcmaClassAndAtomLemmas.{property_letter, property-here, c-first}
 
--- a character that passes the test, at the beginning
+-- The scan passes over a first character that passes a test which no sign passes.
 past-test : (b : Bool) (test : ℕ → Bool) → list_all (λ d. not (test d)) signs ≡ true → {here there : RemainingCodePoints} {c : ℕ} → here ≡ c ∷ there → test c ≡ true → Ahead b here there
 past-test b test h {c = c} e f = past_in b e (says_nothing test c h f)
 
--- ---- Escapes, with the backslash
+-- ---- Escapes with their backslash
 
 past-octal : (b : Bool) {here a there : RemainingCodePoints} {n : ℕ} → here ≡ 92 ∷ a → LegacyOctalEscape a there n → Ahead b here there
 past-octal b h (one_digit {d = d} e x k) = past_slash b {c = d} (h ∙ ap (λ x. 92 ∷ x) e)
@@ -54,7 +54,7 @@ past-character b h (identity_escape {c = c} e f k) = past_slash b {c = c} (h ∙
 past-good : (b : Bool) (name t : RemainingCodePoints) → is_good name ≡ true → Ahead b (name ++ t) t
 past-good b name t g = past_all b name t (all_of _ _ (λ c k. says_nothing is_name_character c refl k) name g)
 
--- behind the letter
+-- The scan passes over the expression behind the letter of a property escape.
 past-property : (b : Bool) {here there : RemainingCodePoints} {p : Property} → PropertyExpression here there p → Ahead b here there
 past-property b (with_value {there = there} property value e f) =
     past_in b e refl ∙ past-good b property _ (property-good property value f) ∙ past b 61 _ refl ∙ past-good b value _ (value-good property value f) ∙ past b 125 there refl
@@ -64,7 +64,7 @@ past-class-escape : (b : Bool) {flags : Flags} {here a there : RemainingCodePoin
 past-class-escape b h (by_letter {letter = l} e f) = past_slash b {c = l} (h ∙ ap (λ x. 92 ∷ x) e)
 past-class-escape b h (by_property i u e p) = past_slash b {c = property_letter i} (h ∙ ap (λ x. 92 ∷ x) (property-here i e)) ∙ past-property b p
 
--- the backslash before a `c` is a character
+-- The scan passes over a backslash before a `c` as over a character.
 past-backslash : (b : Bool) {here a : RemainingCodePoints} → here ≡ 92 ∷ a → begins_with_characters "c" a ≡ true → Ahead b here a
 past-backslash b {a = []} h e = absurd (true≢false (sym e))
 past-backslash b {a = c ∷ rest} h e = past_slash b {c = c} h ∙ sym (past b c rest (ap nothing (c-first (c ∷ rest) e)))
@@ -131,6 +131,6 @@ past-leaf w here there n (atom_escape e f g d) = past-atom-escape e d
 past-leaf w here there n (backslash u e f k) = past-backslash false e f
 past-leaf w here there n (character_class {a = a} e d) = ap (texts_after_parentheses false) e ∙ past_open a ∙ past-class d
 
--- in the dialect of the whole language
+-- The scan passes over the atoms without groups and the names of all of ECMAScript.
 pub ecmascript-scanned : IsScanned ecmascript
 ecmascript-scanned = record { past_leaf = past-leaf; past_name = λ here there name g. past-name false g }

@@ -2,24 +2,20 @@
 use Rattle.std.proofs.Common.{◌≡◌, ℕ, Bool, true, false, not, [], ◌∷◌, ◌++◌, map, true≢false, refl, sym, ap, ◌∙◌, arith}
 use Rattle.std.specs.Prelude.{codes}
 use Rattle.std.specs.Char.{is_ascii_alphanumeric}
-use Rattle.std.proofs.lemmas.Bool.{false_from_ne_true}
+use Rattle.std.proofs.lemmas.Bool.{false_from_ne_true, not-true}
 use Rattle.regex_meaning.specs.NumberListHelpers.{contains}
 use Rattle.regex_meaning.specs.FlagLettersAndEscaping.{syntax_characters, with_backslash_if_syntax, escape}
 use Rattle.regex_meaning.specs.ReadingStatesAndDigits.{RemainingCodePoints, PatternContext, ◌∈◌}
 use Rattle.regex_meaning.specs.EscapesNamesQuantifiers.{identity_escape, BeginsQuantifier}
 use Rattle.regex_meaning.specs.Grammar.{character_node, SimpleAtom, pattern_character, character_escape, Alternative, no_terms, terms, atom, leaf}
 use Rattle.regex_meaning.specs.Grammar.{profile, last_alternative, pattern_is}
-use Rattle.regex_meaning.specs.GrammarLaws.{EscapedTextsAreRead}
+use Rattle.regex_meaning.specs.GrammarLaws.{EscapedTextParsesAsLiteral}
 use Rattle.regex_meaning.proofs.EscapesAndNamesLemmas.{inside}
 use Rattle.regex_meaning.proofs.QuantifierStartLemmas.{head, not_quantified}
 
--- what is escaped among these is special
+-- A character that is no syntax character is in no list of syntax characters.
 none-of : (word : RemainingCodePoints) (c : ℕ) → contains syntax_characters c ≡ false → ((d : ℕ) → contains word d ≡ true → contains syntax_characters d ≡ true) → contains word c ≡ false
 none-of word c f h = false_from_ne_true (contains word c) (λ k. true≢false (sym (h c k) ∙ f))
-
-not_true : (b : Bool) → not b ≡ true → b ≡ false
-not_true false h = refl
-not_true true h = absurd (true≢false (sym h))
 
 escaped-more : (c : ℕ) (cs : RemainingCodePoints) → escape (c ∷ cs) ≡ with_backslash_if_syntax c ++ escape cs
 unfolding escape
@@ -42,7 +38,7 @@ module _ (c : ℕ) (cs : RemainingCodePoints) where
   first-read w = by (contains syntax_characters c) refl
     where
       by : (b : Bool) → contains syntax_characters c ≡ b → SimpleAtom w (escape (c ∷ cs)) (escape cs) (character_node w.flags c)
-      by true e = character_escape (behind-slash e) (identity_escape refl (not_true _ (inside (λ d. not (is_ascii_alphanumeric d)) syntax_characters c refl e)))
+      by true e = character_escape (behind-slash e) (identity_escape refl (not-true _ (inside (λ d. not (is_ascii_alphanumeric d)) syntax_characters c refl e)))
       by false e = pattern_character (itself e) (none-of (codes "^$\\.*+?()[]{}|") c e (λ d k. inside (contains syntax_characters) (codes "^$\\.*+?()[]{}|") d refl k))
 
 begins : (cs : RemainingCodePoints) → head (escape cs) ∈ "*+?{" ≡ false
@@ -62,6 +58,6 @@ unfolding escape
 all-read w [] = no_terms
 all-read w (c ∷ cs) = terms (atom (leaf (first-read c cs w)) (none-follows cs)) (all-read w cs)
 
-pub escaped_texts_are_read : EscapedTextsAreRead
-escaped_texts_are_read flags text =
+pub escaped_text_parses_as_literal : EscapedTextParsesAsLiteral
+escaped_text_parses_as_literal flags text =
     pattern_is [] (last_alternative (all-read (record { flags = flags; groups = [] }) text)) (λ i j d before within. absurd (omega arith))

@@ -14,11 +14,11 @@ use Rattle.regex_meaning.specs.NumberListHelpers.{contains}
 use Rattle.regex_meaning.specs.FlagLettersAndEscaping.{syntax_characters, with_backslash_if_syntax, escape}
 use Rattle.regex_meaning.proofs.BoolLemmas.{and-left, and-right}
 use Rattle.regex_meaning.specs.Grammar.{Parses}
-use Rattle.regex_meaning.specs.GrammarLaws.{literal_tree, EscapedBytesAreRead}
+use Rattle.regex_meaning.specs.GrammarLaws.{literal_tree, EscapedUtf8ParsesAsLiteral}
 use Rattle.regex_meaning.proofs.NonAsciiUtf8Bytes.{encode-stays}
-use Rattle.regex_meaning.proofs.EscapedTextReading.{escaped_texts_are_read}
+use Rattle.regex_meaning.proofs.EscapedTextReading.{escaped_text_parses_as_literal}
 
--- a number that is larger than all members is none
+-- A number at or above a limit is not in a list whose members are below the limit.
 contains-beyond : (limit n : ℕ) (members : List ℕ) → limit ≤ n → list_all (λ x. nat_lt x limit) members ≡ true → contains members n ≡ false
 contains-beyond limit n [] le all = refl
 contains-beyond limit n (x ∷ xs) le all =
@@ -26,15 +26,15 @@ contains-beyond limit n (x ∷ xs) le all =
     let other : nat_eq n x ≡ false = ne_eqb n x (λ e. omega arith) in
     ap₂ (λ a b. a || b) other (contains-beyond limit n xs le (and-right _ _ all))
 
--- a byte that is no character of ASCII stays
+-- A byte that is no ASCII character is not escaped.
 escaped-beyond : (byte : ℕ) → 128 ≤ byte → with_backslash_if_syntax byte ≡ byte ∷ []
 escaped-beyond byte le = rw (contains-beyond 128 byte syntax_characters le refl)
 
--- what stands before a character in an escaped text
+-- The mark of a syntax character is a backslash, and other characters have none.
 abbrev pub mark : ℕ → List ℕ
 mark c = if contains syntax_characters c then 92 ∷ [] else []
 
--- an escaped character is itself behind its mark
+-- An escaped character is its mark and then the character.
 escaped-marked : (c : ℕ) → with_backslash_if_syntax c ≡ mark c ++ c ∷ []
 escaped-marked c = elim (cases_Bool (contains syntax_characters c)) [
   | inl e ↦ rw e refl
@@ -54,7 +54,7 @@ escape-next text rest c e = ap (λ t. escape t) e ∙ flat_map-append with_backs
 
 -- ---- The characters of an escaped text
 
--- the bytes of an escaped character
+-- The bytes of an escaped character are its mark and then the bytes of the character.
 escaped-encodes : (c : ℕ) → encodes (with_backslash_if_syntax c) ≡ mark c ++ encode_utf8 c
 escaped-encodes c = elim (cases_Bool (contains syntax_characters c)) [
   | inl e ↦ rw e (encodes-append (92 ∷ []) (c ∷ []) ∙ ap₂ (λ a b. a ++ b) (one 92 ∙ encode_ascii 92 (lit< tt)) (one c))
@@ -85,6 +85,6 @@ escape-chars bytes h =
     let is = IsUtf8-from_is_utf8 bytes h in
     ap (λ t. chars (escape t)) (sym (encodes-chars bytes is)) ∙ ap chars (escape-encodes (chars bytes)) ∙ chars-encodes (escape (chars bytes)) (escape-scalars (chars bytes) (scalars-chars bytes is))
 
-pub escaped_bytes_are_read : EscapedBytesAreRead
-escaped_bytes_are_read flags bytes h =
-    subst (λ text. Parses flags text (literal_tree flags (chars bytes))) (sym (escape-chars bytes h)) (escaped_texts_are_read flags (chars bytes))
+pub escaped_utf8_parses_as_literal : EscapedUtf8ParsesAsLiteral
+escaped_utf8_parses_as_literal flags bytes h =
+    subst (λ text. Parses flags text (literal_tree flags (chars bytes))) (sym (escape-chars bytes h)) (escaped_text_parses_as_literal flags (chars bytes))

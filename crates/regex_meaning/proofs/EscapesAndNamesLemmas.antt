@@ -4,7 +4,7 @@ use Rattle.std.proofs.Common.{arith}
 use Rattle.std.specs.Prelude.{codes, Option, Some, None, if◌then◌else◌}
 use Rattle.std.specs.List.{list_all}
 use Rattle.std.specs.Char.{is_digit, is_ascii_alphanumeric}
-use Rattle.std.proofs.lemmas.Bool.{or_cases, and_parts, eqb-true}
+use Rattle.std.proofs.lemmas.Bool.{or_cases, and_parts, eqb-true, false_from_ne_true}
 use Rattle.regex_meaning.specs.NumberListHelpers.{contains}
 use Rattle.regex_meaning.specs.ReadingStatesAndDigits.{RemainingCodePoints, ◌∈◌, begins_with_characters, Digits, digits_from, leading_digits, value_of_digits}
 use Rattle.regex_meaning.specs.EscapesNamesQuantifiers.{FixedHexDigits, hex, SurrogatePair, pair, UnicodeEscape, surrogates, four_digits, code_point, CharacterEscape}
@@ -14,14 +14,14 @@ use Rattle.regex_meaning.specs.EscapesNamesQuantifiers.{is_ascii_identifier_star
 use Rattle.regex_meaning.specs.EscapesNamesQuantifiers.{is_name, saturated_count, QuantifierPrefix, star, plus, question, exactly, at_least, between, greedy, lazy}
 use Rattle.regex_meaning.proofs.DisjunctionReadingLemmas.{first, rest_of, unlike, QuantifiersAgree}
 
--- one reading of each
+-- Two readings are the same if they leave the same text and have the same result.
 abbrev pub Same : {A : Type 0} → (a b : RemainingCodePoints) (n m : A) → Type 0
 Same a b n m = (a ≡ b) × (n ≡ m)
 
 pub behind : {here a b : RemainingCodePoints} {c d : ℕ} → here ≡ c ∷ a → here ≡ d ∷ b → a ≡ b
 behind e f = ap rest_of (sym e ∙ f)
 
--- what a test tells apart
+-- Characters that a test tells apart are not equal.
 pub apart : (test : ℕ → Bool) {c d : ℕ} → test c ≡ true → test d ≡ false → c ≡ d → ⊥
 apart test e f g = true≢false (sym e ∙ ap test g ∙ f)
 
@@ -32,6 +32,9 @@ pub inside : (test : ℕ → Bool) (word : RemainingCodePoints) (c : ℕ) → li
 inside test [] c e f = absurd (true≢false (sym f))
 inside test (d ∷ word) c e f =
     ⊎_elim (λ g. ap test (eqb-true c d g) ∙ (and_parts (test d) _ e).0) (λ g. inside test word c (and_parts (test d) _ e).1 g) (or_cases (nat_eq c d) _ f)
+
+pub outside : (word big : RemainingCodePoints) (c : ℕ) → list_all (contains big) word ≡ true → contains big c ≡ false → contains word c ≡ false
+outside word big c e f = false_from_ne_true (contains word c) (λ g. true≢false (sym (inside (contains big) word c e g) ∙ f))
 
 pub one_digits : {base : ℕ} {here a b : RemainingCodePoints} {n m : ℕ} → Digits base here a n → Digits base here b m → Same a b n m
 one_digits (digits_from h) (digits_from k) = (refl, refl)
@@ -44,11 +47,11 @@ digits_on e d f = one_digits d (digits_at e f)
 
 -- ---- Quantifiers
 
--- no number begins with a brace
+-- A number does not begin with a closing brace.
 pub no_digit : {here there rest : RemainingCodePoints} {n : ℕ} → Digits 10 here there n → here ≡ 125 ∷ rest → ⊥
 no_digit {rest = rest} (digits_from h) e = let k : 0 < length (leading_digits 10 (125 ∷ rest)) = subst (λ x. 0 < length (leading_digits 10 x)) e h in omega arith
 
--- with what it begins
+-- A quantifier prefix begins with a character.
 abbrev start : {here there : RemainingCodePoints} {n : ℕ} {m : Option ℕ} → QuantifierPrefix here there n m → (c : ℕ) × (rest : RemainingCodePoints) × (here ≡ c ∷ rest)
 start (star e) = (_, _, e)
 start (plus e) = (_, _, e)
@@ -152,19 +155,20 @@ is_some (Some x) = true
 pub Some_inj : {A : Type 0} {x y : A} → Some x ≡ Some y → x ≡ y
 Some_inj {A} {x} {y} e = ap (λ o. elim o [ None ↦ x | Some z ↦ z ]) e
 
-pub controls : (c : ℕ) → is_some (control_escape_code_point c) ≡ true → c ∈ "tnvfr" ≡ true
-controls c e = grind arith
+abbrev pub is_control_letter : ℕ → Bool
+is_control_letter c = is_some (control_escape_code_point c)
 
-no_control : (c : ℕ) {d : ℕ} → control_escape_code_point c ≡ Some d → is_ascii_alphanumeric c ≡ true
-no_control c e = inside is_ascii_alphanumeric (codes "tnvfr") c refl (controls c (ap is_some e))
+control_letters : (c : ℕ) → is_control_letter c ≡ true → c ∈ "tnvfr" ≡ true
+control_letters c e = grind arith
+
+-- A test that the letters of control escapes pass holds for each of them.
+pub control_letter : (test : ℕ → Bool) (c : ℕ) → list_all test (codes "tnvfr") ≡ true → is_control_letter c ≡ true → test c ≡ true
+control_letter test c e f = inside test (codes "tnvfr") c e (control_letters c f)
 
 abbrev not_control : ℕ → Bool
 not_control c = not (c ∈ "0xu")
 
-control_letter : (c : ℕ) {d : ℕ} → control_escape_code_point c ≡ Some d → not_control c ≡ true
-control_letter c e = inside not_control (codes "tnvfr") c refl (controls c (ap is_some e))
-
--- what a letter behind a backslash begins, by a number: 1 is a control character, 0 one that stands for itself
+-- `0`, `x` and `u` are their own kind, other ASCII letters and digits have 1, and the rest has 0.
 abbrev kind : ℕ → ℕ
 kind c = if is_ascii_alphanumeric c then (if not_control c then 1 else c) else 0
 
@@ -177,7 +181,7 @@ module _ {unicode : Bool} {here : RemainingCodePoints} where
   tag (identity_escape e f) = 0
 
   tagged : {there : RemainingCodePoints} {c : ℕ} (x : CharacterEscape unicode here there c) → (letter : ℕ) × (rest : RemainingCodePoints) × (here ≡ letter ∷ rest) × (kind letter ≡ tag x)
-  tagged (control_escape {letter = l} e f) = (l, _, e, rw (no_control l f, control_letter l f) refl)
+  tagged (control_escape {letter = l} e f) = (l, _, e, rw (control_letter is_ascii_alphanumeric l refl (ap is_some f), control_letter not_control l refl (ap is_some f)) refl)
   tagged (null e k) = (_, _, e, refl)
   tagged (hex_escape e h) = (_, _, e, refl)
   tagged (unicode_escape e h) = (_, _, e, refl)

@@ -3,7 +3,7 @@ use Rattle.std.proofs.Common.{◌≡◌, ℕ, zero, suc, ◌+◌, ◌-◌, ◌<�
 use Rattle.std.proofs.Common.{add-one}
 use Rattle.std.specs.Prelude.{if◌then◌else◌, nat_lt, option_and_then}
 use Rattle.std.specs.Option.{option_or}
-use Rattle.regex_meaning.specs.Laws.{Each, IsOnward, matches_from_optional, match_then_list}
+use Rattle.regex_meaning.specs.Laws.{Each, IsAtOrAheadInDirection, matches_from_optional, match_then_list}
 use Rattle.regex_meaning.specs.Tree.{Node}
 use Rattle.regex_meaning.specs.Text.{Text, rightwards, last_place}
 use Rattle.regex_meaning.specs.Outcomes.{Outcome}
@@ -11,18 +11,18 @@ use Rattle.regex_meaning.specs.FirstAndAllMatches.{Found, no_groups, first_outco
 use Rattle.regex_meaning.proofs.OutcomeDirectionLemmas.{outcomes-onward}
 use Rattle.std.proofs.lemmas.Bool.{ltb-true}
 
--- the answer of a test is known in each branch
+-- What holds in each branch under the answer of the test holds of the whole conditional.
 pub if-cases : {A : Type 0} (P : A → Type 0) (b : Bool) (x y : A) → (b ≡ true → P x) → (b ≡ false → P y) → P (if b then x else y)
 if-cases P true x y h k = h refl
 if-cases P false x y h k = k refl
 
 module _ (root : Node) (text : Text) where
-  -- the match, if any, stands at or behind the place, and ends in the text
+  -- A match, if there is one, starts at or after the place and ends within the text.
   abbrev pub StandsFrom : ℕ → Option Found → Type 0
   StandsFrom place None = Unit {0}
   StandsFrom place (Some m) = (place ≤ m.start) × (m.start ≤ m.end) × (m.end ≤ last_place text)
 
-  stands-first_of : (place : ℕ) (os : List Outcome) → place ≤ last_place text → Each (λ o. IsOnward text rightwards place o.end) os
+  stands-first_of : (place : ℕ) (os : List Outcome) → place ≤ last_place text → Each (λ o. IsAtOrAheadInDirection text rightwards place o.end) os
       → StandsFrom place (first_outcome place os)
   stands-first_of place [] h on = tt
   stands-first_of place (o ∷ os) h on = (omega arith, omega arith, omega arith)
@@ -56,7 +56,7 @@ module _ (root : Node) (text : Text) where
   unfolding first_match_among
   first-past place h = let none : last_place text + 1 - place ≡ 0 = omega arith in rw none refl
 
-  -- behind the place, if anywhere
+  -- The next place, if there is one, is after the place.
   abbrev GoesOn : ℕ → Option ℕ → Type 0
   GoesOn place None = Unit {0}
   GoesOn place (Some next) = place < next
@@ -67,7 +67,7 @@ module _ (root : Node) (text : Text) where
       (λ e. let less = ltb-true m.start m.end e in omega arith)
       (λ e. if-cases (GoesOn place) (nat_lt m.end (last_place text)) (Some (m.end + 1)) None (λ f. omega arith) (λ f. tt))
 
-  -- the list goes on behind the place and within the text, if anywhere
+  -- The next place, if there is one, is after the place and within the text.
   abbrev pub GoesOnInside : ℕ → Option ℕ → Type 0
   GoesOnInside place None = Unit {0}
   GoesOnInside place (Some next) = (place < next) × (next ≤ last_place text)
@@ -84,7 +84,7 @@ module _ (root : Node) (text : Text) where
   none-left zero = refl
   none-left (suc count) = refl
 
-  -- places past the right end have no match
+  -- A search from a place past the right end has no matches.
   none-past : (place : ℕ) (count : ℕ) → last_place text + 1 - place ≤ 0 → matches_from root text count (first_match root text place) ≡ []
   unfolding first_match_among
   none-past place count h = let e : last_place text + 1 - place ≡ 0 = omega arith in rw e (none-left count)

@@ -67,7 +67,7 @@ contains-bytes_where test b h t = contains-filter test b 0 256 (omega arith) (om
 
 -- ---- The first byte of a character
 
--- an interval that holds c meets each set that does
+-- An interval that contains `c` meets each list of intervals that contains `c`.
 meets-any : (lo hi c : ℕ) (ivs : Intervals) → lo ≤ c → c ≤ hi → in_intervals ivs c ≡ true
     → list_any (λ y. nat_le lo hi && nat_le y.0 y.1 && nat_le lo y.1 && nat_le y.0 hi) ivs ≡ true
 meets-any lo hi c [] h k t = t
@@ -89,7 +89,7 @@ meets-any lo hi c (y ∷ ys) h k t = go (is_in_range y.0 y.1 c) refl (λ rest. m
 meet-one : (lo hi c : ℕ) (ivs : Intervals) → lo ≤ c → c ≤ hi → in_intervals ivs c ≡ true → intersects ((lo, hi) ∷ []) ivs ≡ true
 meet-one lo hi c ivs h k t = or_left _ _ (meets-any lo hi c ivs h k t)
 
--- what is known of the first byte of a character
+-- A first byte of `c` is no continuation byte, and its characters meet each set with `c`.
 pub record Lead (c b : ℕ) : Type 0 where
   pub is_byte : b < 256
   pub begins : is_in_range 0x80 0xBF b ≡ false
@@ -116,7 +116,7 @@ begun_by-4 b h k =
 begun_by-1 : (b : ℕ) → b < 0x80 → chars_with_first_byte b ≡ (b, b) ∷ []
 begun_by-1 b h = rw (lt-ltb b 0x80 h)
 
--- the first byte, and what is known of it
+-- The encoding of a character is a first byte of the character and then the rest.
 pub record FirstOf (c : ℕ) : Type 0 where
   pub byte : ℕ
   pub rest : List ℕ
@@ -142,7 +142,7 @@ encode-4 : (c : ℕ) → 65536 ≤ c → encode c ≡ (240 + c / 262144) ∷ res
 unfolding encode rest-of
 encode-4 c h = rw (le-ltb c 128 (omega arith), le-ltb c 2048 (omega arith), le-ltb c 65536 h)
 
--- a byte begins the characters of one interval, and the character is of these
+-- A byte that begins the characters of one interval is a first byte of each of them.
 lead-by : (c b low high : ℕ) → b < 256 → is_in_range 0x80 0xBF b ≡ false → chars_with_first_byte b ≡ (low, high) ∷ [] → low ≤ c → c ≤ high → Lead c b
 lead-by c b low high is begins only h k = record {
   is_byte = is;
@@ -150,13 +150,13 @@ lead-by c b low high is begins only h k = record {
   meets = λ ivs t. rw only (meet-one low high c ivs h k t);
 }
 
--- such bytes count up, and each of them begins so many characters
+-- If a byte from `first` on begins `many` characters in its turn, it is a first byte of each.
 lead-up : (c b first many : ℕ) → 0xC0 ≤ first → first ≤ b → b < 256 → chars_with_first_byte b ≡ ((b - first) * many, (b - first) * many + (many - 1)) ∷ []
     → (b - first) * many ≤ c → c ≤ (b - first) * many + (many - 1) → Lead c b
 lead-up c b first many high from is only h k =
     lead-by c b ((b - first) * many) ((b - first) * many + (many - 1)) is (in_range-above 0x80 0xBF b (omega arith) (omega arith)) only h k
 
--- the byte is this one
+-- A byte that equals this one is a first byte of each character that this one begins.
 lead-one : (c b this low high : ℕ) → b ≡ this → this < 256 → is_in_range 0x80 0xBF this ≡ false → chars_with_first_byte this ≡ (low, high) ∷ [] → low ≤ c → c ≤ high → Lead c b
 lead-one c b this low high same is begins only h k = rw same (lead-by c this low high is begins only h k)
 

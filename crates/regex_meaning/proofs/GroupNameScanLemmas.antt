@@ -1,6 +1,6 @@
 -- The scan for group names finds the names of the groups that open in a pattern.
 use Rattle.std.proofs.Common.{◌≡◌, ℕ, Bool, true, false, not, ◌&&◌, List, [], ◌∷◌, ◌++◌, length, drop, true≢false, nat_eq, refl, sym, ap}
-use Rattle.std.proofs.Common.{ap₂, ◌∙◌, arith}
+use Rattle.std.proofs.Common.{ap₂, ◌∙◌}
 use Rattle.std.specs.Prelude.{codes, if◌then◌else◌, take_while, flat_map}
 use Rattle.std.specs.List.{list_all}
 use Rattle.std.proofs.lemmas.Bool.{and_parts, eqb-true, false_from_ne_true}
@@ -24,13 +24,13 @@ use Rattle.regex_meaning.specs.GroupOpeningScanWithoutParsing.{texts_after_paren
 use Rattle.regex_meaning.specs.GroupOpeningScanWithoutParsing.{opens_named_group}
 use Rattle.regex_meaning.specs.GrammarLaws.{ScanFindsOpenedGroupNames}
 use Rattle.regex_meaning.proofs.DisjunctionReadingLemmas.{rest_of}
-use Rattle.regex_meaning.proofs.EscapesAndNamesLemmas.{inside}
+use Rattle.regex_meaning.proofs.EscapesAndNamesLemmas.{inside, name_letters}
 use Rattle.regex_meaning.proofs.GroupOpeningScanLemmas.{Ahead as SameAhead, nothing, signs, past as pass, past_there, past_open, past_close, past_all, all_of, says_nothing, take_split}
 use Rattle.regex_meaning.proofs.GroupOpeningScanLemmas.{while_more, past_hex, past_in, past_slash, past_unicode}
 use Rattle.regex_meaning.proofs.GroupOpeningScanLemmas.{past_quantifier as pass_quantifier, past_extended, past_number, IsScanned, Opens as OpensBy, past_opener as pass_opener}
 use Rattle.regex_meaning.proofs.GroupOpeningScanLemmas.{past_plain as pass_plain, past_group as pass_group, past_named as pass_named, groups-found}
 
--- behind a backslash, with it
+-- The scan passes over a character escape together with its backslash.
 past_character : (b : Bool) {unicode : Bool} {here a there : RemainingCodePoints} {n : ℕ} → here ≡ 92 ∷ a → CharacterEscape unicode a there n → SameAhead b here there
 past_character b h (control_escape {letter = l} e f) = past_slash b {c = l} (h ∙ ap (λ x. 92 ∷ x) e)
 past_character b h (null e k) = past_slash b {c = 48} (h ∙ ap (λ x. 92 ∷ x) e)
@@ -38,15 +38,11 @@ past_character b h (hex_escape e k) = past_slash b {c = 120} (h ∙ ap (λ x. 92
 past_character b h (unicode_escape e k) = past_slash b {c = 117} (h ∙ ap (λ x. 92 ∷ x) e) ∙ past_unicode b k
 past_character b h (identity_escape {c = c} e f) = past_slash b {c = c} (h ∙ ap (λ x. 92 ∷ x) e)
 
-name_letters : (n : RemainingCodePoints) → is_name n ≡ true → list_all is_ascii_identifier_part n ≡ true
-name_letters [] e = absurd (true≢false (sym e))
-name_letters (c ∷ cs) e = let h = and_parts (is_ascii_identifier_start c) _ e in grind arith
-
 past_name : (b : Bool) {here there n : RemainingCodePoints} → GroupName here there n → SameAhead b here there
 past_name b (group_name {there = there} {name = n} e f) =
     ap (texts_after_parentheses b) e ∙ past_all b n (62 ∷ there) (all_of _ _ (λ c k. says_nothing is_ascii_identifier_part c refl k) n (name_letters n f)) ∙ pass b 62 there refl
 
--- classes
+-- The scan passes over each member of a class.
 past_class_atom : {flags : Flags} {here there : RemainingCodePoints} {m : ClassMember} → ClassAtom flags here there m → SameAhead true here there
 past_class_atom (verbatim {c = c} {there = there} e f) = ap (texts_after_parentheses true) e ∙ past_there c there (ap not f)
 past_class_atom (of_class {letter = l} e f) = past_slash true {c = l} e
@@ -76,7 +72,7 @@ pass_leaf w (character_escape e d) = past_character false e d
 pass_leaf w (character_class_escape {letter = l} e f s) = past_slash false {c = l} e
 pass_leaf w (character_class {a = a} e d) = ap (texts_after_parentheses false) e ∙ past_open a ∙ past_class d
 
--- in the dialect of the profile
+-- The scan passes over the atoms without groups and the names of the profile's dialect.
 pub scanned : IsScanned profile
 scanned =
     record {
@@ -90,7 +86,7 @@ up_to : (n t : RemainingCodePoints) → list_all is_ascii_identifier_part n ≡ 
 up_to [] t e = refl
 up_to (c ∷ n) t e = while_more is_ascii_identifier_part c (n ++ 62 ∷ t) (and_parts (is_ascii_identifier_part c) _ e).0 ∙ ap (λ x. c ∷ x) (up_to n t (and_parts (is_ascii_identifier_part c) _ e).1)
 
--- a name is what is found where it stands
+-- A group name is found where it stands.
 pub name-found : (here there name : RemainingCodePoints) → GroupName here there name → group_name_at here ≡ name
 name-found here there name (group_name e f) =
     let up : take_while is_ascii_identifier_part here ≡ name = ap (take_while is_ascii_identifier_part) e ∙ up_to name there (name_letters name f) in
@@ -105,7 +101,7 @@ ends_name (c ∷ there) e = by (nat_eq 62 c) refl
     by true f = (there, ap (λ (x : ℕ). x ∷ there) (sym (eqb-true 62 c f)))
     by false f = absurd (true≢false (sym e ∙ rw f refl))
 
--- and where none stands none is found
+-- If no group name stands at a place, the name found there is empty.
 pub none-found : (here : RemainingCodePoints) → ((there name : RemainingCodePoints) → GroupName here there name → ⊥) → group_name_at here ≡ []
 none-found here none = by (is_name name && begins_with_characters ">" behind) refl
   where
@@ -147,7 +143,7 @@ choose-names t false false true w a b c d e f g h = g
 choose-names t false false false true a b c d e f g h = ap (λ x. name_of_opened_group t ++ x) h
 choose-names t false false false false a b c d e f g h = h
 
--- the names are those at the parentheses
+-- The scanned names are the names at the scanned parentheses.
 names-at : (b : Bool) (t : RemainingCodePoints) → scanned_names_per_capturing_group b t ≡ flat_map name_of_opened_group (texts_after_parentheses b t)
 unfolding scanned_names_per_capturing_group texts_after_parentheses
 names-at b [] = refl
@@ -158,7 +154,7 @@ names-at b (c ∷ []) = by (c ∈ "(" && not b)
     by false = refl
 names-at b (c ∷ d ∷ t) = choose-names (d ∷ t) (c ∈ "\\") (c ∈ "[") (c ∈ "]") (c ∈ "(" && not b) (texts_after_parentheses b t) (texts_after_parentheses true (d ∷ t)) (texts_after_parentheses false (d ∷ t)) (texts_after_parentheses b (d ∷ t)) (names-at b t) (names-at true (d ∷ t)) (names-at false (d ∷ t)) (names-at b (d ∷ t))
 
--- the same names are ahead at both places of a text
+-- The same names are ahead at both places of a text.
 abbrev pub Ahead : Bool → RemainingCodePoints → RemainingCodePoints → Type 0
 Ahead b here there = scanned_names_per_capturing_group b here ≡ scanned_names_per_capturing_group b there
 
@@ -174,7 +170,7 @@ past_quantifier b {here} {there} k = names-ahead b here there (pass_quantifier b
 pub past_leaf : (w : PatternContext) {here there : RemainingCodePoints} {n : Node} → SimpleAtom w here there n → Ahead false here there
 past_leaf w {here} {there} a = names-ahead false here there (pass_leaf w a)
 
--- from one place to another these groups open, and are found
+-- The names of the groups that open between two states are found by the scan between them.
 pub record Opens (p q : ParseState) : Type 0 where
   pub added : List RemainingCodePoints
   pub opened : q.opened ≡ p.opened ++ added
@@ -194,7 +190,7 @@ unnamed (c ∷ t) e = by (nat_eq 63 c) refl
     by true f = absurd (true≢false (sym (rw f refl) ∙ e))
     by false f = rw f refl
 
--- the names of the groups that open in the dialect of the profile
+-- In the profile's dialect, the names at the parentheses are the names of the groups that open.
 names-are : {texts names : List RemainingCodePoints} → OpensGroups profile texts names → flat_map name_of_opened_group texts ≡ names
 names-are no_parenthesis = refl
 names-are (opens_plain_group {texts = texts} here e g) = ap (λ x. name_of_opened_group x ++ flat_map name_of_opened_group texts) e ∙ names-are g

@@ -13,7 +13,7 @@ use Rattle.regex_meaning.specs.Laws.{Each}
 use Rattle.regex_meaning.proofs.EachElementLemmas.{Each-append, Each-reverse}
 use Rattle.regex_meaning.proofs.BoolLemmas.{same-truth}
 use Rattle.regex_meaning.proofs.ListLemmas.{length-numbers_from}
-use Rattle.regex_meaning.specs.ReadingStatesAndDigits.{RemainingCodePoints, ParseState, PatternContext, groups_at, state_with_text_left, with_opened_group, arm}
+use Rattle.regex_meaning.specs.ReadingStatesAndDigits.{RemainingCodePoints, ParseState, PatternContext, number_of_opened_groups, state_with_text_left, with_opened_group, arm}
 use Rattle.regex_meaning.specs.ReadingStatesAndDigits.{sequence_node}
 use Rattle.regex_meaning.specs.Grammar.{PatternDialect, profile, Disjunction, Alternative, Term, Assertion, Atom, last_alternative, alternatives, no_terms}
 use Rattle.regex_meaning.specs.Grammar.{terms, assertion, repeated_assertion, atom, quantified, start, end, boundary, look}
@@ -73,7 +73,7 @@ mutual
 
 -- ---- Each group's name is the one at its id
 
--- the names go on behind those that have opened
+-- The names begin with those of the groups that have opened.
 abbrev GoesOn : (names opened : Names) → Type 0
 GoesOn names opened = (rest : Names) × (names ≡ opened ++ rest)
 
@@ -101,7 +101,7 @@ named_ids-ids (loop q s e contents) = named_ids-ids contents
 named_ids-ids (loop_1_char_body q contents) = named_ids-ids contents
 named_ids-ids _ = refl
 
--- where there is no id there is no group
+-- In a node without group ids, no group has a wrong name.
 unnamed : (names : Names) (n : Node) → group_ids n ≡ [] → AreNamed names n
 unnamed names n e = by (capturing_group_ids_and_names n) (named_ids-ids n ∙ e)
   where
@@ -117,7 +117,7 @@ arm-named : (names : Names) (in_lookbehind : Bool) (ns : List Node) → Each (Ar
 arm-named names true ns h = row-named names (reverse ns) (Each-reverse (AreNamed names) ns h)
 arm-named names false ns h = row-named names ns h
 
--- a group that has opened here
+-- A group that opens here has its name at its id.
 opened-here : (names : Names) (q : ParseState) {r : ParseState} (id : ℕ) (name : RemainingCodePoints) → id ≡ length q.opened → Later (with_opened_group name q) r → GoesOn names r.opened → Stands names (id, name)
 opened-here names q id name e l g = record {
   left = q.opened;
@@ -155,9 +155,9 @@ module _ (S : PatternDialect) (sound : AtomsAreSound S) where
     named-atom : {names : Names} {w : PatternContext} {in_lookbehind : Bool} {p q : ParseState} {n : Node} → Atom S w in_lookbehind p q n → GoesOn names q.opened → AreNamed names n
     named-atom {names} {w} (leaf {p = p} {there = there} {n = n} a) g = unnamed names n (sound w p.text there n a).ids
     named-atom {names} (group {q = q} e o d f) g =
-        let h = same-groups (ap (λ x. x.opened) f) g in (opened-here names q _ [] (ap groups_at e) (later-disjunction d) h, named-disjunction d h)
+        let h = same-groups (ap (λ x. x.opened) f) g in (opened-here names q _ [] (ap number_of_opened_groups e) (later-disjunction d) h, named-disjunction d h)
     named-atom {names} (named_group {q = q} {there = there} {name = name} e i d f) g =
-        let h = same-groups (ap (λ x. x.opened) f) g in (opened-here names (state_with_text_left there q) _ name (ap groups_at e) (later-disjunction d) h, named-disjunction d h)
+        let h = same-groups (ap (λ x. x.opened) f) g in (opened-here names (state_with_text_left there q) _ name (ap number_of_opened_groups e) (later-disjunction d) h, named-disjunction d h)
     named-atom (plain_group e d f) g = named-disjunction d (same-groups (ap (λ x. x.opened) f) g)
 
 -- ---- The names by id
@@ -167,7 +167,7 @@ at-number f first zero k h = absurd (omega (arith, h))
 at-number f first (suc count) zero h = ap f (omega arith)
 at-number f first (suc count) (suc k) h = at-number f (first + 1) count k (omega (arith, h)) ∙ ap f (omega arith)
 
--- the name of an id that stands there
+-- The name that is listed for an id is the name that stands at the id.
 name-is : (names : Names) (named : List (ℕ × RemainingCodePoints)) (id : ℕ) → Each (Stands names) named → contains (ids_of named) id ≡ true → group_name_of_id named id ≡ get_or names id []
 name-is names [] id h k = absurd (true≢false (sym k))
 name-is names (n ∷ named) id h k = by (n.0 == id) refl (name-is names named id h.1)
@@ -180,7 +180,7 @@ name-is names (n ∷ named) id h k = by (n.0 == id) refl (name-is names named id
         let other : nat_eq id n.0 ≡ false = ne_eqb id n.0 (λ f. true≢false (sym (eq-eqb n.0 id (sym f)) ∙ e)) in
         rw e (others (ap (λ b. b || contains (ids_of named) id) (sym other) ∙ k))
 
--- ---- Where no group has a name
+-- ---- Patterns without named groups
 
 abbrev pub is_empty : RemainingCodePoints → Bool
 is_empty name = length name == 0
@@ -228,7 +228,7 @@ module _ (names : Names) (named : List (ℕ × RemainingCodePoints)) (are : Each
     names-are : (if list_all (λ p. is_empty p.1) named then [] else map (group_name_of_id named) (numbers_from 0 (length named))) ≡ (if list_all is_empty names then [] else names)
     names-are = rw (test, in-place) refl
 
--- in any such dialect the names are those of the groups that have opened
+-- With sound atoms, the names by id are those of the opened groups, or none if all are empty.
 pub names-by : (S : PatternDialect) (sound : AtomsAreSound S) (w : PatternContext) (pattern : RemainingCodePoints) (n : Node)
     → Disjunction S w false (record { text = pattern; opened = [] }) (record { text = []; opened = w.groups }) n
     → group_names_by_id (cat n (cat goal end_of_cat)) ≡ (if list_all is_empty w.groups then [] else w.groups)

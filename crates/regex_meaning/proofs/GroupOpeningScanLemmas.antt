@@ -21,7 +21,7 @@ use Rattle.regex_meaning.proofs.DisjunctionReadingLemmas.{IsReadInOneWay, unlike
 use Rattle.regex_meaning.proofs.EscapesAndNamesLemmas.{inside}
 use Rattle.regex_meaning.proofs.FirstDigitOfNumber.{digit_begins}
 
--- the same parentheses are ahead at both places of a text
+-- The same parentheses are ahead at both places of a text.
 abbrev pub Ahead : Bool → RemainingCodePoints → RemainingCodePoints → Type 0
 Ahead b here there = texts_after_parentheses b here ≡ texts_after_parentheses b there
 
@@ -34,13 +34,13 @@ no c d e test f g = true≢false (sym f ∙ ap test (eqb-true c d e) ∙ g)
 pub is_no : (c d : ℕ) (test : ℕ → Bool) → test c ≡ true → test d ≡ false → nat_eq c d ≡ false
 is_no c d test f g = false_from_ne_true (nat_eq c d) (λ e. no c d e test f g)
 
--- past a character that says nothing
+-- The scan passes over a character other than `\`, `[`, `]` and `(`.
 pub past : (b : Bool) (c : ℕ) (t : RemainingCodePoints) → nothing c ≡ true → Ahead b (c ∷ t) t
 unfolding texts_after_parentheses
 past b c [] e = rw (is_no c 40 nothing e refl) refl
 past b c (d ∷ t) e = rw (is_no c 92 nothing e refl, is_no c 91 nothing e refl, is_no c 93 nothing e refl, is_no c 40 nothing e refl) refl
 
--- in a class only the closing bracket and the backslash say anything
+-- In a class, only the closing bracket and the backslash matter to the scan.
 abbrev pub nothing_there : ℕ → Bool
 nothing_there c = not (c ∈ "\\]")
 
@@ -87,7 +87,7 @@ pub says_nothing : (test : ℕ → Bool) (c : ℕ) → list_all (λ d. not (test
 says_nothing test c h e =
     ap not (false_from_ne_true (contains signs c) (λ k. true≢false (sym (inside (λ d. not (test d)) signs c h k) ∙ ap not e)))
 
--- past digits
+-- A character that passes is taken together with what is taken after it.
 pub while_more : (p : ℕ → Bool) (c : ℕ) (cs : RemainingCodePoints) → p c ≡ true → take_while p (c ∷ cs) ≡ c ∷ take_while p cs
 while_more p c cs e = rw (e, one-add) refl
 
@@ -146,14 +146,14 @@ past_extended c t e = ⊎_elim (λ f. is 123 f (past false 123 t refl)) (λ e. �
     is : (d : ℕ) → nat_eq c d ≡ true → Ahead false (d ∷ t) t → Ahead false (c ∷ t) t
     is d f h = subst (λ x. Ahead false (x ∷ t) t) (sym (eqb-true c d f)) h
 
--- behind a backslash a number has a digit
+-- The scan passes over a backslash and the number behind it.
 pub past_number : {here a there : RemainingCodePoints} {n : ℕ} → here ≡ 92 ∷ a → Digits 10 a there n → Ahead false here there
 past_number {a = []} e (digits_from k) = absurd (omega arith)
 past_number {here} {a = c ∷ cs} {there} e d = past_slash false {c = c} e ∙ sym (past false c cs (says_nothing (λ x. is_digit x 10) c refl (digit_begins d))) ∙ past_digits_of false 10 refl d
 
 -- ---- Groups
 
--- What a scan of the text passes over in a dialect: atoms without groups, and names.
+-- The scan of a text passes over the atoms without groups and the names of the dialect.
 pub record IsScanned (S : PatternDialect) : Type 0 where
   pub past_leaf : (w : PatternContext) (here there : RemainingCodePoints) (n : Node) → S.simple_atom w here there n → Ahead false here there
   pub past_name : (here there name : RemainingCodePoints) → S.group_name here there name → Ahead false here there
@@ -166,7 +166,7 @@ module _ (S : PatternDialect) where
   groups-append (opens_group e g) h = opens_group e (groups-append g h)
   groups-append (opens_named_group here there e f g) h = opens_named_group here there e f (groups-append g h)
 
-  -- from one place to another these groups open, and are found
+  -- The groups that open between two states open at the parentheses that the scan finds there.
   pub record Opens (p q : ParseState) : Type 0 where
     pub texts : List RemainingCodePoints
     pub added : List RemainingCodePoints
@@ -191,13 +191,13 @@ module _ (S : PatternDialect) where
   past_word word h {p} {q} e =
       stay (sym (ap (λ x. x.opened) e)) (ap (λ x. texts_after_parentheses false x.text) e ∙ past_all false (codes word) q.text h)
 
-  -- behind a parenthesis
+  -- The scan finds the text behind a parenthesis and goes on there.
   past_paren : (t : RemainingCodePoints) → texts_after_parentheses false (40 ∷ t) ≡ t ∷ texts_after_parentheses false t
   unfolding texts_after_parentheses
   past_paren [] = refl
   past_paren (c ∷ t) = refl
 
-  -- a parenthesis that opens no group
+  -- A parenthesis that opens no group adds no group.
   past_no_group : (word : RemainingCodePoints) → list_all nothing word ≡ true → {p q : ParseState} → p ≡ record q { text = 40 ∷ word ++ q.text } → OpensGroups S ((word ++ q.text) ∷ []) [] → Opens p q
   past_no_group word h {p} {q} e are =
       record {
@@ -267,7 +267,7 @@ module _ (S : PatternDialect) where
       opens_atom (named_group e o d f) = both (past_named e o) (both (opens_disjunction d) (past_word ")" refl f))
       opens_atom (plain_group e d f) = both (past_plain e) (both (opens_disjunction d) (past_word ")" refl f))
 
-    -- the parentheses of a pattern open its groups
+    -- The parentheses that the scan finds in a pattern open its groups.
     pub groups-found : (w : PatternContext) (pattern : RemainingCodePoints) (groups : List RemainingCodePoints) (n : Node)
         → Disjunction S w false (record { text = pattern; opened = [] }) (record { text = []; opened = groups }) n
         → OpensGroups S (texts_after_parentheses false pattern) groups

@@ -24,7 +24,7 @@ map-reverse f (x ∷ xs) =
     map-last f [] x = refl
     map-last f (y ∷ ys) x = ap (λ l. f y ∷ l) (map-last f ys x)
 
--- what holds of each member holds of all
+-- A list passes a test of all members if each member passes it.
 pub list_all-members : (p : ℕ → Bool) (xs : List ℕ) → ((x : ℕ) → contains xs x ≡ true → p x ≡ true) → list_all p xs ≡ true
 list_all-members p [] h = refl
 list_all-members p (x ∷ xs) h =

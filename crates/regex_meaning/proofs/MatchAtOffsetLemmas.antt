@@ -13,17 +13,17 @@ use Rattle.regex_meaning.specs.Laws.{MatchAtIsFirstAnswerIfThere}
 use Rattle.regex_meaning.proofs.FirstAndAllMatchesLemmas.{StandsFrom, first-unfolds, stands-first}
 use Rattle.regex_meaning.proofs.CodeUnitOffsetsLemmas.{offset-less, offset-place_at}
 
--- an answer that begins at an offset
+-- This is the answer if it begins at the offset, and nothing otherwise.
 abbrev beginning_at : (at : ℕ) → Answer → Option Answer
 beginning_at at m = if m.range.0 == at then Some m else None
 
 module _ (root : Node) (text : Text) (is : HasRisingPlaceOffsets text) where
-  -- of the match at a place
+  -- The answer of a match that starts at the place begins at its offset.
   same-start : (at p : ℕ) (m : Found) → offset text p ≡ at → m.start ≡ p → beginning_at at (answer root text m) ≡ Some (answer root text m)
   same-start at p m here start =
       ap (λ b. if b then Some (answer root text m) else None) (eq-eqb (offset text m.start) at (ap (offset text) start ∙ here))
 
-  -- of one behind it
+  -- The answer of a match that starts after the place does not begin at its offset.
   later-start : (at p : ℕ) (m : Option Found) → offset text p ≡ at → StandsFrom root text (p + 1) m
       → None ≡ option_and_then (beginning_at at) (option_map (answer root text) m)
   later-start at p None here stands = refl
@@ -31,7 +31,7 @@ module _ (root : Node) (text : Text) (is : HasRisingPlaceOffsets text) where
       let less = offset-less text p m.start is (omega (arith, stands.0)) (omega (arith, stands.1, stands.2)) in
       ap (λ b. if b then Some (answer root text m) else None) (sym (ne_eqb (offset text m.start) at (λ e. omega (arith, less, e, here))))
 
-  -- of the outcomes at a place, before what begins later
+  -- An answer at the offset comes from the outcomes at the place and not from a later match.
   of-outcomes : (at p : ℕ) (os : List Outcome) (later : Option Found) → offset text p ≡ at → StandsFrom root text (p + 1) later
       → option_map (answer root text) (first_outcome p os) ≡ option_and_then (beginning_at at) (option_map (answer root text) (option_or (first_outcome p os) later))
   of-outcomes at p [] later here stands = later-start at p later here stands

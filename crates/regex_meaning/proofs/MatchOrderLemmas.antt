@@ -11,7 +11,7 @@ use Rattle.regex_meaning.specs.Outcomes.{Groups, Outcome, outcomes}
 use Rattle.regex_meaning.specs.FirstAndAllMatches.{Found, no_groups, first_outcome, match_at, first_match, first_match_among, place_after_match, matches_from, match_list}
 use Rattle.regex_meaning.specs.MatchGroupsByNumberAndName.{Answer, answer, answers_from}
 use Rattle.regex_meaning.specs.SearchAnswers.{first_answer, next_start, answers_on, answer_then_list}
-use Rattle.regex_meaning.specs.Laws.{IsOnward, IsWithinText, IsRange, IsAnswerOf, AreAscendingDisjointAnswersFrom}
+use Rattle.regex_meaning.specs.Laws.{IsAtOrAheadInDirection, IsWithinText, IsRangeOfWholeCharacters, IsWellFormedAnswerFor, AreAscendingDisjointAnswersFrom}
 use Rattle.regex_meaning.proofs.EachElementLemmas.{Each, Each-map, Each-image, Each-set, Each-replicate}
 use Rattle.regex_meaning.proofs.FirstAndAllMatchesLemmas.{StandsFrom, stands-first, if-cases}
 use Rattle.regex_meaning.proofs.OutcomeInvariantLemmas.{AreKept, outcomes-states}
@@ -19,7 +19,7 @@ use Rattle.regex_meaning.proofs.CodeUnitOffsetsLemmas.{offset-less, offset-le, p
 use Rattle.regex_meaning.proofs.SearchAnswersLemmas.{answers-go_on}
 use Rattle.std.proofs.lemmas.Bool.{ltb-true}
 
--- ---- What outcomes keep
+-- ---- Facts that outcomes keep
 
 module _ (text : Text) where
   count-kept : (n : ℕ) → AreKept text (λ place. Unit {0}) (λ groups. length groups ≡ n)
@@ -35,7 +35,7 @@ module _ (text : Text) where
       Each-map _ _ (λ o s. s.1) (outcomes text node d place groups)
       (outcomes-states text (λ p. Unit {0}) (λ g. length g ≡ length groups) (count-kept (length groups)) node d place groups tt refl)
 
-  inside-onward : (d : Direction) (a b : ℕ) → IsOnward text d a b → a ≤ last_place text → b ≤ last_place text
+  inside-onward : (d : Direction) (a b : ℕ) → IsAtOrAheadInDirection text d a b → a ≤ last_place text → b ≤ last_place text
   inside-onward rightwards a b on h = omega arith
   inside-onward leftwards a b on h = omega arith
 
@@ -53,7 +53,7 @@ module _ (text : Text) where
 -- ---- Matches
 
 module _ (root : Node) (text : Text) where
-  -- the groups of a match
+  -- The groups are as many as the groups of the tree, and each is within the text.
   abbrev pub HasGroups : Groups → Type 0
   HasGroups groups = (length groups ≡ length (group_ids root)) × Each (IsWithinText text) groups
 
@@ -91,7 +91,7 @@ module _ (root : Node) (text : Text) where
   found-first : (place : ℕ) → HasFound (first_match root text place)
   found-first place = found-among (last_place text + 1 - place) place (omega arith)
 
-  -- matches in order, each within the text and with its groups
+  -- The matches are in order, and each is within the text and has the groups of the tree.
   abbrev pub InOrder : (from : ℕ) → List Found → Type 0
   InOrder from [] = Unit {0}
   InOrder from (m ∷ ms) =
@@ -101,7 +101,7 @@ module _ (root : Node) (text : Text) where
   order-lower low from [] le h = tt
   order-lower low from (m ∷ ms) le h = (omega arith, h.1, h.2, h.3, h.4)
 
-  -- where the list goes on, it goes on behind the start and not before the end
+  -- The next place, if there is one, is after the start and not before the end of the match.
   abbrev GoesBehind : Found → Option ℕ → Type 0
   GoesBehind m None = Unit {0}
   GoesBehind m (Some next) = (m.start < next) × (m.end ≤ next)
@@ -140,26 +140,26 @@ module _ (root : Node) (text : Text) where
 -- ---- Answers
 
 module _ (root : Node) (text : Text) (is : HasRisingPlaceOffsets text) where
-  -- a range of places is a range of characters
-  range-IsRange : (a b : ℕ) → a ≤ b → b ≤ last_place text → IsRange text (offset text a, offset text b)
-  range-IsRange a b le inside =
+  -- A range of places is a range of characters.
+  range-IsRangeOfWholeCharacters : (a b : ℕ) → a ≤ b → b ≤ last_place text → IsRangeOfWholeCharacters text (offset text a, offset text b)
+  range-IsRangeOfWholeCharacters a b le inside =
       (offset-le text a b is le inside, offset-IsBoundary text a is (omega arith), offset-IsBoundary text b is inside)
 
-  group-IsRange : (g : Option (ℕ × ℕ)) → IsWithinText text g → IfSome (option_map (λ (r : ℕ × ℕ). (offset text r.0, offset text r.1)) g) (IsRange text)
-  group-IsRange None h = tt
-  group-IsRange (Some r) h = range-IsRange r.0 r.1 h.0 h.1
+  group-IsRangeOfWholeCharacters : (g : Option (ℕ × ℕ)) → IsWithinText text g → IfSome (option_map (λ (r : ℕ × ℕ). (offset text r.0, offset text r.1)) g) (IsRangeOfWholeCharacters text)
+  group-IsRangeOfWholeCharacters None h = tt
+  group-IsRangeOfWholeCharacters (Some r) h = range-IsRangeOfWholeCharacters r.0 r.1 h.0 h.1
 
-  answer-IsAnswerOf : (m : Found) → m.start ≤ m.end → m.end ≤ last_place text → HasGroups root text m.groups
-      → IsAnswerOf root text (answer root text m)
-  answer-IsAnswerOf m le inside g = record {
-    whole = range-IsRange m.start m.end le inside;
-    groups = Each-image (IsWithinText text) (λ c. IfSome c (IsRange text)) (option_map (λ r. (offset text r.0, offset text r.1))) group-IsRange m.groups g.1;
+  answer-IsWellFormedAnswerFor : (m : Found) → m.start ≤ m.end → m.end ≤ last_place text → HasGroups root text m.groups
+      → IsWellFormedAnswerFor root text (answer root text m)
+  answer-IsWellFormedAnswerFor m le inside g = record {
+    whole = range-IsRangeOfWholeCharacters m.start m.end le inside;
+    groups = Each-image (IsWithinText text) (λ c. IfSome c (IsRangeOfWholeCharacters text)) (option_map (λ r. (offset text r.0, offset text r.1))) group-IsRangeOfWholeCharacters m.groups g.1;
     count = length-map m.groups (option_map (λ r. (offset text r.0, offset text r.1))) ∙ g.0;
   }
 
-  answers-are : (from : ℕ) (ms : List Found) → InOrder root text from ms → Each (IsAnswerOf root text) (map (answer root text) ms)
+  answers-are : (from : ℕ) (ms : List Found) → InOrder root text from ms → Each (IsWellFormedAnswerFor root text) (map (answer root text) ms)
   answers-are from [] h = tt
-  answers-are from (m ∷ ms) h = (answer-IsAnswerOf m h.1 h.2 h.3, answers-are (max (m.start + 1) m.end) ms h.4)
+  answers-are from (m ∷ ms) h = (answer-IsWellFormedAnswerFor m h.1 h.2 h.3, answers-are (max (m.start + 1) m.end) ms h.4)
 
   answers-in_order : (from low : ℕ) (ms : List Found) → InOrder root text from ms
       → ((p : ℕ) → from ≤ p → p ≤ last_place text → low ≤ offset text p) → AreAscendingDisjointAnswersFrom low (map (answer root text) ms)
@@ -173,7 +173,7 @@ module _ (root : Node) (text : Text) (is : HasRisingPlaceOffsets text) where
         omega arith),
   )
 
-  -- what holds of the answers of each match list holds of the answers from an offset
+  -- What holds of no answers and of those of each match list holds of the answers from an offset.
   from-lists : (P : List Answer → Type 0) → P [] → (start : ℕ)
       → ((p : ℕ) → offset text p ≡ start → p ≤ last_place text → P (map (answer root text) (match_list root text p)))
       → (at : Option ℕ) → place_at text start ≡ at → P (answers_from root text start)
@@ -181,9 +181,9 @@ module _ (root : Node) (text : Text) (is : HasRisingPlaceOffsets text) where
   from-lists P none start some None e = rw e none
   from-lists P none start some (Some p) e = let o = offset-place_at text start p is e in rw e (some p o.0 o.1)
 
-  pub answers-IsAnswerOf : (start : ℕ) → Each (IsAnswerOf root text) (answers_from root text start)
-  answers-IsAnswerOf start =
-      from-lists (λ ms. Each (IsAnswerOf root text) ms) tt start
+  pub answers-IsWellFormedAnswerFor : (start : ℕ) → Each (IsWellFormedAnswerFor root text) (answers_from root text start)
+  answers-IsWellFormedAnswerFor start =
+      from-lists (λ ms. Each (IsWellFormedAnswerFor root text) ms) tt start
       (λ p o inside. answers-are p (match_list root text p) (match_list-order root text p)) (place_at text start) refl
 
   pub answers-StandInOrder : (start : ℕ) → AreAscendingDisjointAnswersFrom start (answers_from root text start)
@@ -218,7 +218,7 @@ module _ (root : Node) (text : Text) (is : HasRisingPlaceOffsets text) where
   resume-from a None e less = absurd (cc e)
   resume-from a (Some p) e less = resume-behind p a (first_match root text p) (stands-first root text p) e less
 
-  -- behind a match that is not empty the list goes on at its end
+  -- After a match that is not empty, the next start is the end of the match.
   pub next_start-moved : (start : ℕ) (a : Answer) → first_answer root text start ≡ Some a → a.range.0 < a.range.1
       → next_start root text start ≡ Some a.range.1
   next_start-moved start a e less = resume-from a (place_at text start) e less

@@ -6,7 +6,7 @@ use Rattle.regex_meaning.specs.MatchGroupsByNumberAndName.{Answer, named_group, 
 use Rattle.regex_meaning.proofs.EachElementLemmas.{Each-if, Each-image}
 
 module _ (m : Answer) where
-  -- the name's group is the first one that matched, as it is for a name that is not empty
+  -- The range of the name is the range of the first group of that name that matched.
   abbrev IsFirst : List ℕ → Type 0
   IsFirst name = named_group m name ≡ first_range m (ids_named m name)
 

@@ -5,11 +5,11 @@ use Rattle.regex_meaning.specs.Tree.{Tree}
 use Rattle.regex_meaning.specs.Text.{Text, last_place}
 use Rattle.regex_meaning.specs.FirstAndAllMatches.{Found, first_match, place_after_match}
 use Rattle.regex_meaning.specs.OutcomesWithStepTicks.{need, needs_from}
-use Rattle.regex_meaning.specs.Laws.{needs_on, needs_after_match}
+use Rattle.regex_meaning.specs.Laws.{step_needs_from_optional_place, needs_after_match}
 use Rattle.regex_meaning.proofs.FirstAndAllMatchesLemmas.{StandsFrom, stands-first, GoesOnInside, goes-inside}
 
 module _ (tree : Tree) (text : Text) where
-  -- the needs behind a match, where at most so many are left
+  -- These are the needs after a match, if the search goes on at most `count` times.
   abbrev behind : (count spent : ℕ) → Option Found → List ℕ
   behind count spent m = option_map_or (λ n. needs_from tree text count spent (place_after_match tree.root text n)) m []
 
@@ -30,7 +30,7 @@ module _ (tree : Tree) (text : Text) where
   same-needs place a b spent h None s = refl
   same-needs place a b spent h (Some m) s = same-behind place a b spent h (place_after_match tree.root text m) (goes-inside tree.root text place m s)
 
-  -- more than places are left changes nothing
+  -- Counts that exceed the places left give the same needs.
   enough : (a b spent place : ℕ) → place ≤ last_place text → last_place text < place + a → last_place text < place + b
       → needs_from tree text a spent (Some place) ≡ needs_from tree text b spent (Some place)
   enough zero b spent place inside h k = absurd (omega arith)
@@ -46,12 +46,12 @@ module _ (tree : Tree) (text : Text) where
   behind-unfolds place spent None s = refl
   behind-unfolds place spent (Some m) s = go (place_after_match tree.root text m) (goes-inside tree.root text place m s)
     where
-      go : (next : Option ℕ) → GoesOnInside tree.root text place next → needs_from tree text (last_place text) spent next ≡ needs_on tree text spent next
+      go : (next : Option ℕ) → GoesOnInside tree.root text place next → needs_from tree text (last_place text) spent next ≡ step_needs_from_optional_place tree text spent next
       go None g = end-only (last_place text) spent
       go (Some next) g = enough (last_place text) (last_place text + 1) spent next g.1 (omega arith) (omega arith)
 
   pub needs-unfold : (spent place : ℕ)
-      → needs_on tree text spent (Some place)
+      → step_needs_from_optional_place tree text spent (Some place)
       ≡ (spent + need tree text place) ∷ needs_after_match tree text (spent + need tree text place) (first_match tree.root text place)
   needs-unfold spent place =
       ap (λ (count : ℕ). needs_from tree text count spent (Some place)) (add-one (last_place text))

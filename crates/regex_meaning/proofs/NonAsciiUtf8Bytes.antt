@@ -11,11 +11,11 @@ module _ (f : ℕ → List ℕ) (beyond : (byte : ℕ) → 128 ≤ byte → f by
   stays-cons : (byte : ℕ) (bytes : List ℕ) → 128 ≤ byte → stays bytes → stays (byte ∷ bytes)
   stays-cons byte bytes le h = ap₂ (λ a b. a ++ b) (beyond byte le) h
 
-  -- a byte behind the first one of a character, by its bits
+  -- A byte behind the first one of a character is 128 plus the lowest six of these bits.
   abbrev next : ℕ → ℕ
   next bits = 128 + bits % 64
 
-  -- the bytes of a character that has two, three or four of them
+  -- The bytes of a character that has two, three or four of them stay.
   stays-by : (c : ℕ) (two three : Bool)
       → stays (if two then (192 + c / 64) ∷ next c ∷ []
       else if three then (224 + c / 4096) ∷ next (c / 64) ∷ next c ∷ []

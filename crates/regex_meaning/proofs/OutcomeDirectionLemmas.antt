@@ -8,7 +8,7 @@ use Rattle.regex_meaning.specs.Tree.{back_ref, lookaround, loop, loop_1_char_bod
 use Rattle.regex_meaning.specs.Text.{Text, Direction, rightwards, leftwards, characters_ahead, moved, next_character}
 use Rattle.regex_meaning.specs.Outcomes.{Groups, Outcome, Repetition, bounded_repeat, outcomes, passes_empty_check, preferred, captured, cleared, is_some_and}
 use Rattle.regex_meaning.specs.Outcomes.{one_character, spelled, is_case_variant, backref_outcomes, empty_match_if, lookaround_outcomes}
-pub use Rattle.regex_meaning.specs.Laws.{IsOnward}
+pub use Rattle.regex_meaning.specs.Laws.{IsAtOrAheadInDirection}
 use Rattle.regex_meaning.proofs.EachElementLemmas.{Each, Each-append, Each-if, Each-when, Each-filter, Each-map, Each-flat_map, Each-image}
 
 slice_get-below : (test : ℕ → Bool) (xs : List ℕ) (i : ℕ) → is_some_and (slice_get xs i) test ≡ true → i < length xs
@@ -21,21 +21,21 @@ passed-left true b h = tt
 passed-left false b h = grind arith
 
 module _ (text : Text) where
-  pub IsOnward-refl : (d : Direction) (a : ℕ) → IsOnward text d a a
-  IsOnward-refl rightwards a = (omega arith, omega arith)
-  IsOnward-refl leftwards a = (omega arith, tt)
+  pub IsAtOrAheadInDirection-refl : (d : Direction) (a : ℕ) → IsAtOrAheadInDirection text d a a
+  IsAtOrAheadInDirection-refl rightwards a = (omega arith, omega arith)
+  IsAtOrAheadInDirection-refl leftwards a = (omega arith, tt)
 
-  pub IsOnward-trans : (d : Direction) (a b c : ℕ) → IsOnward text d a b → IsOnward text d b c → IsOnward text d a c
-  IsOnward-trans rightwards a b c h k = (omega arith, omega arith)
-  IsOnward-trans leftwards a b c h k = (omega arith, tt)
+  pub IsAtOrAheadInDirection-trans : (d : Direction) (a b c : ℕ) → IsAtOrAheadInDirection text d a b → IsAtOrAheadInDirection text d b c → IsAtOrAheadInDirection text d a c
+  IsAtOrAheadInDirection-trans rightwards a b c h k = (omega arith, omega arith)
+  IsAtOrAheadInDirection-trans leftwards a b c h k = (omega arith, tt)
 
   abbrev pub AllOnward : Direction → ℕ → List Outcome → Type 0
-  AllOnward d a os = Each (λ o. IsOnward text d a o.end) os
+  AllOnward d a os = Each (λ o. IsAtOrAheadInDirection text d a o.end) os
 
   pub here-onward : (d : Direction) (place : ℕ) (groups : Groups) → AllOnward d place (record { end = place; groups = groups } ∷ [])
-  here-onward d place groups = (IsOnward-refl d place, tt)
+  here-onward d place groups = (IsAtOrAheadInDirection-refl d place, tt)
 
-  moved-onward : (d : Direction) (n place : ℕ) → n ≤ characters_ahead text d place → IsOnward text d place (moved text d n place)
+  moved-onward : (d : Direction) (n place : ℕ) → n ≤ characters_ahead text d place → IsAtOrAheadInDirection text d place (moved text d n place)
   moved-onward rightwards n place h = (omega arith, omega arith)
   moved-onward leftwards n place h = (omega arith, tt)
 
@@ -49,12 +49,12 @@ module _ (text : Text) where
   pub one_character-onward : (test : ℕ → Bool) (d : Direction) (place : ℕ) (groups : Groups)
       → AllOnward d place (one_character text test d place groups)
   one_character-onward test d place groups =
-      Each-when (λ (o : Outcome). IsOnward text d place o.end) _ _ (λ h. moved-onward d 1 place (next_character-left test d place h))
+      Each-when (λ (o : Outcome). IsAtOrAheadInDirection text d place o.end) _ _ (λ h. moved-onward d 1 place (next_character-left test d place h))
 
   pub spelled-onward : (same : ℕ → ℕ → Bool) (cs : List ℕ) (d : Direction) (place : ℕ) (groups : Groups)
       → AllOnward d place (spelled text same cs d place groups)
   spelled-onward same cs d place groups =
-      Each-when (λ (o : Outcome). IsOnward text d place o.end) _ _ (λ h. moved-onward d (length cs) place (leb→le _ _ (passed-left _ _ h)))
+      Each-when (λ (o : Outcome). IsAtOrAheadInDirection text d place o.end) _ _ (λ h. moved-onward d (length cs) place (leb→le _ _ (passed-left _ _ h)))
 
   pub same_as_group-onward : (sameness : Sameness) (range : Option (ℕ × ℕ)) (d : Direction) (place : ℕ) (groups : Groups)
       → AllOnward d place (backref_outcomes text sameness range d place groups)
@@ -83,14 +83,14 @@ module _ (text : Text) where
   preferred-onward true d place again leave h k = Each-append _ again leave h k
   preferred-onward false d place again leave h k = Each-append _ leave again k h
 
-  -- what follows an outcome that goes on goes on from the place before it too
+  -- If outcomes go on from a place and the next ones from them, the next go on from the place.
   then-onward : (d : Direction) (place : ℕ) (os : List Outcome) (next : Outcome → List Outcome)
       → AllOnward d place os → ((o : Outcome) → AllOnward d o.end (next o)) → AllOnward d place (flat_map next os)
   then-onward d place os next h k =
-      Each-flat_map (λ o. IsOnward text d place o.end) (λ o. IsOnward text d place o.end) next
-      (λ o g. Each-map _ _ (λ p i. IsOnward-trans d place o.end p.end g i) (next o) (k o)) os h
+      Each-flat_map (λ o. IsAtOrAheadInDirection text d place o.end) (λ o. IsAtOrAheadInDirection text d place o.end) next
+      (λ o g. Each-map _ _ (λ p i. IsAtOrAheadInDirection-trans d place o.end p.end g i) (next o) (k o)) os h
 
-  -- the iterations of the loop go on
+  -- Each iteration of the loop goes on in the direction.
   abbrev pub BodyOnward : Direction → Repetition Outcome → Type 0
   BodyOnward d r = (place : ℕ) (groups : Groups) → AllOnward d place (r.body place groups)
 
@@ -99,7 +99,7 @@ module _ (text : Text) where
   unfolding bounded_repeat
   rounds-onward d r b zero k place groups = tt
   rounds-onward d r b (suc turns) k place groups =
-      let IsOn = λ (o : Outcome). IsOnward text d place o.end in
+      let IsOn = λ (o : Outcome). IsAtOrAheadInDirection text d place o.end in
       let bodies = filter (passes_empty_check r k place) (r.body place groups) in
       let again = flat_map (λ (o : Outcome). bounded_repeat r turns (k + 1) o.end o.groups) bodies in
       let leave : List Outcome = record { end = place; groups = groups } ∷ [] in

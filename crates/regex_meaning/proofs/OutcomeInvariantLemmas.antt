@@ -8,14 +8,14 @@ use Rattle.regex_meaning.specs.Tree.{loop_1_char_body}
 use Rattle.regex_meaning.specs.Text.{Text, Direction}
 use Rattle.regex_meaning.specs.Outcomes.{Groups, Outcome, Repetition, bounded_repeat, outcomes, passes_empty_check, preferred, captured, cleared, one_character, spelled}
 use Rattle.regex_meaning.specs.Outcomes.{is_case_variant, backref_outcomes, empty_match_if, lookaround_outcomes, direction_of}
-use Rattle.regex_meaning.specs.Laws.{IsOnward}
+use Rattle.regex_meaning.specs.Laws.{IsAtOrAheadInDirection}
 use Rattle.regex_meaning.proofs.EachElementLemmas.{Each, Each-append, Each-if, Each-filter, Each-flat_map, Each-image}
 use Rattle.regex_meaning.proofs.OutcomeDirectionLemmas.{one_character-onward, spelled-onward}
 
--- A fact of places that lasts where a search goes on, and a fact of groups that lasts where they are cleared and set
--- to such places.
+-- The fact of places lasts where a search goes on, and the fact of groups lasts where groups are
+-- cleared and set to such places.
 pub record AreKept (text : Text) (P : ℕ → Type 0) (G : Groups → Type 0) : Type 0 where
-  pub onward : (d : Direction) (a b : ℕ) → IsOnward text d a b → P a → P b
+  pub onward : (d : Direction) (a b : ℕ) → IsAtOrAheadInDirection text d a b → P a → P b
   pub cleared : (id : ℕ) (groups : Groups) → G groups → G (slice_set groups id None)
   pub set : (id a b : ℕ) (groups : Groups) → P a → P b → G groups → G (slice_set groups id (Some (min a b, max a b)))
 
@@ -42,21 +42,21 @@ module _ (text : Text) (P : ℕ → Type 0) (G : Groups → Type 0) (kept : AreK
   here_if-states true place groups p g = here-state place groups p g
   here_if-states false place groups p g = tt
 
-  -- an outcome onward with the same groups
-  onward-state : (d : Direction) (place : ℕ) (groups : Groups) → P place → G groups → (end : ℕ) → IsOnward text d place end
+  -- An outcome further on with the same groups is a state.
+  onward-state : (d : Direction) (place : ℕ) (groups : Groups) → P place → G groups → (end : ℕ) → IsAtOrAheadInDirection text d place end
       → IsState (record { end = end; groups = groups })
   onward-state d place groups p g end on = (kept.onward d place end on p, g)
 
   one_character-states : (test : ℕ → Bool) (d : Direction) (place : ℕ) (groups : Groups) → P place → G groups
       → AreStates (one_character text test d place groups)
   one_character-states test d place groups p g =
-      Each-if_one (λ o. IsOnward text d place o.end) IsState _ _ (λ on. onward-state d place groups p g _ on)
+      Each-if_one (λ o. IsAtOrAheadInDirection text d place o.end) IsState _ _ (λ on. onward-state d place groups p g _ on)
       (one_character-onward text test d place groups)
 
   spelled-states : (same : ℕ → ℕ → Bool) (cs : List ℕ) (d : Direction) (place : ℕ) (groups : Groups) → P place → G groups
       → AreStates (spelled text same cs d place groups)
   spelled-states same cs d place groups p g =
-      Each-if_one (λ o. IsOnward text d place o.end) IsState _ _ (λ on. onward-state d place groups p g _ on)
+      Each-if_one (λ o. IsAtOrAheadInDirection text d place o.end) IsState _ _ (λ on. onward-state d place groups p g _ on)
       (spelled-onward text same cs d place groups)
 
   strings-states : (icase : Bool) (strings : List (List ℕ)) (d : Direction) (place : ℕ) (groups : Groups) → P place → G groups
@@ -85,7 +85,7 @@ module _ (text : Text) (P : ℕ → Type 0) (G : Groups → Type 0) (kept : AreK
   preferred-states true again leave h k = Each-append IsState again leave h k
   preferred-states false again leave h k = Each-append IsState leave again k h
 
-  -- each iteration of the loop gives states
+  -- Each iteration of the loop from a state gives states.
   abbrev BodyStates : Repetition Outcome → Type 0
   BodyStates r = (place : ℕ) (groups : Groups) → P place → G groups → AreStates (r.body place groups)
 
@@ -105,7 +105,7 @@ module _ (text : Text) (P : ℕ → Type 0) (G : Groups → Type 0) (kept : AreK
       (Each-if IsState (nat_lt k r.most) again [] again_are tt)
       (Each-if IsState (nat_le r.least k) leave [] (here-state place groups p g) tt)
 
-  -- from a state, the outcomes of a node are states
+  -- From a state, the outcomes of a node are states.
   pub outcomes-states : (node : Node) (d : Direction) (place : ℕ) (groups : Groups) → P place → G groups
       → AreStates (outcomes text node d place groups)
   unfolding outcomes

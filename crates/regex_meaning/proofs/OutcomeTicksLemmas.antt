@@ -17,7 +17,7 @@ use Rattle.regex_meaning.proofs.ListLemmas.{flat_map-same}
 
 -- ---- Lists
 
--- a list for each kept element is a list for each, with nothing where it is dropped
+-- A flat map that gives nothing for dropped elements is the flat map of the kept elements.
 flat_map-filter : (kept : Outcome → Bool) (f : Outcome → List Outcome) (xs : List Outcome)
     → flat_map (λ o. if kept o then f o else []) xs ≡ flat_map f (filter kept xs)
 flat_map-filter kept f [] = refl
@@ -122,7 +122,7 @@ module _ (text : Text) where
         pairs-ticked_strings icase (t ∷ more) d place groups,
       )
 
-  -- the pairs of the list with ticks are the outcomes
+  -- Without its ticks, the list with ticks is the list of outcomes.
   pub pairs-ticked : (node : Node) (d : Direction) (place : ℕ) (groups : Groups)
       → outcomes_without_ticks (ticked text node d place groups) ≡ outcomes text node d place groups
   unfolding ticked outcomes

@@ -9,7 +9,7 @@ use Rattle.regex_meaning.specs.Tree.{Sameness, by_case}
 use Rattle.regex_meaning.specs.Tree.{match_any_except_line_terminator, capture_group, lookaround}
 use Rattle.regex_meaning.specs.Text.{expand_code_point, fold_code_point, code_points_with_fold, to_ascii_uppercase, to_ascii_lowercase}
 use Rattle.regex_meaning.specs.WellFormedTrees.{is_min_at_most_max, number_of_goal_nodes}
-use Rattle.regex_meaning.specs.ReadingStatesAndDigits.{RemainingCodePoints, ParseState, PatternContext, groups_at, arm, sequence_node}
+use Rattle.regex_meaning.specs.ReadingStatesAndDigits.{RemainingCodePoints, ParseState, PatternContext, number_of_opened_groups, arm, sequence_node}
 use Rattle.regex_meaning.specs.EscapesNamesQuantifiers.{ValidQuantifier, greedy, lazy}
 use Rattle.regex_meaning.specs.Grammar.{character_node, SimpleAtom, pattern_character, extended_character, any_character, decimal_escape, named_reference}
 use Rattle.regex_meaning.specs.Grammar.{character_escape, character_class_escape, character_class, Disjunction, Alternative, Term, Assertion, Atom}
@@ -35,7 +35,7 @@ leaf-if : (greatest : ℕ) (b : Bool) (x y : Node) → IsWellFormedGrouplessSubt
 leaf-if greatest true x y h k = h
 leaf-if greatest false x y h k = k
 
--- a code point has at most three case variants
+-- A code point expands to at most four code points.
 pub few_members : (c : ℕ) (icase unicode : Bool) → length (expand_code_point c icase unicode) ≤ 4
 unfolding expand_code_point
 few_members c false unicode = omega arith
@@ -93,7 +93,7 @@ leaf-is w (character_escape {c = c} e d) = leaf-character (groups_in w) w.flags 
 leaf-is w (character_class_escape e f s) = record { goals = refl; ids = refl; sound = refl }
 leaf-is w (character_class e d) = record { goals = refl; ids = refl; sound = refl }
 
--- in a dialect each atom without groups is a sound tree
+-- Each atom without groups of the dialect is a well-formed subtree without groups.
 abbrev pub AtomsAreSound : (S : PatternDialect) → Type 0
 AtomsAreSound S = (w : PatternContext) (here there : RemainingCodePoints) (n : Node) → S.simple_atom w here there n → IsWellFormedGrouplessSubtree (groups_in w) n
 
@@ -137,15 +137,15 @@ arm-more true first middle last greatest n ns h k =
     subst (λ x. IsSoundSubtreeWithGroupIds first last greatest (sequence_node x)) (sym (reverse-append (n ∷ []) ns))
     (part-joined first middle last greatest (sequence_node (reverse ns ++ n ∷ [])) n (sequence_node (reverse ns)) (joined-snoc (reverse ns) n) h k)
 
--- ---- From one place to another
+-- ---- Parts from one state to another
 
 in-order : {here there : RemainingCodePoints} {q : Quantifier} → ValidQuantifier here there q → is_min_at_most_max q ≡ true
 in-order (greedy h e o) = o
 in-order (lazy h e o) = o
 
--- the part of a tree that is read from one place to another
+-- The part of a tree that is read between two states is sound and has the groups that open there.
 abbrev pub Reads : PatternContext → ParseState → ParseState → Node → Type 0
-Reads w p q n = IsSoundSubtreeWithGroupIds (groups_at p) (groups_at q) (groups_in w) n
+Reads w p q n = IsSoundSubtreeWithGroupIds (number_of_opened_groups p) (number_of_opened_groups q) (groups_in w) n
 
 between : (greatest : ℕ) {a b c d : ℕ} {n : Node} → a ≡ b → c ≡ d → IsSoundSubtreeWithGroupIds b c greatest n → IsSoundSubtreeWithGroupIds a d greatest n
 between greatest {b = b} {d = d} {n = n} e f h = subst (λ x. IsSoundSubtreeWithGroupIds x d greatest n) (sym e) (subst (λ x. IsSoundSubtreeWithGroupIds b x greatest n) f h)
@@ -163,40 +163,40 @@ module _ (S : PatternDialect) (sound : AtomsAreSound S) where
     pub part-disjunction : {w : PatternContext} {in_lookbehind : Bool} {p q : ParseState} {n : Node} → Disjunction S w in_lookbehind p q n → Reads w p q n
     part-disjunction (last_alternative a) = part-alternative a
     part-disjunction {w} (alternatives {p = p} {q = q} {r = r} {t = t} a bar d) =
-        part-joined (groups_at p) (groups_at q) (groups_at t) (groups_in w) _ _ _ (joined-alt _ _) (part-alternative a) (between (groups_in w) (ap groups_at bar) refl (part-disjunction d))
+        part-joined (number_of_opened_groups p) (number_of_opened_groups q) (number_of_opened_groups t) (groups_in w) _ _ _ (joined-alt _ _) (part-alternative a) (between (groups_in w) (ap number_of_opened_groups bar) refl (part-disjunction d))
 
     part-alternative : {w : PatternContext} {in_lookbehind : Bool} {p q : ParseState} {ns : List Node} → Alternative S w in_lookbehind p q ns → Reads w p q (arm in_lookbehind ns)
-    part-alternative {w} (no_terms {in_lookbehind = in_lookbehind} {p = p}) = arm-none in_lookbehind (groups_at p) (groups_in w)
+    part-alternative {w} (no_terms {in_lookbehind = in_lookbehind} {p = p}) = arm-none in_lookbehind (number_of_opened_groups p) (groups_in w)
     part-alternative {w} (terms {in_lookbehind = in_lookbehind} {p = p} {q = q} {r = r} {n = n} {ns = ns} t a) =
-        arm-more in_lookbehind (groups_at p) (groups_at q) (groups_at r) (groups_in w) n ns (part-term t) (part-alternative a)
+        arm-more in_lookbehind (number_of_opened_groups p) (number_of_opened_groups q) (number_of_opened_groups r) (groups_in w) n ns (part-term t) (part-alternative a)
 
     part-term : {w : PatternContext} {in_lookbehind : Bool} {p q : ParseState} {n : Node} → Term S w in_lookbehind p q n → Reads w p q n
     part-term (assertion a k) = part-assertion a
     part-term {w} (repeated_assertion {p = p} {q = q} {l = l} {n = n} {quantifier = quantifier} a may k) =
-        part-loop (groups_at p) (groups_at q) (groups_in w) quantifier (lookaround l n) (in-order k) (part-assertion a)
+        part-loop (number_of_opened_groups p) (number_of_opened_groups q) (groups_in w) quantifier (lookaround l n) (in-order k) (part-assertion a)
     part-term (atom a k) = part-atom a
     part-term {w} (quantified {p = p} {q = q} {n = n} {quantifier = quantifier} a k) =
-        part-loop (groups_at p) (groups_at q) (groups_in w) quantifier n (in-order k) (part-atom a)
+        part-loop (number_of_opened_groups p) (number_of_opened_groups q) (groups_in w) quantifier n (in-order k) (part-atom a)
 
     part-assertion : {w : PatternContext} {p q : ParseState} {n : Node} → Assertion S w p q n → Reads w p q n
-    part-assertion {w} (start e) = leaf-between (groups_in w) (ap groups_at e) (record { goals = refl; ids = refl; sound = refl })
-    part-assertion {w} (end e) = leaf-between (groups_in w) (ap groups_at e) (record { goals = refl; ids = refl; sound = refl })
-    part-assertion {w} (boundary invert e) = leaf-between (groups_in w) (ap groups_at e) (record { goals = refl; ids = refl; sound = refl })
+    part-assertion {w} (start e) = leaf-between (groups_in w) (ap number_of_opened_groups e) (record { goals = refl; ids = refl; sound = refl })
+    part-assertion {w} (end e) = leaf-between (groups_in w) (ap number_of_opened_groups e) (record { goals = refl; ids = refl; sound = refl })
+    part-assertion {w} (boundary invert e) = leaf-between (groups_in w) (ap number_of_opened_groups e) (record { goals = refl; ids = refl; sound = refl })
     part-assertion {w} (look {p = p} {t = t} {n = n} negate backwards e d f) =
-        part-lookaround (groups_at p) (groups_at t) (groups_in w) negate backwards n (between (groups_in w) (ap groups_at e) (ap groups_at f) (part-disjunction d))
+        part-lookaround (number_of_opened_groups p) (number_of_opened_groups t) (groups_in w) negate backwards n (between (groups_in w) (ap number_of_opened_groups e) (ap number_of_opened_groups f) (part-disjunction d))
 
     part-atom : {w : PatternContext} {in_lookbehind : Bool} {p q : ParseState} {n : Node} → Atom S w in_lookbehind p q n → Reads w p q n
-    part-atom {w} (leaf {p = p} {n = n} a) = part-leaf (groups_at p) (groups_in w) n (sound w _ _ _ a)
-    part-atom {w} (group {q = q} e o d f) = group-between (groups_in w) q.opened [] (ap groups_at e) (ap groups_at f) (part-disjunction d)
-    part-atom {w} (named_group {q = q} {name = name} e g d f) = group-between (groups_in w) q.opened name (ap groups_at e) (ap groups_at f) (part-disjunction d)
-    part-atom {w} (plain_group e d f) = between (groups_in w) (ap groups_at e) (ap groups_at f) (part-disjunction d)
+    part-atom {w} (leaf {p = p} {n = n} a) = part-leaf (number_of_opened_groups p) (groups_in w) n (sound w _ _ _ a)
+    part-atom {w} (group {q = q} e o d f) = group-between (groups_in w) q.opened [] (ap number_of_opened_groups e) (ap number_of_opened_groups f) (part-disjunction d)
+    part-atom {w} (named_group {q = q} {name = name} e g d f) = group-between (groups_in w) q.opened name (ap number_of_opened_groups e) (ap number_of_opened_groups f) (part-disjunction d)
+    part-atom {w} (plain_group e d f) = between (groups_in w) (ap number_of_opened_groups e) (ap number_of_opened_groups f) (part-disjunction d)
 
 -- ---- The whole pattern
 
 pub ids-within : (id groups : ℕ) → one_if_id_within 0 groups id ≡ (if nat_lt id groups then 1 else 0)
 ids-within id groups = rw (le-leb 0 id (omega arith)) refl
 
--- in any such dialect the tree has as many groups as have opened, and each number below that once
+-- With sound atoms, the tree has as many groups as have opened, and each id below that once.
 pub counted-by : (S : PatternDialect) (sound : AtomsAreSound S) (w : PatternContext) (pattern : RemainingCodePoints) (n : Node)
     → Disjunction S w false (record { text = pattern; opened = [] }) (record { text = []; opened = w.groups }) n
     → (length (group_ids (cat n (cat goal end_of_cat))) ≡ length w.groups)
@@ -213,7 +213,7 @@ scan_counts_pattern_groups flags pattern t (pattern_is {n = n} groups d distinct
     let found : length groups ≡ length (scanned_names_per_capturing_group false pattern) = ap length (scan_finds_opened_group_names w pattern groups n d) in
     (c.0 ∙ found, λ id. c.1 id ∙ ap (λ m. if nat_lt id m then 1 else 0) found)
 
--- in any such dialect the tree is well formed
+-- With sound atoms, the tree is well formed and has no byte nodes and no char loops.
 pub well-formed-by : (S : PatternDialect) (sound : AtomsAreSound S) (w : PatternContext) (pattern : RemainingCodePoints) (n : Node)
     → Disjunction S w false (record { text = pattern; opened = [] }) (record { text = []; opened = w.groups }) n
     → IsWellFormed (cat n (cat goal end_of_cat)) × (tree_contains_byte_nodes (cat n (cat goal end_of_cat)) ≡ false) × IsTrue (has_no_char_loops (cat n (cat goal end_of_cat)))

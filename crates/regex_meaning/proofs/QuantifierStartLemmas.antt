@@ -7,7 +7,7 @@ abbrev pub head : RemainingCodePoints → ℕ
 head [] = 0
 head (c ∷ cs) = c
 
--- a quantifier begins with one of four characters
+-- The prefix of a quantifier begins with one of four characters.
 pub begins_prefix : {here there : RemainingCodePoints} {least : ℕ} {most : Option ℕ} → QuantifierPrefix here there least most → head here ∈ "*+?{" ≡ true
 begins_prefix (star e) = rw e refl
 begins_prefix (plus e) = rw e refl

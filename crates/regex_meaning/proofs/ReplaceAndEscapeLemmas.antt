@@ -18,7 +18,7 @@ order-lower : (low from : ℕ) (ms : List Answer) → low ≤ from → AreAscend
 order-lower low from [] le h = tt
 order-lower low from (m ∷ ms) le h = (omega arith, h.1, h.2)
 
--- a range, and what stands behind it
+-- A range followed by the text after it is the text from the start of the range.
 range-then : (text : List ℕ) (a b : ℕ) → a ≤ b → slice_range text a b ++ drop b text ≡ drop a text
 range-then text a b le =
     let on : drop b text ≡ drop (b - a) (drop a text) = (let e : a + (b - a) ≡ b = omega arith in rw (drop-drop (b - a) a text, e) refl) in
@@ -58,7 +58,7 @@ flags-read_back f = read-back f.no_opt f.icase f.multiline f.dot_all f.unicode f
 
 -- ---- Escaped texts
 
--- the text that is escaped so; behind a backslash each character is itself
+-- This undoes the escaping, so a character behind a backslash is itself.
 unescape : (in_lookbehind : Bool) → List ℕ → List ℕ
 unescape in_lookbehind [] = []
 unescape true (c ∷ cs) = c ∷ unescape false cs

@@ -9,7 +9,7 @@ use Rattle.std.proofs.lemmas.Str.{chars-IsAscii}
 use mathlib.Core.Logic.{inl, inr}
 use Rattle.regex_meaning.specs.Tree.{Node}
 use Rattle.regex_meaning.specs.Text.{Text, is_scalar, is_ascii_lowercase, is_ascii_uppercase, to_ascii_lowercase, to_ascii_uppercase, fold_code_point, fold_char, fold_ascii}
-use Rattle.regex_meaning.specs.Text.{offsets_from, one_unit, utf16_width, utf16_characters, utf8_text, ascii_text, utf16_text}
+use Rattle.regex_meaning.specs.Text.{offsets_from, width_of_single_unit_character, utf16_width, utf16_characters, utf8_text, ascii_text, utf16_text}
 use Rattle.regex_meaning.specs.CodeUnitOffsets.{place_at}
 use Rattle.regex_meaning.specs.FirstAndAllMatches.{match_list}
 use Rattle.regex_meaning.specs.MatchGroupsByNumberAndName.{answer, answers_from}
@@ -44,7 +44,7 @@ upper-kept c = elim (cases_Bool (is_ascii_lowercase c)) [
   | inr e ↦ rw e (same-branches (is_scalar c) c)
 ]
 
--- a fold keeps characters that a `char` can hold
+-- Folding a number as a `char` gives the same as folding it as a code point.
 pub fold_char-fold_code_point : (unicode : Bool) (c : ℕ) → fold_char unicode c ≡ fold_code_point unicode c
 unfolding fold_code_point
 fold_char-fold_code_point false c = upper-kept c
@@ -82,18 +82,18 @@ ascii-each : (bytes : List ℕ) → IsAscii bytes → Each (λ c. c < 128) bytes
 ascii-each [] h = tt
 ascii-each (b ∷ bytes) h = (h 0, ascii-each bytes (λ i. h (suc i)))
 
-ascii-widths : (bytes : List ℕ) → IsAscii bytes → map len_utf8 bytes ≡ map one_unit bytes
+ascii-widths : (bytes : List ℕ) → IsAscii bytes → map len_utf8 bytes ≡ map width_of_single_unit_character bytes
 ascii-widths [] h = refl
 ascii-widths (b ∷ bytes) h = let small = h 0 in rw (lt-ltb b 0x80 small, ascii-widths bytes (λ i. h (suc i))) refl
 
 module _ (root : Node) (bytes : List ℕ) (unicode : Bool) (ascii : IsAscii bytes) where
-  -- a text of these characters and offsets that folds as UTF-8 does
+  -- This text of these characters and offsets folds as UTF-8 does.
   abbrev folding : List ℕ → List ℕ → Text
   folding cs offsets = record { characters = cs; offsets = offsets; unicode = unicode; fold = fold_char unicode }
 
-  lists : (place : ℕ) → match_list root (ascii_text bytes unicode) place ≡ match_list root (folding bytes (offsets_from 0 (map one_unit bytes))) place
+  lists : (place : ℕ) → match_list root (ascii_text bytes unicode) place ≡ match_list root (folding bytes (offsets_from 0 (map width_of_single_unit_character bytes))) place
   lists place =
-      match_list-same bytes unicode (offsets_from 0 (map one_unit bytes)) (offsets_from 0 (map one_unit bytes))
+      match_list-same bytes unicode (offsets_from 0 (map width_of_single_unit_character bytes)) (offsets_from 0 (map width_of_single_unit_character bytes))
       (fold_ascii unicode) (fold_char unicode) (λ c. c < 128) (ascii-each bytes ascii)
       (λ c d p q. rw (
         fold_ascii-fold_code_point unicode c p,
@@ -104,16 +104,16 @@ module _ (root : Node) (bytes : List ℕ) (unicode : Bool) (ascii : IsAscii byte
 
   answers-at : (at : Option ℕ)
       → option_map_or (λ place. map (answer root (ascii_text bytes unicode)) (match_list root (ascii_text bytes unicode) place)) at []
-      ≡ option_map_or (λ place. map (answer root (ascii_text bytes unicode)) (match_list root (folding bytes (offsets_from 0 (map one_unit bytes))) place)) at []
+      ≡ option_map_or (λ place. map (answer root (ascii_text bytes unicode)) (match_list root (folding bytes (offsets_from 0 (map width_of_single_unit_character bytes))) place)) at []
   answers-at None = refl
   answers-at (Some place) = ap (map (answer root (ascii_text bytes unicode))) (lists place)
 
-  offsets-same : offsets_from 0 (map one_unit bytes) ≡ offsets_from 0 (map len_utf8 (chars bytes))
+  offsets-same : offsets_from 0 (map width_of_single_unit_character bytes) ≡ offsets_from 0 (map len_utf8 (chars bytes))
   offsets-same = rw (chars-IsAscii bytes ascii, ascii-widths bytes ascii) refl
 
   pub ascii-utf8 : (start : ℕ) → answers_from root (ascii_text bytes unicode) start ≡ answers_from root (utf8_text bytes unicode) start
   unfolding answers_from
   ascii-utf8 start =
       answers-at (place_at (ascii_text bytes unicode) start)
-      ∙ ap (λ (cs : List ℕ). answers_from root (folding cs (offsets_from 0 (map one_unit bytes))) start) (sym (chars-IsAscii bytes ascii))
+      ∙ ap (λ (cs : List ℕ). answers_from root (folding cs (offsets_from 0 (map width_of_single_unit_character bytes))) start) (sym (chars-IsAscii bytes ascii))
       ∙ ap (λ (offsets : List ℕ). answers_from root (folding (chars bytes) offsets) start) offsets-same

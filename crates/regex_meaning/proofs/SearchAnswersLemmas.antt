@@ -6,12 +6,12 @@ use Rattle.regex_meaning.specs.CodeUnitOffsets.{HasRisingPlaceOffsets, offset, p
 use Rattle.regex_meaning.specs.FirstAndAllMatches.{Found, first_match, place_after_match, match_list}
 use Rattle.regex_meaning.specs.MatchGroupsByNumberAndName.{Answer, answer, answers_from}
 use Rattle.regex_meaning.specs.SearchAnswers.{first_answer, next_start, answers_on, answer_then_list}
-use Rattle.regex_meaning.specs.Laws.{matches_from_optional, match_then_list, IsRange}
+use Rattle.regex_meaning.specs.Laws.{matches_from_optional, match_then_list, IsRangeOfWholeCharacters}
 use Rattle.regex_meaning.proofs.FirstAndAllMatchesLemmas.{StandsFrom, stands-first, match_list-unfolds, GoesOnInside, goes-inside}
 use Rattle.regex_meaning.proofs.CodeUnitOffsetsLemmas.{offset-less, offset-le, place_at-offset, offset-place_at, offset-IsBoundary}
 
 module _ (root : Node) (text : Text) (is : HasRisingPlaceOffsets text) where
-  -- the answers from the offset of a place
+  -- The answers from the offset of a place are the answers of the matches from the place.
   answers-at : (p : ℕ) → p ≤ last_place text → answers_from root text (offset text p) ≡ map (answer root text) (match_list root text p)
   unfolding answers_from
   answers-at p inside = rw (place_at-offset text p is inside) refl
@@ -28,7 +28,7 @@ module _ (root : Node) (text : Text) (is : HasRisingPlaceOffsets text) where
   answers-then place (Some m) h =
       ap (λ (ms : List Answer). answer root text m ∷ ms) (answers-on place (place_after_match root text m) (goes-inside root text place m h))
 
-  -- the same at what is known of the start's place
+  -- This is the first match from the place, if there is a place.
   abbrev found-at : Option ℕ → Option Found
   found-at at = option_and_then (first_match root text) at
 
@@ -73,7 +73,7 @@ module _ (root : Node) (text : Text) (is : HasRisingPlaceOffsets text) where
   -- ---- The first answer
 
   answer-found : (start p : ℕ) (a : Answer) → offset text p ≡ start → p ≤ last_place text → (m : Option Found) → StandsFrom root text p m
-      → option_map (answer root text) m ≡ Some a → (start ≤ a.range.0) × IsRange text a.range
+      → option_map (answer root text) m ≡ Some a → (start ≤ a.range.0) × IsRangeOfWholeCharacters text a.range
   answer-found start p a at inside None h e = absurd (cc e)
   answer-found start p a at inside (Some m) h e =
       let same : answer root text m ≡ a = cc e in
@@ -84,11 +84,11 @@ module _ (root : Node) (text : Text) (is : HasRisingPlaceOffsets text) where
       rw (← same) (omega arith, (last, from, to))
 
   answer-from : (start : ℕ) (a : Answer) (at : Option ℕ) → place_at text start ≡ at
-      → option_map (answer root text) (found-at at) ≡ Some a → (start ≤ a.range.0) × IsRange text a.range
+      → option_map (answer root text) (found-at at) ≡ Some a → (start ≤ a.range.0) × IsRangeOfWholeCharacters text a.range
   answer-from start a None e n = absurd (cc n)
   answer-from start a (Some p) e n =
       let o = offset-place_at text start p is e in
       answer-found start p a o.0 o.1 (first_match root text p) (stands-first root text p) n
 
-  pub first_answer-stands : (start : ℕ) (a : Answer) → first_answer root text start ≡ Some a → (start ≤ a.range.0) × IsRange text a.range
+  pub first_answer-stands : (start : ℕ) (a : Answer) → first_answer root text start ≡ Some a → (start ≤ a.range.0) × IsRangeOfWholeCharacters text a.range
   first_answer-stands start a e = answer-from start a (place_at text start) refl e

@@ -36,12 +36,12 @@ preferred-each : (P : Outcome → Type 0) (greedy : Bool) (again leave : List Ou
 preferred-each P true again leave h k = Each-append P again leave h k
 preferred-each P false again leave h k = Each-append P leave again k h
 
--- the first of a list, or 0
+-- This is the first number of the list, or 0 if the list is empty.
 abbrev first_or_zero : List ℕ → ℕ
 first_or_zero [] = 0
 first_or_zero (x ∷ xs) = x
 
--- what holds of all members holds of one
+-- If all members pass a test, each member passes it.
 pub all-contains : (test : ℕ → Bool) (members : List ℕ) (c : ℕ) → list_all test members ≡ true → contains members c ≡ true → test c ≡ true
 all-contains test [] c h t = grind arith
 all-contains test (m ∷ ms) c h t = go (nat_eq c m) refl (all-contains test ms c (and-right (test m) _ h))
@@ -56,7 +56,7 @@ looked-stay false (o ∷ os) p g = (refl, tt)
 looked-stay true [] p g = (refl, tt)
 looked-stay true (o ∷ os) p g = tt
 
--- a loop whose iterations stay where they are stays there
+-- A loop stays at its place if each of its iterations does.
 rounds-stay : (r : Repetition Outcome) → ((p : ℕ) (g : Groups) → Each (λ o. o.end ≡ p) (r.body p g)) → (turns k p : ℕ) (g : Groups)
     → Each (λ o. o.end ≡ p) (bounded_repeat r turns k p g)
 unfolding bounded_repeat
@@ -77,7 +77,7 @@ module _ (text : Text) (of_chars : OfChars text) where
   abbrev Begins : AbstractStartPredicate → ℕ → List Outcome → Type 0
   Begins b p os = Each (λ o. Says b (utf8_bytes_of_text_from_place text p) p o.end) os
 
-  -- what follows an outcome that began so begins so
+  -- What follows an outcome that begins as the predicate says begins so too.
   carried : (b : AbstractStartPredicate) (p : ℕ) (o : Outcome) (later : List Outcome) → Says b (utf8_bytes_of_text_from_place text p) p o.end
       → (b ≡ open_ended → Each (λ q. q.end ≡ o.end) later) → Begins b p later
   carried open_ended p o later h k = Each-map (λ q. q.end ≡ o.end) (λ q. q.end ≡ p) (λ q f. f ∙ h) later (k refl)

@@ -12,8 +12,8 @@ use Rattle.regex_meaning.specs.FirstAndAllMatches.{Found, first_match, place_aft
 use Rattle.regex_meaning.specs.MatchGroupsByNumberAndName.{Answer, answer, answers_from}
 use Rattle.regex_meaning.specs.SearchAnswers.{first_answer, first_found, next_start, answers_on, answer_then_list}
 use Rattle.regex_meaning.specs.OutcomesWithStepTicks.{need, needs, needs_from}
-use Rattle.regex_meaning.specs.Laws.{needs_on, needs_after_match}
-use Rattle.regex_meaning.specs.StepBudget.{is_within, remaining_budget, items_within_steps, need_from, needs_of_answers, answers_within, finishes_within, answers_within_from_next}
+use Rattle.regex_meaning.specs.Laws.{step_needs_from_optional_place, needs_after_match}
+use Rattle.regex_meaning.specs.StepBudget.{budget_suffices, remaining_budget, items_within_steps, need_from, needs_of_answers, answers_within, finishes_within, answers_within_from_next}
 use Rattle.regex_meaning.specs.StepBudget.{finishes_from_next}
 use Rattle.regex_meaning.proofs.SearchAnswersLemmas.{answers-go_on}
 use Rattle.regex_meaning.proofs.FirstAndAllMatchesLemmas.{StandsFrom, stands-first, GoesOnInside, goes-inside}
@@ -59,17 +59,17 @@ module _ (tree : Tree) (text : Text) where
       by e (Some m) before =
           ap (λ n. needs_from tree text count n (place_after_match tree.root text m)) e ∙ before (place_after_match tree.root text m)
 
-  -- the needs from where the list goes on, if it does
+  -- These are the needs from the next start, or only 0 if there is none.
   abbrev pub needs_next : (next : Option ℕ) → List ℕ
   needs_next None = 0 ∷ []
   needs_next (Some start) = needs_of_answers tree text start
 
-  -- those behind an answer, if there is one
+  -- These are the needs after an answer, and without an answer there are none.
   abbrev pub needs_then : Option Answer → (next : Option ℕ) → List ℕ
   needs_then None next = []
   needs_then (Some m) next = needs_next next
 
-  -- the needs from an offset on: that of the first answer, and with it those from where the list goes on
+  -- The needs from a boundary are the first need and, added to it, the needs after the answer.
   pub needs-go_on : (is : HasRisingPlaceOffsets text) (start : ℕ) → IsBoundary text start
       → needs_of_answers tree text start ≡ need_from tree text start ∷ map (λ n. need_from tree text start + n) (needs_then (first_answer tree.root text start) (next_start tree.root text start))
   unfolding needs
@@ -77,7 +77,7 @@ module _ (tree : Tree) (text : Text) where
       let p = IsBoundary-place text start is on in
       let place = p.0 in
       let k = need tree text place in
-      let here : needs_of_answers tree text start ≡ needs_on tree text 0 (Some place) = ap (λ o. option_map_or (needs tree text) o []) p.1 in
+      let here : needs_of_answers tree text start ≡ step_needs_from_optional_place tree text 0 (Some place) = ap (λ o. option_map_or (needs tree text) o []) p.1 in
       let needed : need_from tree text start ≡ k = ap (λ o. option_map_or (need tree text) o 0) p.1 in
       let found : first_found tree.root text start ≡ first_match tree.root text place = ap (option_and_then (first_match tree.root text)) p.1 in
       here ∙ needs-unfold tree text 0 place
@@ -85,7 +85,7 @@ module _ (tree : Tree) (text : Text) where
       ∙ ap₂ (λ n m. n ∷ map (λ x. n + x) (needs_then (option_map (answer tree.root text) m) (option_map (offset text) (option_and_then (place_after_match tree.root text) m)))) (sym needed) (sym found)
     where
       spend : (k : ℕ) (place : ℕ) (next : Option ℕ) → GoesOnInside tree.root text place next
-          → needs_on tree text (0 + k) next ≡ map (λ n. k + n) (needs_next (option_map (offset text) next))
+          → step_needs_from_optional_place tree text (0 + k) next ≡ map (λ n. k + n) (needs_next (option_map (offset text) next))
       spend k place None g = let e : 0 + k ≡ k + 0 = omega arith in ap (λ n. n ∷ []) e
       spend k place (Some q) g =
           let e : 0 + k ≡ k + 0 = omega arith in
@@ -104,7 +104,7 @@ module _ (tree : Tree) (text : Text) where
 -- ---- One search after another
 
 module _ (tree : Tree) (text : Text) (is : HasRisingPlaceOffsets text) where
-  -- an offset from which something is found is a boundary
+  -- An offset from which an answer is found is a boundary.
   boundary : (start : ℕ) (m : Answer) → first_answer tree.root text start ≡ Some m → IsBoundary text start
   boundary start m found = by (place_at text start) refl
     where
@@ -112,9 +112,9 @@ module _ (tree : Tree) (text : Text) (is : HasRisingPlaceOffsets text) where
       by None q = let never : None ≡ Some m = sym (ap (λ o. option_map (answer tree.root text) (option_and_then (first_match tree.root text) o)) q) ∙ found in cc
       by (Some p) q = refl
 
-  -- where there is a match, and the budget is enough for it
+  -- If an answer exists and the budget suffices, the search goes on with the rest of the budget.
   pub within-some : (budget : Option ℕ) (start : ℕ) (m : Answer) → first_answer tree.root text start ≡ Some m
-      → is_within budget (need_from tree text start) ≡ true
+      → budget_suffices budget (need_from tree text start) ≡ true
       → (answers_within tree text budget start ≡ m ∷ answers_within_from_next tree text (remaining_budget budget (need_from tree text start)) (next_start tree.root text start))
       × (finishes_within tree text budget start ≡ finishes_from_next tree text (remaining_budget budget (need_from tree text start)) (next_start tree.root text start))
   within-some None start m found within = (
@@ -161,12 +161,12 @@ module _ (tree : Tree) (text : Text) (is : HasRisingPlaceOffsets text) where
       by_end None = ap (λ b. b && true) (le-leb 0 (steps - k) (omega arith))
       by_end (Some q) = refl
 
-  -- what is no boundary needs nothing
+  -- An offset that is no boundary needs no steps.
   nowhere : (start : ℕ) → place_at text start ≡ None → (needs_of_answers tree text start ≡ []) × (need_from tree text start ≡ 0)
   nowhere start q = (ap (λ o. option_map_or (needs tree text) o []) q, ap (λ o. option_map_or (need tree text) o 0) q)
 
-  -- where there is none, and the budget is enough to find that
-  pub within-none : (budget : Option ℕ) (start : ℕ) → first_answer tree.root text start ≡ None → is_within budget (need_from tree text start) ≡ true
+  -- If there is no answer and the budget suffices for that, the search finishes without answers.
+  pub within-none : (budget : Option ℕ) (start : ℕ) → first_answer tree.root text start ≡ None → budget_suffices budget (need_from tree text start) ≡ true
       → (answers_within tree text budget start ≡ []) × (finishes_within tree text budget start ≡ true)
   within-none None start found within = (answers-go_on tree.root text is start ∙ ap (λ a. answer_then_list tree.root text a (next_start tree.root text start)) found, refl)
   within-none (Some steps) start found within =
@@ -187,8 +187,8 @@ module _ (tree : Tree) (text : Text) (is : HasRisingPlaceOffsets text) where
           ∙ ap (λ a. k ∷ map (λ n. k + n) (needs_then tree text a (next_start tree.root text start))) found)
           ∙ ap (λ b. b && true) within
 
-  -- where the budget is not enough
-  pub beyond : (budget : Option ℕ) (start : ℕ) → is_within budget (need_from tree text start) ≡ false
+  -- If the budget does not suffice, there is no answer and the search does not finish.
+  pub beyond : (budget : Option ℕ) (start : ℕ) → budget_suffices budget (need_from tree text start) ≡ false
       → (answers_within tree text budget start ≡ []) × (finishes_within tree text budget start ≡ false)
   beyond None start past = cc
   beyond (Some steps) start past = by (place_at text start) refl

@@ -8,7 +8,7 @@ use Rattle.regex_meaning.specs.NumberListHelpers.{contains, numbers_from}
 use Rattle.regex_meaning.specs.Tree.{Node, group_ids, every_node_passes, empty, goal, char, char_set, byte_set, byte_sequence, cat, end_of_cat, alt, bracket}
 use Rattle.regex_meaning.specs.Tree.{string_set, match_any, match_any_except_line_terminator, anchor, word_boundary, capture_group, back_ref}
 use Rattle.regex_meaning.specs.Tree.{lookaround, loop, loop_1_char_body, Quantifier}
-use Rattle.regex_meaning.specs.WellFormedTrees.{number_of_goal_nodes, encloses, is_min_at_most_max, has_exact_group_range, refers_to_a_group, has_order_in_quantifier}
+use Rattle.regex_meaning.specs.WellFormedTrees.{number_of_goal_nodes, range_is_ids_of_enclosed_groups, is_min_at_most_max, has_exact_group_range, refers_to_a_group, has_order_in_quantifier}
 use Rattle.regex_meaning.specs.WellFormedTrees.{has_one_character_body, has_text_in_sequence, set_sizes_and_characters_fit_instructions, is_well_formed}
 use Rattle.regex_meaning.specs.CompilationRelation.{tree_contains_byte_nodes}
 use Rattle.regex_meaning.proofs.WellFormedTreesLemmas.{by_clauses}
@@ -19,7 +19,7 @@ use Rattle.regex_meaning.specs.TreesWithoutCharLoops.{is_not_char_loop, has_no_c
 
 -- ---- Tests
 
--- a test that follows from another
+-- If a test implies another, it does so for all nodes of a subtree.
 module _ (test other : Node → Bool) (weaker : (n : Node) → test n ≡ true → other n ≡ true) where
   pub every-weaker : (n : Node) → every_node_passes test n ≡ true → every_node_passes other n ≡ true
   every-weaker (cat first rest) h =
@@ -47,7 +47,7 @@ module _ (test other : Node → Bool) (weaker : (n : Node) → test n ≡ true �
   every-weaker (word_boundary invert unicode_icase) h = weaker _ h
   every-weaker (back_ref group icase) h = weaker _ h
 
--- the six tests of a node
+-- A sound node passes these six tests.
 pub record Sound (greatest : ℕ) (n : Node) : Type 0 where
   pub names : has_exact_group_range n ≡ true
   pub refers : refers_to_a_group greatest n ≡ true
@@ -140,9 +140,9 @@ part-leaf first greatest n l = record {
   sound = l.sound;
 }
 
--- ---- Two parts made one
+-- ---- Joined nodes
 
--- a node that has what two nodes have together
+-- A joined node has what two nodes have together.
 pub record IsJoined (n x y : Node) : Type 0 where
   pub goals : number_of_goal_nodes n ≡ number_of_goal_nodes x + number_of_goal_nodes y
   pub count : length (group_ids n) ≡ length (group_ids x) + length (group_ids y)
@@ -176,7 +176,7 @@ joined-cat x y = joined-by (cat x y) x y (omega arith) refl (λ greatest h k. an
 pub joined-alt : (x y : Node) → IsJoined (alt x y) x y
 joined-alt x y = joined-by (alt x y) x y (omega arith) refl (λ greatest h k. and_from _ _ (and_from _ _ refl h) k)
 
--- ---- Nodes round parts
+-- ---- Nodes around a subtree
 
 pub part-group : (first end greatest : ℕ) (name : List ℕ) (n : Node) → IsSoundSubtreeWithGroupIds (first + 1) end greatest n → IsSoundSubtreeWithGroupIds first end greatest (capture_group first name n)
 part-group first end greatest name n p = record {
@@ -234,8 +234,8 @@ inside-once first end id h =
           ]
     ]
 
-part-encloses : (first end greatest : ℕ) (n : Node) → IsSoundSubtreeWithGroupIds first end greatest n → encloses first end n ≡ true
-part-encloses first end greatest n p =
+part-range_is_ids_of_enclosed_groups : (first end greatest : ℕ) (n : Node) → IsSoundSubtreeWithGroupIds first end greatest n → range_is_ids_of_enclosed_groups first end n ≡ true
+part-range_is_ids_of_enclosed_groups first end greatest n p =
     let length_is : first + (end - first) ≡ end = omega (arith, p.count) in
     and_from _ _ (and_from _ _ (le-leb first end (omega (arith, p.count)))
     (list_all-members (contains (numbers_from first (end - first))) (group_ids n) (λ id k.
@@ -253,7 +253,7 @@ part-lookaround first end greatest negate backwards n p = record {
   goals = omega (arith, p.goals);
   count = p.count;
   ids = p.ids;
-  sound = and_from _ _ (sound-from greatest (lookaround (record { negate = negate; backwards = backwards; start_group = first; end_group = end }) n) (record { names = part-encloses first end greatest n p; refers = refl; order = refl; body = refl; characters = refl; fits = refl })) p.sound;
+  sound = and_from _ _ (sound-from greatest (lookaround (record { negate = negate; backwards = backwards; start_group = first; end_group = end }) n) (record { names = part-range_is_ids_of_enclosed_groups first end greatest n p; refers = refl; order = refl; body = refl; characters = refl; fits = refl })) p.sound;
 }
 
 pub part-loop : (first end greatest : ℕ) (q : Quantifier) (n : Node) → is_min_at_most_max q ≡ true → IsSoundSubtreeWithGroupIds first end greatest n
@@ -262,7 +262,7 @@ part-loop first end greatest q n order p = record {
   goals = omega (arith, p.goals);
   count = p.count;
   ids = p.ids;
-  sound = and_from _ _ (sound-from greatest (loop q first end n) (record { names = part-encloses first end greatest n p; refers = refl; order = order; body = refl; characters = refl; fits = refl })) p.sound;
+  sound = and_from _ _ (sound-from greatest (loop q first end n) (record { names = part-range_is_ids_of_enclosed_groups first end greatest n p; refers = refl; order = order; body = refl; characters = refl; fits = refl })) p.sound;
 }
 
 -- ---- Characters

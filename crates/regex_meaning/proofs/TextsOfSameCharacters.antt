@@ -21,7 +21,7 @@ pointwise-same P e f h [] (d ∷ ds) p q = refl
 pointwise-same P e f h (c ∷ cs) [] p q = refl
 pointwise-same P e f h (c ∷ cs) (d ∷ ds) p q = rw (h c d p.0 q.0, pointwise-same P e f h cs ds p.1 q.1) refl
 
--- Two texts of these characters. The fact P holds of each character, and the folds agree where it does.
+-- Two texts have these characters, P holds of each of them, and the folds agree where P holds.
 module _ (characters : List ℕ) (unicode : Bool) (s_offsets t_offsets : List ℕ) (s_fold t_fold : ℕ → ℕ) (P : ℕ → Type 0)
     (each : Each P characters) (alike : (c d : ℕ) → P c → P d → (s_fold c == s_fold d) ≡ (t_fold c == t_fold d)) where
   abbrev s : Text
@@ -38,7 +38,7 @@ module _ (characters : List ℕ) (unicode : Bool) (s_offsets t_offsets : List �
   one_character-same test rightwards place groups = refl
   one_character-same test leftwards place groups = refl
 
-  -- the same characters of the text, by tests that agree on them
+  -- A list of characters has the same outcomes in both texts if the tests agree where P holds.
   spelled-same : (e f : ℕ → ℕ → Bool) → ((c d : ℕ) → P c → P d → e c d ≡ f c d) → (cs : List ℕ) → Each P cs
       → (d : Direction) (place : ℕ) (groups : Groups) → spelled s e cs d place groups ≡ spelled t f cs d place groups
   spelled-same e f h cs p rightwards place groups =

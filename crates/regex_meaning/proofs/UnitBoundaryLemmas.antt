@@ -6,7 +6,7 @@ use Rattle.std.proofs.lemmas.Bool.{cases_Bool, lt-leb, and_parts}
 use mathlib.Core.Logic.{inl, inr}
 use Rattle.regex_meaning.specs.NumberListHelpers.{contains}
 use Rattle.regex_meaning.specs.Text.{is_high_surrogate, is_low_surrogate, decode_surrogate_pair, utf16_width, utf16_characters, offsets_from}
-use Rattle.regex_meaning.specs.Text.{is_unit_boundary, utf16_text, one_unit}
+use Rattle.regex_meaning.specs.Text.{is_unit_boundary, utf16_text, width_of_single_unit_character}
 use Rattle.regex_meaning.specs.CodeUnitOffsets.{place_at, units}
 use Rattle.regex_meaning.specs.Laws.{is_within_pair}
 use Rattle.std.proofs.Math.Bool.{and-false}
@@ -24,7 +24,7 @@ some-cond : (b : Bool) (n : ℕ) → is_some (cond b (Some n) None) ≡ b
 some-cond true n = refl
 some-cond false n = refl
 
--- a unit boundary is the offset of a place
+-- An offset is a unit boundary exactly if it is the offset of a place.
 pub unit_boundary-place_at : (units : List ℕ) (unicode : Bool) (i : ℕ) → is_unit_boundary units i ≡ is_some (place_at (utf16_text units unicode) i)
 unit_boundary-place_at units unicode i =
     any-position (nat_eq i) (offsets_from 0 (map utf16_width (utf16_characters units)))
@@ -32,7 +32,7 @@ unit_boundary-place_at units unicode i =
 
 -- ---- Between units
 
--- no offset stands before the first
+-- No offset stands before the first one.
 none-before : (ws : List ℕ) (at i : ℕ) → i < at → contains (offsets_from at ws) i ≡ false
 none-before [] at i less = rw (ne_eqb i at (omega arith)) refl
 none-before (w ∷ ws) at i less = rw (ne_eqb i at (omega arith)) (none-before ws (at + w) i (omega arith))
@@ -49,7 +49,7 @@ single-width u less = rw (lt-leb 0x1_0000 u less) refl
 pair-width : (u v : ℕ) → utf16_width (decode_surrogate_pair u v) ≡ 2
 pair-width u v = rw (le-leb 0x1_0000 (decode_surrogate_pair u v) (omega arith)) refl
 
--- no unit is both a low surrogate and a high one
+-- A low surrogate is no high surrogate.
 pub low-not_high : (v : ℕ) → is_low_surrogate v ≡ true → is_high_surrogate v ≡ false
 low-not_high v h =
     let above = leb-true 0xDC00 v (and_parts (nat_le 0xDC00 v) (nat_le v 0xDFFF) h).0 in
@@ -64,7 +64,7 @@ further at k rest more = rw (ne_eqb (at + k) at (omega arith)) refl
 at-start : (us : List ℕ) → is_between us 0 ≡ true
 at-start us = rw (le-leb 0 (length us) (omega arith)) refl
 
--- a unit that is a character by itself, before units whose boundaries are known
+-- If the offsets of the units are their boundaries, so are those with a single unit before them.
 step-single : (u : ℕ) (us : List ℕ) (at k : ℕ) (rest : List ℕ) → ((j : ℕ) → contains rest (at + 1 + j) ≡ is_between us j)
     → (is_high_surrogate u && is_low_surrogate (slice_index us 0)) ≡ false → contains (at ∷ rest) (at + k) ≡ is_between (u ∷ us) k
 step-single u us at zero rest more apart = here at rest ∙ sym (at-start (u ∷ us))
@@ -78,7 +78,7 @@ step-single u us at (suc (suc j)) rest more apart =
     ∙ ap (λ (b : Bool). b && not (is_within_pair us (suc j)))
     (le-same (suc j) (length us) (suc (suc j)) (suc (length us)) (λ h. omega arith) (λ h. omega arith))
 
--- a pair, before units whose boundaries are known
+-- If the offsets of the units are their boundaries, so are those with a surrogate pair before them.
 step-pair : (u v : ℕ) (us : List ℕ) (at k : ℕ) (ws : List ℕ) → ((j : ℕ) → contains (offsets_from (at + 2) ws) (at + 2 + j) ≡ is_between us j)
     → is_high_surrogate u ≡ true → is_low_surrogate v ≡ true
     → contains (at ∷ offsets_from (at + 2) ws) (at + k) ≡ is_between (u ∷ v ∷ us) k
@@ -99,7 +99,7 @@ step-pair u v us at (suc (suc (suc i))) ws more high low =
 pub behind-first : (u : ℕ) (us : List ℕ) → AreUnits (u ∷ us) → AreUnits us
 behind-first u us small k inside = small (suc k) (omega arith)
 
--- offsets of the characters of these units
+-- These are the offsets of the characters of the units.
 abbrev unit_offsets : ℕ → List ℕ → List ℕ
 unit_offsets at units = offsets_from at (map utf16_width (utf16_characters units))
 
@@ -122,7 +122,7 @@ unit_boundary-from (u ∷ v ∷ us) at k small = elim (cases_Bool (is_high_surro
       (λ j. unit_boundary-from (v ∷ us) (at + 1) j (behind-first u (v ∷ us) small)) apart)
 ]
 
--- a unit boundary is an offset within the units at which no pair is cut
+-- An offset is a unit boundary exactly if it is within the units and cuts no pair.
 pub unit_boundary-between : (units : List ℕ) (i : ℕ) → AreUnits units → is_unit_boundary units i ≡ is_between units i
 unit_boundary-between units i small =
     let e : i ≡ 0 + i = omega arith in
@@ -130,7 +130,7 @@ unit_boundary-between units i small =
 
 -- ---- Lengths in units
 
-last-single : (cs : List ℕ) (at : ℕ) → slice_index (offsets_from at (map one_unit cs)) (length cs) ≡ at + length cs
+last-single : (cs : List ℕ) (at : ℕ) → slice_index (offsets_from at (map width_of_single_unit_character cs)) (length cs) ≡ at + length cs
 last-single [] at = omega arith
 last-single (c ∷ cs) at = let more = last-single cs (at + 1) in omega arith
 

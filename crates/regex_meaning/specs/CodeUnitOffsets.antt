@@ -4,10 +4,10 @@ use Rattle.std.specs.Prelude.{Option, Some, None, is_some, option_and_then, opti
 use Rattle.regex_meaning.specs.Text.{Text, Direction, next_character, moved, last_place}
 
 -- Each number is less than the next.
-abbrev pub Rises : List ℕ → Type 0
-Rises [] = Unit {0}
-Rises (x ∷ []) = Unit {0}
-Rises (x ∷ y ∷ more) = (x < y) × Rises (y ∷ more)
+abbrev pub IsStrictlyIncreasing : List ℕ → Type 0
+IsStrictlyIncreasing [] = Unit {0}
+IsStrictlyIncreasing (x ∷ []) = Unit {0}
+IsStrictlyIncreasing (x ∷ y ∷ more) = (x < y) × IsStrictlyIncreasing (y ∷ more)
 
 -- The start is past the end.
 abbrev pub is_past : (start end : ℕ) → Bool
@@ -16,7 +16,7 @@ is_past start end = not (nat_le start end)
 -- The offsets of a text begin with 0 and increase, and each place has one.
 pub record HasRisingPlaceOffsets (text : Text) : Type 0 where
   pub from_zero : slice_index text.offsets 0 ≡ 0
-  pub rises : Rises text.offsets
+  pub rises : IsStrictlyIncreasing text.offsets
   pub one_offset_per_place : length text.offsets ≡ length text.characters + 1
 
 module _ (text : Text) where

@@ -20,15 +20,15 @@ abbrev pub surrogate_pair : ℕ → List ℕ
 surrogate_pair c = (0xD800 + (c - 0x1_0000) / 0x400) ∷ (0xDC00 + (c - 0x1_0000) % 0x400) ∷ []
 
 -- The code units of one character.
-abbrev pub spelled_in : Encoding → ℕ → List ℕ
-spelled_in utf8 c = encode_utf8_all (c ∷ [])
-spelled_in utf16 c = if nat_lt c 0x1_0000 then c ∷ [] else surrogate_pair c
-spelled_in ucs2 c = c ∷ []
+abbrev pub code_units_of_character : Encoding → ℕ → List ℕ
+code_units_of_character utf8 c = encode_utf8_all (c ∷ [])
+code_units_of_character utf16 c = if nat_lt c 0x1_0000 then c ∷ [] else surrogate_pair c
+code_units_of_character ucs2 c = c ∷ []
 
 -- The code units of a text.
 abbrev pub text_units_in_encoding : Encoding → Text → List ℕ
-text_units_in_encoding e text = flat_map (spelled_in e) text.characters
+text_units_in_encoding e text = flat_map (code_units_of_character e) text.characters
 
 -- The offsets of the text are those of its characters in code units of this encoding.
-pub record IsSpelledIn (e : Encoding) (text : Text) : Type 0 where
-  pub offsets : text.offsets ≡ offsets_from 0 (map (λ c. length (spelled_in e c)) text.characters)
+pub record HasOffsetsInEncoding (e : Encoding) (text : Text) : Type 0 where
+  pub offsets : text.offsets ≡ offsets_from 0 (map (λ c. length (code_units_of_character e c)) text.characters)

@@ -33,8 +33,8 @@ EcmaScriptGroupsIndependentOfContext =
     → IsPatternDisjunction w pattern groups n → IsPatternDisjunction v pattern others m → groups ≡ others
 
 -- A pattern has at most one tree.
-abbrev pub EcmaScriptOneTree : Type 0
-EcmaScriptOneTree =
+abbrev pub EcmaScriptPatternHasAtMostOneTree : Type 0
+EcmaScriptPatternHasAtMostOneTree =
     (flags : Flags) (pattern : RemainingCodePoints) (t u : Tree) → ParsesEcmaScript flags pattern t
     → ParsesEcmaScript flags pattern u → t ≡ u
 

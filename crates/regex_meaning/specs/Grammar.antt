@@ -9,7 +9,7 @@ use Rattle.regex_meaning.specs.Tree.{Node, Tree, Flags, Quantifier, Lookaround, 
 use Rattle.regex_meaning.specs.Tree.{match_any, match_any_except_line_terminator, anchor, start_of_line, end_of_line, word_boundary, capture_group}
 use Rattle.regex_meaning.specs.Tree.{by_case, back_ref, lookaround, loop}
 use Rattle.regex_meaning.specs.Text.{expand_code_point}
-use Rattle.regex_meaning.specs.ReadingStatesAndDigits.{RemainingCodePoints, ParseState, PatternContext, groups_at, ◌▸◌, state_with_text_left, with_opened_group, ◌∈◌}
+use Rattle.regex_meaning.specs.ReadingStatesAndDigits.{RemainingCodePoints, ParseState, PatternContext, number_of_opened_groups, ◌▸◌, state_with_text_left, with_opened_group, ◌∈◌}
 use Rattle.regex_meaning.specs.ReadingStatesAndDigits.{begins_with_characters, Digits, group_number_of, arm}
 use Rattle.regex_meaning.specs.EscapesNamesQuantifiers.{CharacterEscape, GroupName, BeginsQuantifier, ValidQuantifier}
 use Prim.Native.String.{String}
@@ -109,7 +109,7 @@ mutual
         → Assertion s w p q (lookaround l n) → IsTrue (s.may_repeat w.flags l.backwards)
         → ValidQuantifier q.text there quantifier
         → Term s w in_lookbehind p (state_with_text_left there q)
-        (loop quantifier (groups_at p) (groups_at q) (lookaround l n))
+        (loop quantifier (number_of_opened_groups p) (number_of_opened_groups q) (lookaround l n))
     -- Atom that is not followed by a quantifier
     atom : {in_lookbehind : Bool} {p q : ParseState} {n : Node}
         → Atom s w in_lookbehind p q n → ¬ (BeginsQuantifier q.text)
@@ -118,7 +118,8 @@ mutual
     quantified : {in_lookbehind : Bool} {p q : ParseState} {there : RemainingCodePoints} {n : Node}
         {quantifier : Quantifier}
         → Atom s w in_lookbehind p q n → ValidQuantifier q.text there quantifier
-        → Term s w in_lookbehind p (state_with_text_left there q) (loop quantifier (groups_at p) (groups_at q) n)
+        → Term s w in_lookbehind p (state_with_text_left there q)
+        (loop quantifier (number_of_opened_groups p) (number_of_opened_groups q) n)
 
   -- Assertion: `^`, `$`, `\b`, `\B`, and the lookarounds
   pub data Assertion (s : PatternDialect) (w : PatternContext) : ParseState → ParseState → Node → Type 0 where
@@ -131,7 +132,12 @@ mutual
         → p ≡ lookaround_opener negate backwards ▸ q → Disjunction s w backwards q r n → r ≡ ")" ▸ t
         → Assertion s w p t
         (lookaround
-        (record { negate = negate; backwards = backwards; start_group = groups_at p; end_group = groups_at t }) n)
+        (record {
+          negate = negate;
+          backwards = backwards;
+          start_group = number_of_opened_groups p;
+          end_group = number_of_opened_groups t;
+        }) n)
 
   -- Atom
   pub data Atom (s : PatternDialect) (w : PatternContext) : (in_lookbehind : Bool) → ParseState → ParseState → Node
@@ -144,13 +150,13 @@ mutual
     group : {in_lookbehind : Bool} {p q r t : ParseState} {n : Node}
         → p ≡ "(" ▸ q → begins_with_characters "?" q.text ≡ false
         → Disjunction s w in_lookbehind (with_opened_group [] q) r n → r ≡ ")" ▸ t
-        → Atom s w in_lookbehind p t (capture_group (groups_at p) [] n)
+        → Atom s w in_lookbehind p t (capture_group (number_of_opened_groups p) [] n)
     -- `( GroupSpecifier Disjunction )` with a name
     named_group : {in_lookbehind : Bool} {p q r t : ParseState} {there name : RemainingCodePoints} {n : Node}
         → p ≡ "(?<" ▸ q → s.group_name q.text there name
         → Disjunction s w in_lookbehind (with_opened_group name (state_with_text_left there q)) r n
         → r ≡ ")" ▸ t
-        → Atom s w in_lookbehind p t (capture_group (groups_at p) name n)
+        → Atom s w in_lookbehind p t (capture_group (number_of_opened_groups p) name n)
     -- `(?: Disjunction )`
     plain_group : {in_lookbehind : Bool} {p q r t : ParseState} {n : Node}
         → p ≡ "(?:" ▸ q → Disjunction s w in_lookbehind q r n → r ≡ ")" ▸ t

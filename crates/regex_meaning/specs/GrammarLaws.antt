@@ -30,8 +30,8 @@ ExampleIsParsed =
     })
 
 -- A pattern has at most one tree.
-abbrev pub OneTree : Type 0
-OneTree =
+abbrev pub PatternHasAtMostOneTree : Type 0
+PatternHasAtMostOneTree =
     (flags : Flags) (pattern : RemainingCodePoints) (t u : Tree) → Parses flags pattern t → Parses flags pattern u
     → t ≡ u
 
@@ -65,14 +65,14 @@ literal_tree flags text =
     record { root = cat (sequence_node (map (character_node flags) text)) (cat goal end_of_cat); flags = flags }
 
 -- With every flag, an escaped text is a pattern whose tree is the sequence of its characters.
-abbrev pub EscapedTextsAreRead : Type 0
-EscapedTextsAreRead = (flags : Flags) (text : RemainingCodePoints)
+abbrev pub EscapedTextParsesAsLiteral : Type 0
+EscapedTextParsesAsLiteral = (flags : Flags) (text : RemainingCodePoints)
     → Parses flags (escape text) (literal_tree flags text)
 
 -- With every flag, a UTF-8 text that was escaped byte by byte is a pattern whose tree is the
 -- sequence of the characters of the text.
-abbrev pub EscapedBytesAreRead : Type 0
-EscapedBytesAreRead =
+abbrev pub EscapedUtf8ParsesAsLiteral : Type 0
+EscapedUtf8ParsesAsLiteral =
     (flags : Flags) (bytes : List ℕ) → IsTrue (is_utf8 bytes)
     → Parses flags (chars (escape bytes)) (literal_tree flags (chars bytes))
 

@@ -38,9 +38,9 @@ LoopRepetitionUnfolds = (text : Text) (q : Quantifier) (loopee : Node) (change :
     (if nat_le q.min k then record { end = place; groups = groups } ∷ [] else [])
 
 -- b is equal to a or past it in the direction, and b is within the text if a is.
-abbrev pub IsOnward : Text → Direction → (a b : ℕ) → Type 0
-IsOnward text rightwards a b = (a ≤ b) × (b ≤ max a (last_place text))
-IsOnward text leftwards a b = (b ≤ a) × Unit {0}
+abbrev pub IsAtOrAheadInDirection : Text → Direction → (a b : ℕ) → Type 0
+IsAtOrAheadInDirection text rightwards a b = (a ≤ b) × (b ≤ max a (last_place text))
+IsAtOrAheadInDirection text leftwards a b = (b ≤ a) × Unit {0}
 
 -- P holds for each element.
 abbrev pub Each : {A : Type 0} → (A → Type 0) → List A → Type 0
@@ -50,7 +50,7 @@ Each P (x ∷ xs) = P x × Each P xs
 -- Every outcome ends at the place or past it in the direction.
 abbrev pub OutcomesEndAheadOfPlace : Type 0
 OutcomesEndAheadOfPlace = (text : Text) (node : Node) (d : Direction) (place : ℕ) (groups : Groups)
-    → Each (λ o. IsOnward text d place o.end) (outcomes text node d place groups)
+    → Each (λ o. IsAtOrAheadInDirection text d place o.end) (outcomes text node d place groups)
 
 -- The group is `None`, or its two places are in order and within the text.
 abbrev pub IsWithinText : Text → Option (ℕ × ℕ) → Type 0
@@ -137,20 +137,20 @@ NextStartIsAhead = (root : Node) (text : Text) → HasRisingPlaceOffsets text �
     → next_start root text start ≡ Some next → (start < next) × IsBoundary text next
 
 -- Both ends of the range are boundaries, and they are in order.
-abbrev pub IsRange : Text → ℕ × ℕ → Type 0
-IsRange text range = (range.0 ≤ range.1) × IsBoundary text range.0 × IsBoundary text range.1
+abbrev pub IsRangeOfWholeCharacters : Text → ℕ × ℕ → Type 0
+IsRangeOfWholeCharacters text range = (range.0 ≤ range.1) × IsBoundary text range.0 × IsBoundary text range.1
 
 -- The first answer from an offset on begins at that offset or after it, and its range consists of
 -- whole characters.
 abbrev pub FirstAnswerLiesOnBoundaries : Type 0
 FirstAnswerLiesOnBoundaries = (root : Node) (text : Text) → HasRisingPlaceOffsets text → (start : ℕ) (m : Answer)
-    → first_answer root text start ≡ Some m → (start ≤ m.range.0) × IsRange text m.range
+    → first_answer root text start ≡ Some m → (start ≤ m.range.0) × IsRangeOfWholeCharacters text m.range
 
 -- The ranges of the match and of its groups consist of whole characters, and each group of the tree
 -- has an entry.
-pub record IsAnswerOf (root : Node) (text : Text) (m : Answer) : Type 0 where
-  pub whole : IsRange text m.range
-  pub groups : Each (λ g. IfSome g (IsRange text)) m.captures
+pub record IsWellFormedAnswerFor (root : Node) (text : Text) (m : Answer) : Type 0 where
+  pub whole : IsRangeOfWholeCharacters text m.range
+  pub groups : Each (λ g. IfSome g (IsRangeOfWholeCharacters text)) m.captures
   pub count : length m.captures ≡ length (group_ids root)
 
 -- The match at an offset is the first answer from there, if that answer begins there.
@@ -159,10 +159,10 @@ MatchAtIsFirstAnswerIfThere = (root : Node) (text : Text) → HasRisingPlaceOffs
     → answer_at root text at ≡ option_and_then (λ m. if m.range.0 == at then Some m else None)
     (first_answer root text at)
 
--- Every answer satisfies `IsAnswerOf`.
-abbrev pub AnswersSatisfyIsAnswerOf : Type 0
-AnswersSatisfyIsAnswerOf = (root : Node) (text : Text) → HasRisingPlaceOffsets text → (start : ℕ)
-    → Each (IsAnswerOf root text) (answers_from root text start)
+-- Every answer satisfies `IsWellFormedAnswerFor`.
+abbrev pub AnswersAreWellFormed : Type 0
+AnswersAreWellFormed = (root : Node) (text : Text) → HasRisingPlaceOffsets text → (start : ℕ)
+    → Each (IsWellFormedAnswerFor root text) (answers_from root text start)
 
 -- The first answer begins at `from` or after it. Each later answer begins after the start of the
 -- answer before it, and not before the end of that answer.
@@ -220,20 +220,21 @@ EscapeIsInjective = (s t : List ℕ) → escape s ≡ escape t → s ≡ t
 
 -- The needs of the matches from a place on and of the end of the list, with `spent` added to each.
 -- If there is no place, `spent` is the only need.
-abbrev pub needs_on : Tree → Text → (spent : ℕ) → Option ℕ → List ℕ
-needs_on tree text spent None = spent ∷ []
-needs_on tree text spent (Some place) = needs_from tree text (last_place text + 1) spent (Some place)
+abbrev pub step_needs_from_optional_place : Tree → Text → (spent : ℕ) → Option ℕ → List ℕ
+step_needs_from_optional_place tree text spent None = spent ∷ []
+step_needs_from_optional_place tree text spent (Some place) =
+    needs_from tree text (last_place text + 1) spent (Some place)
 
 -- The needs after a match. Empty if there is no match.
 abbrev pub needs_after_match : Tree → Text → (spent : ℕ) → Option Found → List ℕ
 needs_after_match tree text spent found =
-    option_map_or (λ m. needs_on tree text spent (place_after_match tree.root text m)) found []
+    option_map_or (λ m. step_needs_from_optional_place tree text spent (place_after_match tree.root text m)) found []
 
 -- The first need is the need to find the first match, or to find that there is none. The other
 -- needs continue from that match.
 abbrev pub NeededStepsUnfoldMatchByMatch : Type 0
 NeededStepsUnfoldMatchByMatch = (tree : Tree) (text : Text) (spent place : ℕ)
-    → needs_on tree text spent (Some place)
+    → step_needs_from_optional_place tree text spent (Some place)
     ≡ (spent + need tree text place) ∷ needs_after_match tree text (spent + need tree text place)
     (first_match tree.root text place)
 

@@ -1,4 +1,5 @@
--- The groups of a match, by number and by name.
+-- What a search yields: a match in offsets (`Answer`), the list of them from an offset on (`answers_from`), and
+-- groups by number and by name.
 use Rattle.std.specs.Prelude.{ℕ, zero, suc, ◌+◌, Bool, List, [], ◌∷◌, length, map, ◌++◌, ◌==◌, option_map, Option, Some, None, if◌then◌else◌}
 use Rattle.std.specs.Prelude.{bytes_eq}
 use Rattle.std.specs.List.{list_any, list_all}
@@ -18,13 +19,13 @@ pub record Answer : Type 0 where
   pub names : List (List ℕ)
 
 -- The id and the name of a node that is a capturing group. Empty for any other node.
-abbrev pub own_name : Node → List (ℕ × List ℕ)
-own_name (capture_group id name contents) = (id, name) ∷ []
-own_name _ = []
+abbrev pub id_and_name_if_capture_group : Node → List (ℕ × List ℕ)
+id_and_name_if_capture_group (capture_group id name contents) = (id, name) ∷ []
+id_and_name_if_capture_group _ = []
 
 -- The id and name of each capturing group, in the order of the tree.
 abbrev pub capturing_group_ids_and_names : Node → List (ℕ × List ℕ)
-capturing_group_ids_and_names root = fold_nodes ◌++◌ own_name root
+capturing_group_ids_and_names root = fold_nodes ◌++◌ id_and_name_if_capture_group root
 
 -- The name that a list of ids and names has for an id. Empty if the id is not listed.
 abbrev pub group_name_of_id : List (ℕ × List ℕ) → ℕ → List ℕ

@@ -87,10 +87,10 @@ ticked_bounded_repeat r (suc turns) k place groups =
 
 -- The number of elements of `cs` that are compared with `ds`, up to and including the first that
 -- differs.
-abbrev pub compared_count : (ℕ → ℕ → Bool) → List ℕ → List ℕ → ℕ
-compared_count same [] ds = 0
-compared_count same (c ∷ cs) [] = 1
-compared_count same (c ∷ cs) (d ∷ ds) = if same c d then compared_count same cs ds + 1 else 1
+abbrev pub number_of_compared_elements : (ℕ → ℕ → Bool) → List ℕ → List ℕ → ℕ
+number_of_compared_elements same [] ds = 0
+number_of_compared_elements same (c ∷ cs) [] = 1
+number_of_compared_elements same (c ∷ cs) (d ∷ ds) = if same c d then number_of_compared_elements same cs ds + 1 else 1
 
 -- The number of consecutive chunks that are compared with the bytes, up to and including the first
 -- that differs.
@@ -108,9 +108,9 @@ module _ (text : Text) where
   -- The number of code points of a string that are compared.
   abbrev pub compared_code_point_count : (icase : Bool) → List ℕ → Direction → ℕ → ℕ
   compared_code_point_count icase string rightwards place =
-      compared_count (is_case_variant text icase) string (nearest_first rightwards place)
+      number_of_compared_elements (is_case_variant text icase) string (nearest_first rightwards place)
   compared_code_point_count icase string leftwards place =
-      compared_count (is_case_variant text icase) (reverse string) (nearest_first leftwards place)
+      number_of_compared_elements (is_case_variant text icase) (reverse string) (nearest_first leftwards place)
 
   -- The number of chunks of a byte sequence that are compared.
   abbrev pub compared_chunk_count : List ℕ → Direction → ℕ → ℕ

@@ -26,8 +26,8 @@ pub record PatternContext : Type 0 where
   pub groups : List RemainingCodePoints
 
 -- The number of groups that have opened.
-abbrev pub groups_at : ParseState → ℕ
-groups_at p = length p.opened
+abbrev pub number_of_opened_groups : ParseState → ℕ
+number_of_opened_groups p = length p.opened
 
 -- The state before a terminal: `p ≡ "(" ▸ q` reads a `(` from p to q.
 infixr 40 ◌▸◌

@@ -12,9 +12,9 @@ use Rattle.regex_meaning.specs.MatchGroupsByNumberAndName.{Answer, answers_from}
 -- ---- A budget: a number of steps, or no limit
 
 -- Whether the budget suffices for a need.
-abbrev pub is_within : (budget : Option ℕ) → (need : ℕ) → Bool
-is_within None need = true
-is_within (Some steps) need = nat_le need steps
+abbrev pub budget_suffices : (budget : Option ℕ) → (need : ℕ) → Bool
+budget_suffices None need = true
+budget_suffices (Some steps) need = nat_le need steps
 
 -- What is left of a budget after `spent` steps.
 abbrev pub remaining_budget : (budget : Option ℕ) → (spent : ℕ) → Option ℕ

@@ -83,8 +83,8 @@ offsets_from at [] = at ∷ []
 offsets_from at (width ∷ widths) = at ∷ offsets_from (at + width) widths
 
 -- The width of a character that is one code unit.
-abbrev pub one_unit : ℕ → ℕ
-one_unit c = 1
+abbrev pub width_of_single_unit_character : ℕ → ℕ
+width_of_single_unit_character c = 1
 
 -- The fold of a character, or the character itself if its fold is not a `char`.
 abbrev pub fold_char : (unicode : Bool) → ℕ → ℕ
@@ -108,7 +108,7 @@ utf8_text bytes unicode = record {
 abbrev pub ascii_text : List ℕ → (unicode : Bool) → Text
 ascii_text bytes unicode = record {
   characters = bytes;
-  offsets = offsets_from 0 (map one_unit bytes);
+  offsets = offsets_from 0 (map width_of_single_unit_character bytes);
   unicode = unicode;
   fold = fold_ascii unicode;
 }
@@ -156,7 +156,7 @@ is_unit_boundary units i = contains (offsets_from 0 (map utf16_width (utf16_char
 abbrev pub ucs2_text : List ℕ → (unicode : Bool) → Text
 ucs2_text units unicode = record {
   characters = units;
-  offsets = offsets_from 0 (map one_unit units);
+  offsets = offsets_from 0 (map width_of_single_unit_character units);
   unicode = unicode;
   fold = fold_code_point unicode;
 }

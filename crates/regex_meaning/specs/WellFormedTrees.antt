@@ -9,13 +9,13 @@ use Rattle.regex_meaning.specs.Tree.{match_any, match_any_except_line_terminator
 use Rattle.regex_meaning.specs.Tree.{every_node_passes}
 
 -- 1 for `Goal`, 0 for any other node
-abbrev pub own_goals : Node → ℕ
-own_goals goal = 1
-own_goals _ = 0
+abbrev pub one_if_goal_node : Node → ℕ
+one_if_goal_node goal = 1
+one_if_goal_node _ = 0
 
 -- The number of `Goal` nodes in the tree.
 abbrev pub number_of_goal_nodes : Node → ℕ
-number_of_goal_nodes root = fold_nodes ◌+◌ own_goals root
+number_of_goal_nodes root = fold_nodes ◌+◌ one_if_goal_node root
 
 -- The node is the end of a `Cat`.
 abbrev pub is_end_of_cat : Node → Bool
@@ -39,16 +39,17 @@ each_id_stands_once root =
     list_all (λ id. count_by (nat_eq id) ids == 1) (numbers_from 0 (length ids))
 
 -- The ids from `start_group` up to `end_group`, exclusive, are exactly those of the groups inside.
-abbrev pub encloses : (start_group end_group : ℕ) → (contents : Node) → Bool
-encloses start_group end_group contents =
+abbrev pub range_is_ids_of_enclosed_groups : (start_group end_group : ℕ) → (contents : Node) → Bool
+range_is_ids_of_enclosed_groups start_group end_group contents =
     let ids = group_ids contents in
     let named = numbers_from start_group (end_group - start_group) in
     nat_le start_group end_group && list_all (contains named) ids && list_all (contains ids) named
 
 -- The range of group ids of a loop or a lookaround contains exactly the groups inside it.
 abbrev pub has_exact_group_range : Node → Bool
-has_exact_group_range (lookaround l contents) = encloses l.start_group l.end_group contents
-has_exact_group_range (loop q start_group end_group loopee) = encloses start_group end_group loopee
+has_exact_group_range (lookaround l contents) = range_is_ids_of_enclosed_groups l.start_group l.end_group contents
+has_exact_group_range (loop q start_group end_group loopee) =
+    range_is_ids_of_enclosed_groups start_group end_group loopee
 has_exact_group_range _ = true
 
 -- A backreference refers to one of n groups, which are numbered from 1.

@@ -6,13 +6,13 @@ use Rattle.std.specs.Result.{IsErrAnd}
 use Rattle.std.specs.BTreeMap.{BTreeMap, get_by_text}
 use Rattle.std.specs.Char.{is_digit, is_ascii_alphanumeric}
 use Rattle.std.specs.Int.{is_in_range}
-use Rattle.std.proofs.lemmas.Bool.{or_right, or_cases, eqb-true, eq-eqb, ltb-true}
+use Rattle.std.proofs.lemmas.Bool.{or_right, or_cases, eqb-true, not-true, ltb-true}
+use Rattle.std.proofs.lemmas.Cmp.{nat_list_eq_equiv}
 use Rattle.std.proofs.lemmas.Str.Parse.{digit_from_value}
-use lib.Pointwise.{pointwise}
 use Rattle.regex_meaning.specs.Tree.{by_case}
 use Rattle.regex_meaning.specs.Text.{is_scalar}
 use Rattle.regex_meaning.specs.Tree.{Node, back_ref, bracket}
-use Rattle.regex_meaning.specs.ReadingStatesAndDigits.{RemainingCodePoints, PatternContext, ◌∈◌, begins_with_characters, Digits, digits_from, leading_digits}
+use Rattle.regex_meaning.specs.ReadingStatesAndDigits.{RemainingCodePoints, PatternContext, ◌∈◌, begins_with_characters, Digits, digits_from}
 use Rattle.regex_meaning.specs.ReadingStatesAndDigits.{group_number_of}
 use Rattle.regex_meaning.specs.EscapesNamesQuantifiers.{CharacterEscape, GroupName, group_name}
 use Rattle.regex_meaning.specs.CharacterClasses.{ClassMember, class, class_escape, IsSetOf}
@@ -20,7 +20,7 @@ use Rattle.regex_meaning.specs.Grammar.{SimpleAtom, pattern_character, extended_
 use Rattle.regex_meaning.specs.Grammar.{character_escape, character_class_escape, character_class}
 use Rattle.regex_meaning.specs.GrammarLaws.{no_flags}
 use Rattle.regex_meaning.proofs.DisjunctionReadingLemmas.{first}
-use Rattle.regex_meaning.proofs.EscapesAndNamesLemmas.{inside, firsts, behind, one_digits, one_name, Some_inj}
+use Rattle.regex_meaning.proofs.EscapesAndNamesLemmas.{inside, firsts, behind, one_digits, one_name, Some_inj, is_control_letter, control_letter}
 use Rattle.regex_meaning.proofs.ClassAndAtomLemmas.{escape_begins, may_escape, class_letter, digit_begins}
 use Rattle.regex_meaning.proofs.GroupNameScanLemmas.{scanned}
 use Rattle.regex_meaning.proofs.BackreferenceNumberLemmas.{number-positive, number_of-bounds}
@@ -28,42 +28,43 @@ use Rattle.regex_parser.specs.declared.character_class_parser.DigitWordOrSpaceEs
 use Rattle.regex_pattern_front.specs.declared.flags.Flags.{Flags}
 use Rattle.regex_parser.specs.declared.groupless_terms.GrouplessTerm.{GrouplessTerm as TheLeaf}
 use Rattle.regex_pattern_front.specs.declared.types.BracketContents.{BracketContents as TheContents}
-use Rattle.regex_parser.specs.ClassReaderContracts.{uninverted_digit_word_or_space_set, class_member_of_character_class_escape, escape_of}
-use Rattle.regex_parser.specs.CodePointReaderContracts.{peeked, IsCodePointReadIfAny, is_syntax_error, IsNumberRead}
+use Rattle.regex_parser.specs.ClassReaderContracts.{uninverted_digit_word_or_space_set, class_member_of_character_class_escape, class_escape_of_letter}
+use Rattle.regex_parser.specs.CodePointReaderContracts.{first_char_if_any, IsCodePointReadIfAny, is_syntax_error, IsNumberRead}
 use Rattle.regex_parser.specs.declared.parser_error.ParseStopReason.{ParseStopReason}
-use Rattle.regex_pattern_front.specs.AstToSpecTree.{node_of, spec_flags_of, class_as_spec}
+use Rattle.regex_pattern_front.specs.AstToSpecTree.{spec_node_of, spec_flags_of, class_as_spec}
 use Rattle.regex_parser.specs.GrouplessTermContracts.{NoSimpleAtom, pattern_context, NamesAreNumberedWithinGroupLimit, IsTermReadOrNone, TextBetweenOpensNoGroup}
 use Rattle.regex_parser.specs.GrouplessTermContracts.{begins_backreference, IsReference, IsReferencedGroupNumberRead}
 use Rattle.regex_parser.specs.GrouplessTermContracts.{IsNameWithNumber, IsReferencedNameNumberRead, IsNumberUnlessMissingOrZero, IsDecimalReadIfItFitsU32}
 use Rattle.regex_parser.proofs.GrouplessTermLemmas.{leaf-of}
+use Rattle.regex_parser.proofs.NumberReaderLemmas.{nonzero_digit_bounds, no-number}
 
--- ---- What was asked for stands here
+-- ---- Code points that the reader has peeked at
 
-pub peeked-is : (d : ℕ) (ds : RemainingCodePoints) (c : ℕ) → Some c ≡ peeked (d ∷ ds) → c ≡ d
-peeked-is d ds c e = by (is_scalar d) refl
+pub first_char_if_any-is : (d : ℕ) (ds : RemainingCodePoints) (c : ℕ) → Some c ≡ first_char_if_any (d ∷ ds) → c ≡ d
+first_char_if_any-is d ds c e = by (is_scalar d) refl
   where
     by : (b : Bool) → is_scalar d ≡ b → c ≡ d
     by true f = let g : Some c ≡ Some d = e ∙ rw f refl in Some_inj g
     by false f = let g : Some c ≡ None = e ∙ rw f refl in absurd cc
 
-pub peeked-next : (rest there : RemainingCodePoints) (c : ℕ) (r : Option ℕ) → Some c ≡ peeked rest → IsCodePointReadIfAny rest r there → rest ≡ c ∷ there
-peeked-next [] there c r e n = absurd cc
-peeked-next (d ∷ ds) there c None e n = let f : d ∷ ds ≡ [] = n.0 in absurd cc
-peeked-next (d ∷ ds) there c (Some x) e n =
-    let f : c ≡ d = peeked-is d ds c e in
+pub first_char_if_any-next : (rest there : RemainingCodePoints) (c : ℕ) (r : Option ℕ) → Some c ≡ first_char_if_any rest → IsCodePointReadIfAny rest r there → rest ≡ c ∷ there
+first_char_if_any-next [] there c r e n = absurd cc
+first_char_if_any-next (d ∷ ds) there c None e n = let f : d ∷ ds ≡ [] = n.0 in absurd cc
+first_char_if_any-next (d ∷ ds) there c (Some x) e n =
+    let f : c ≡ d = first_char_if_any-is d ds c e in
     let g : d ∷ ds ≡ x ∷ there = n in
     g ∙ ap (λ (y : ℕ). y ∷ there) (sym (ap first g) ∙ sym f)
 
-pub class-escaped : (flags : Flags) (groups : List RemainingCodePoints) (rest there : RemainingCodePoints) (letter r : Option ℕ) (e : DigitWordOrSpaceEscape) (b : TheContents) → letter ≡ peeked rest → IsCodePointReadIfAny rest r there
-    → option_map class_member_of_character_class_escape (Some e) ≡ escape_of letter → IsSetOf (spec_flags_of flags) (class (uninverted_digit_word_or_space_set e.base) false ∷ []) b.cps → b.invert ≡ e.invert
+pub class-escaped : (flags : Flags) (groups : List RemainingCodePoints) (rest there : RemainingCodePoints) (letter r : Option ℕ) (e : DigitWordOrSpaceEscape) (b : TheContents) → letter ≡ first_char_if_any rest → IsCodePointReadIfAny rest r there
+    → option_map class_member_of_character_class_escape (Some e) ≡ class_escape_of_letter letter → IsSetOf (spec_flags_of flags) (class (uninverted_digit_word_or_space_set e.base) false ∷ []) b.cps → b.invert ≡ e.invert
     → SimpleAtom (pattern_context flags groups) (92 ∷ rest) there (bracket (class_as_spec b))
 class-escaped flags groups rest there None r e b p n m s i = absurd cc
 class-escaped flags groups rest there (Some c) r e b p n m s i =
-    let f : rest ≡ c ∷ there = peeked-next rest there c r p n in
+    let f : rest ≡ c ∷ there = first_char_if_any-next rest there c r p n in
     let is : class_escape c ≡ Some (class (uninverted_digit_word_or_space_set e.base) b.invert) = sym m ∙ ap (λ x. Some (class (uninverted_digit_word_or_space_set e.base) x)) (sym i) in
     character_class_escape (ap (λ (x : RemainingCodePoints). 92 ∷ x) f) is s
 
--- ---- Where no escape stands
+-- ---- Backslashes at which no atom begins
 
 abbrev slash : ℕ → Bool
 slash d = d ∈ "\\"
@@ -90,21 +91,18 @@ no_leaf-slash w rest no_number no_name no_character no_class _ n a = by refl a
     by {there = there} s (character_class_escape {letter = x} f g d) = no_class x there _ (behind s f) g
     by s (character_class f d) = true≢false (ap slash (firsts s f))
 
--- ---- What begins a reference
+-- ---- Characters that begin a reference
 
 abbrev pub is_reference : ℕ → Bool
 is_reference c = c == 107 || is_in_range 49 57 c
 
-pub first-reference : (rest : RemainingCodePoints) (letter : Option ℕ) → letter ≡ peeked rest → begins_backreference letter ≡ true → is_reference (first rest) ≡ true
+pub first-reference : (rest : RemainingCodePoints) (letter : Option ℕ) → letter ≡ first_char_if_any rest → begins_backreference letter ≡ true → is_reference (first rest) ≡ true
 first-reference rest None e f = absurd (true≢false (sym f))
 first-reference [] (Some c) e f = absurd cc
-first-reference (d ∷ ds) (Some c) e f = subst (λ x. is_reference x ≡ true) (peeked-is d ds c e) f
-
-low : (c : ℕ) → is_in_range 49 57 c ≡ true → (49 ≤ c) × (c ≤ 57)
-low c e = (grind arith, grind arith)
+first-reference (d ∷ ds) (Some c) e f = subst (λ x. is_reference x ≡ true) (first_char_if_any-is d ds c e) f
 
 alphanumeric : (c : ℕ) → is_in_range 49 57 c ≡ true → is_ascii_alphanumeric c ≡ true
-alphanumeric c e = let h = low c e in grind arith
+alphanumeric c e = let h = nonzero_digit_bounds c e in grind arith
 
 no_escape : (c : ℕ) → is_reference c ≡ true → may_escape c ≡ true → ⊥
 no_escape c e f = ⊎_elim letter digit (or_cases (c == 107) _ e)
@@ -112,13 +110,10 @@ no_escape c e f = ⊎_elim letter digit (or_cases (c == 107) _ e)
     letter : (c == 107) ≡ true → ⊥
     letter h = true≢false (sym f ∙ ap may_escape (eqb-true c 107 h))
 
-    is_not : (b : Bool) → not b ≡ true → b ≡ false
-    is_not false k = refl
-    is_not true k = sym k
-
     digit : is_in_range 49 57 c ≡ true → ⊥
-    digit h = ⊎_elim (λ x. true≢false (sym h ∙ is_not _ (inside (λ d. not (is_in_range 49 57 d)) (codes "tnvfr0xu") c refl x)))
-        (λ x. true≢false (sym (alphanumeric c h) ∙ is_not _ x)) (or_cases (c ∈ "tnvfr0xu") _ f)
+    digit h = ⊎_elim (λ x. true≢false (sym h ∙ not-true _ (control_letter (λ d. not (is_in_range 49 57 d)) c refl x)))
+        (λ x. ⊎_elim (λ y. true≢false (sym h ∙ not-true _ (inside (λ d. not (is_in_range 49 57 d)) (codes "0xu") c refl y)))
+        (λ y. true≢false (sym (alphanumeric c h) ∙ not-true _ y)) (or_cases (c ∈ "0xu") _ x)) (or_cases (is_control_letter c) _ f)
 
 pub no_leaf-reference : (w : PatternContext) (rest : RemainingCodePoints) → is_reference (first rest) ≡ true
     → ((there : RemainingCodePoints) (n : ℕ) → Digits 10 rest there n → n ≤ length w.groups → ⊥)
@@ -143,10 +138,6 @@ digits-positive rest there n e d = number-positive (no_zero rest e) d
 
 -- ---- Names
 
-same_text : (name : RemainingCodePoints) → pointwise nat_eq name name ≡ true
-same_text [] = refl
-same_text (c ∷ cs) = rw (eq-eqb c c refl, same_text cs) refl
-
 module _ {R : Type 0} (numbers : BTreeMap (String R) ℕ) (groups : List RemainingCodePoints) (known : NamesAreNumberedWithinGroupLimit numbers groups) where
   pub named : {a there name : RemainingCodePoints} {n : ℕ} → GroupName a there name → get_by_text numbers name ≡ Some n → group_number_of name groups ≡ Some n
   named (group_name e f) g = sym (known.0 _ f) ∙ g
@@ -154,8 +145,8 @@ module _ {R : Type 0} (numbers : BTreeMap (String R) ℕ) (groups : List Remaini
   unnamed : {a there name : RemainingCodePoints} {n : ℕ} → GroupName a there name → group_number_of name groups ≡ Some n → get_by_text numbers name ≡ Some n
   unnamed (group_name e f) g = known.0 _ f ∙ g
 
-  -- no group has what stands here
-  pub reference-none : (flags : Flags) (rest : RemainingCodePoints) (letter : Option ℕ) → letter ≡ peeked rest → begins_backreference letter ≡ true
+  -- A backslash before a letter that begins a reference begins no atom if no reference is there.
+  pub reference-none : (flags : Flags) (rest : RemainingCodePoints) (letter : Option ℕ) → letter ≡ first_char_if_any rest → begins_backreference letter ≡ true
       → ((there : RemainingCodePoints) (n : ℕ) → IsReference (λ x. get_by_text numbers x) rest there n → 0 < n → n < 2 ^ 32 → ⊥)
       → NoSimpleAtom (pattern_context flags groups) (92 ∷ rest)
   reference-none flags rest letter p b none =
@@ -177,8 +168,8 @@ module _ {R : Type 0} (numbers : BTreeMap (String R) ℕ) (groups : List Remaini
       (λ a end name m f g h. true≢false (sym (digit_begins d) ∙ ap (λ x. is_digit (first x) 10) f))
   past_groups flags rest there n e (inr x) l = let k = number_of-bounds _ groups n (named x.3 x.4) in absurd (omega (arith, k.1, l))
 
-  pub reference-read : (flags : Flags) (rest there : RemainingCodePoints) (letter : Option ℕ) (l : TheLeaf) (old n new : ℕ) → letter ≡ peeked rest → begins_backreference letter ≡ true
-      → IsReference (λ x. get_by_text numbers x) rest there n → l.is_atom ≡ true → node_of l.node ≡ back_ref n (by_case flags.icase) → new ≡ max old n
+  pub reference-read : (flags : Flags) (rest there : RemainingCodePoints) (letter : Option ℕ) (l : TheLeaf) (old n new : ℕ) → letter ≡ first_char_if_any rest → begins_backreference letter ≡ true
+      → IsReference (λ x. get_by_text numbers x) rest there n → l.is_atom ≡ true → spec_node_of l.node ≡ back_ref n (by_case flags.icase) → new ≡ max old n
       → IsTermReadOrNone (NoSimpleAtom (pattern_context flags groups) (92 ∷ rest)) (pattern_context flags groups) (92 ∷ rest) (Ok l) old new there
   reference-read flags rest there letter l old n new p b r a m k =
       let e = first-reference rest letter p b in (
@@ -190,7 +181,7 @@ module _ {R : Type 0} (numbers : BTreeMap (String R) ℕ) (groups : List Remaini
       by e h true t = inl (ltb-true _ _ t)
       by e h false t = inr (past_groups flags rest there n e r (let low : old ≤ length groups = grind arith in omega (arith, k, h, low)))
 
--- ---- No name of a group stands in it
+-- ---- References, which open no group
 
 many : ℕ → List RemainingCodePoints
 many zero = []
@@ -201,27 +192,27 @@ unfolding many
 so_many zero = refl
 so_many (suc n) = let h = so_many n in omega (arith, h)
 
-pub reference-passed : (numbers : RemainingCodePoints → Option ℕ) (rest there : RemainingCodePoints) (n : ℕ) (letter : Option ℕ) → letter ≡ peeked rest → begins_backreference letter ≡ true → IsReference numbers rest there n → TextBetweenOpensNoGroup (92 ∷ rest) there
+pub reference-passed : (numbers : RemainingCodePoints → Option ℕ) (rest there : RemainingCodePoints) (n : ℕ) (letter : Option ℕ) → letter ≡ first_char_if_any rest → begins_backreference letter ≡ true → IsReference numbers rest there n → TextBetweenOpensNoGroup (92 ∷ rest) there
 reference-passed numbers rest there n letter p b (inl d) =
     scanned.past_leaf (record { flags = no_flags; groups = many n }) _ _ _ (decimal_escape refl (no_zero rest (first-reference rest letter p b)) d (omega (arith, so_many n)))
 reference-passed numbers rest there n letter p b (inr x) =
-    scanned.past_leaf (record { flags = no_flags; groups = x.1 ∷ [] }) _ _ _ (named_reference {n = 1} (ap (λ (y : RemainingCodePoints). 92 ∷ y) x.2) x.3 (rw (same_text x.1) refl))
+    scanned.past_leaf (record { flags = no_flags; groups = x.1 ∷ [] }) _ _ _ (named_reference {n = 1} (ap (λ (y : RemainingCodePoints). 92 ∷ y) x.2) x.3 (rw (nat_list_eq_equiv.refl x.1) refl))
 
--- ---- What is neither a class nor a reference is a character, or nothing
+-- ---- Escapes that are neither a class nor a reference
 
-pub unescaped-none : (w : PatternContext) (rest : RemainingCodePoints) (letter : Option ℕ) → letter ≡ peeked rest
+pub unescaped-none : (w : PatternContext) (rest : RemainingCodePoints) (letter : Option ℕ) → letter ≡ first_char_if_any rest
     → ((x : ℕ) (there : RemainingCodePoints) (m : ClassMember) → rest ≡ x ∷ there → class_escape x ≡ Some m → ⊥) → begins_backreference letter ≡ false
     → ((there : RemainingCodePoints) (c : ℕ) → CharacterEscape w.flags.unicode rest there c → ⊥) → NoSimpleAtom w (92 ∷ rest)
 unescaped-none w rest letter p no_class b no_character =
     no_leaf-slash w rest (λ there n z d l. by_number rest letter p b z d) (λ a there name n f d g. by_name rest letter p b f) no_character no_class
   where
-    here : (d : ℕ) (ds : RemainingCodePoints) (letter : Option ℕ) → is_scalar d ≡ true → letter ≡ peeked (d ∷ ds) → begins_backreference letter ≡ false → is_reference d ≡ false
-    here d ds letter s p b = let e : peeked (d ∷ ds) ≡ Some d = rw s refl in sym (ap begins_backreference (p ∙ e)) ∙ b
+    here : (d : ℕ) (ds : RemainingCodePoints) (letter : Option ℕ) → is_scalar d ≡ true → letter ≡ first_char_if_any (d ∷ ds) → begins_backreference letter ≡ false → is_reference d ≡ false
+    here d ds letter s p b = let e : first_char_if_any (d ∷ ds) ≡ Some d = rw s refl in sym (ap begins_backreference (p ∙ e)) ∙ b
 
-    by_name : (rest : RemainingCodePoints) (letter : Option ℕ) → letter ≡ peeked rest → begins_backreference letter ≡ false → {a : RemainingCodePoints} → rest ≡ 107 ∷ 60 ∷ a → ⊥
-    by_name rest letter p b {a} f = true≢false (here 107 (60 ∷ a) letter refl (p ∙ ap peeked f) b)
+    by_name : (rest : RemainingCodePoints) (letter : Option ℕ) → letter ≡ first_char_if_any rest → begins_backreference letter ≡ false → {a : RemainingCodePoints} → rest ≡ 107 ∷ 60 ∷ a → ⊥
+    by_name rest letter p b {a} f = true≢false (here 107 (60 ∷ a) letter refl (p ∙ ap first_char_if_any f) b)
 
-    by_number : (rest : RemainingCodePoints) (letter : Option ℕ) → letter ≡ peeked rest → begins_backreference letter ≡ false → begins_with_characters "0" rest ≡ false → {there : RemainingCodePoints} {n : ℕ} → Digits 10 rest there n → ⊥
+    by_number : (rest : RemainingCodePoints) (letter : Option ℕ) → letter ≡ first_char_if_any rest → begins_backreference letter ≡ false → begins_with_characters "0" rest ≡ false → {there : RemainingCodePoints} {n : ℕ} → Digits 10 rest there n → ⊥
     by_number [] letter p b z (digits_from k) = omega arith
     by_number (c ∷ cs) letter p b z d = digit (digit_begins d)
       where
@@ -245,11 +236,8 @@ unescaped-none w rest letter p no_class b no_character =
 
 -- ---- The number of a reference
 
-no_digits : {here there : RemainingCodePoints} {n : ℕ} → Digits 10 here there n → leading_digits 10 here ≡ [] → ⊥
-no_digits (digits_from h) e = let k : 0 < length (leading_digits 10 []) = subst (λ x. 0 < length x) e h in omega arith
-
 pub decimal-none : (here there : RemainingCodePoints) → IsNumberRead 10 (2 ^ 64 - 1) here None there → IsDecimalReadIfItFitsU32 here None there
-decimal-none here there h = λ end n d l. no_digits d h.1
+decimal-none here there h = λ end n d l. no-number d h.1
 
 pub decimal-big : (here there : RemainingCodePoints) (v : ℕ) → IsNumberRead 10 (2 ^ 64 - 1) here (Some v) there → 2 ^ 32 ≤ v → IsDecimalReadIfItFitsU32 here None there
 decimal-big here there v h k = λ end n d l. let same : h.0 ≡ n = (one_digits h.1 d).1 in omega (arith, h.2, same, k, l)

@@ -16,7 +16,7 @@ use Rattle.regex_meaning.proofs.CaseLawLemmas.{alike-folds}
 use Rattle.regex_meaning.proofs.BoolLemmas.{same-truth}
 use Rattle.regex_parser.specs.CaseVariantContracts.{match_each_other, AreOtherVariants, matching_seconds, is_between, is_on_side}
 
--- ---- The pairs rise
+-- ---- The order of the fold pairs
 
 abbrev rises : List (ℕ × ℕ) → Bool
 rises [] = true
@@ -52,7 +52,7 @@ firsts-rise (p ∷ ps) h (suc i) (suc j) d le lt = firsts-rise ps (rest-rises p 
 pub fold-pairs-sorted : IsNonDecreasingBy (λ (p : ℕ × ℕ). p.0) fold_pairs
 fold-pairs-sorted = firsts-rise fold_pairs pairs-rise
 
--- ---- A place in a list that rises
+-- ---- Positions in an ordered list of pairs
 
 same-at : (ps : List (ℕ × ℕ)) (k : ℕ) (d e : ℕ × ℕ) → k < length ps → slice_index_or ps k d ≡ slice_index_or ps k e
 same-at [] k d e l = absurd (omega (arith, l))
@@ -73,7 +73,7 @@ above-from ps bound middle n e s l is least k d from within =
     let b : (slice_index_or ps middle d).0 ≡ (slice_index_or ps middle e).0 = ap (λ (p : ℕ × ℕ). p.0) (same-at ps middle d e l) in
     omega (arith, a, b, is, least)
 
--- ---- The part of a list between two places is what passes a test
+-- ---- Elements between two positions, which are those that pass a test
 
 module _ {X : Type 0} (test : X → Bool) where
   filter-none : (xs : List X) → ((k : ℕ) (d : X) → k < length xs → test (slice_index_or xs k d) ≡ false) → filter test xs ≡ []
@@ -127,7 +127,7 @@ pairs-between first last start end low high n ps all e f g below from upto above
     behind-end : (k : ℕ) → start + (n - start) ≤ k → end ≤ k
     behind-end k l = omega (arith, l, g)
 
--- ---- The second numbers of pairs whose first passes a test, and which match
+-- ---- Second numbers of the matching pairs whose first number passes a test
 
 module _ (unicode : Bool) (test : ℕ → Bool) where
   abbrev pub chosen : List (ℕ × ℕ) → List ℕ
@@ -157,7 +157,7 @@ module _ (unicode : Bool) (test : ℕ → Bool) where
       by true false g = g
       by false m g = g
 
-  -- where one of them comes from
+  -- `Chosen ps d` gives a matching pair of `ps` with `d` second whose first number passes the test.
   abbrev pub Chosen : List (ℕ × ℕ) → ℕ → Type 0
   Chosen ps d = (a : ℕ) × Contains {X = ℕ × ℕ} ps (a, d) × (test a ≡ true) × (match_each_other unicode a d ≡ true)
 
@@ -176,7 +176,7 @@ module _ (unicode : Bool) (test : ℕ → Bool) where
       by true f false g later h = later h
       by false f m g later h = later h
 
--- ---- The characters that match one
+-- ---- Characters that match a given one
 
 module _ (unicode : Bool) (c : ℕ) where
   abbrev seconds : List (ℕ × ℕ) → List ℕ
@@ -221,7 +221,7 @@ module _ (unicode : Bool) (c : ℕ) where
   second-below p q k e g =
       ⊎_elim (λ l. let x = ltb-true p.0 q.0 l in absurd (omega (arith, x, e, g))) (λ l. ltb-true p.1 q.1 (and_parts (nat_eq p.0 q.0) (nat_lt p.1 q.1) l).1) (or_cases (nat_lt p.0 q.0) _ k)
 
-  -- a pair with the first number c is below those behind it
+  -- The second number of a pair of `c` and those chosen from the later pairs are increasing.
   increasing-behind : (p : ℕ × ℕ) (ps : List (ℕ × ℕ)) → rises (p ∷ ps) ≡ true → p.0 ≡ c → AreIncreasing (p.1 ∷ seconds ps)
   increasing-behind p [] h e = tt
   increasing-behind p (q ∷ qs) h e =
@@ -271,7 +271,7 @@ module _ (unicode : Bool) (c : ℕ) where
       to : (d : ℕ) → (not (c == d) ≡ true) × (match_each_other unicode c d ≡ true) → contains (seconds fold_pairs) d ≡ true
       to d (n, e) = chosen-have unicode (is_between c c) fold_pairs c d ((IsFoldPairs-fold_pairs c d).1 (λ f. true≢false (sym n ∙ ap not (eq-eqb c d f)), folds-alike d e)) itself-first e
 
--- ---- In order, with the character itself
+-- ---- The variants in order, with the character itself
 
 append-has : (xs ys : List ℕ) (d : ℕ) → contains (xs ++ ys) d ≡ (contains xs d || contains ys d)
 append-has [] ys d = refl
@@ -339,7 +339,7 @@ module _ (c : ℕ) where
   not-later : (x : ℕ) (xs : List ℕ) → contains (x ∷ xs) c ≡ false → contains xs c ≡ false
   not-later x xs n = false_from_ne_true (contains xs c) (λ e. true≢false (sym (or_right (nat_eq c x) (contains xs c) e) ∙ n))
 
-  -- the numbers above c in an increasing list, which does not have it
+  -- The number `c`, then the numbers above it in an increasing list without `c`, are increasing.
   above-increasing : (xs : List ℕ) → AreIncreasing xs → contains xs c ≡ false → AreIncreasing (c ∷ filter (is_on_side c false) xs)
   above-increasing [] h n = tt
   above-increasing (x ∷ xs) h n = by (is_on_side c false x) refl (above-increasing xs (after-first x xs h) (not-later x xs n))
@@ -360,7 +360,7 @@ module _ (c : ℕ) where
       by true e rest other = rw e (k.0, rest (below-false y e))
       by false e rest other = rw e other
 
-  -- with those below it before
+  -- An increasing list from `c` on stays increasing with the lower numbers of `xs` before it.
   both-increasing : (xs ys : List ℕ) → AreIncreasing xs → AreIncreasing (c ∷ ys) → AreIncreasing (filter (is_on_side c true) xs ++ c ∷ ys)
   both-increasing [] ys h g = g
   both-increasing (x ∷ zs) ys h g = by (is_on_side c true x) refl (both-increasing zs ys (after-first x zs h) g)

@@ -11,7 +11,7 @@ use Rattle.regex_meaning.specs.Outcomes.{in_intervals}
 use Rattle.regex_meaning.specs.CharacterClasses.{single_code_point_interval}
 use Rattle.regex_pattern_front.specs.Intervals.{interval_of}
 use Rattle.regex_parser.specs.ClassReaderContracts.{is_in_any_interval}
-use Rattle.regex_parser.specs.CaseVariantContracts.{match_each_other, firsts_that_match, MatchesSome, AddsMatching, AddsMatchingWithin}
+use Rattle.regex_parser.specs.CaseVariantContracts.{match_each_other, firsts_that_match, MatchesSome, AddsMatchingCharacters, AddsMatchingWithin}
 use Rattle.regex_pattern_front.specs.declared.codepointset.Interval.{Interval}
 use Rattle.regex_parser.proofs.LetterCaseClosureLemmas.{in_append, in_ones}
 use Rattle.regex_parser.proofs.CaseVariantLemmas.{folds-alike}
@@ -22,7 +22,7 @@ turned unicode c d e = eq-eqb _ _ (sym (eqb-true _ _ e))
 -- ---- One gap
 
 module _ (unicode : Bool) (test inside : ℕ → Bool) where
-  -- the first numbers inside of the pairs whose second number passes the test
+  -- `nearby` lists the first numbers, inside the gap, of matching pairs whose second passes.
   abbrev nearby : List (ℕ × ℕ) → List ℕ
   nearby ps = firsts_that_match unicode test (filter (λ (p : ℕ × ℕ). inside p.0) ps)
 
@@ -64,7 +64,7 @@ module _ (unicode : Bool) (test inside : ℕ → Bool) where
       by true false g later h = later h
       by false m g later h = later h
 
-  -- the intervals of these numbers
+  -- Appending the numbers of `nearby` adds all numbers inside that match one that passes the test.
   pub nearby-added : (old new : List Interval) → map interval_of new ≡ map interval_of old ++ map single_code_point_interval (nearby fold_pairs)
       → AddsMatchingWithin unicode test inside old new
   nearby-added old new e = record {
@@ -122,7 +122,7 @@ first-bounded (p ∷ ps) c d h (zero, l, at) = ap (λ (x : ℕ × ℕ). nat_le x
 first-bounded (p ∷ ps) c d h (suc k, l, at) = first-bounded ps c d (and_parts (nat_le p.0 0x10FFFF) (bounded ps) h).1 (k, omega (arith, l), at)
 
 within-gaps : (unicode : Bool) (test outside : ℕ → Bool) (old new : List Interval) → ((c : ℕ) → outside c ≡ (nat_le c 0x10FFFF && not (test c)))
-    → AddsMatchingWithin unicode test outside old new → AddsMatching unicode test old new
+    → AddsMatchingWithin unicode test outside old new → AddsMatchingCharacters unicode test old new
 within-gaps unicode test outside old new gaps a = record { sound = a.sound; kept = a.kept; complete = λ d h. by d h (nat_eq d h.0) refl (test d) refl }
   where
     by : (d : ℕ) (h : MatchesSome unicode test d) → (b : Bool) → nat_eq d h.0 ≡ b → (t : Bool) → test d ≡ t → IsTrue (test d) ⊎ IsTrue (is_in_any_interval new d)
@@ -140,6 +140,6 @@ all-taken (i ∷ is) (suc n) l = ap (λ xs. interval_of i ∷ xs) (all-taken is 
 
 pub within-all : (unicode : Bool) (set outside : List (ℕ × ℕ)) (items : List Interval) (n : ℕ) (old new : List Interval) → map interval_of items ≡ outside → length items ≤ n
     → ((c : ℕ) → in_intervals outside c ≡ (nat_le c 0x10FFFF && not (in_intervals set c)))
-    → AddsMatchingWithin unicode (in_intervals set) (in_intervals (take n (map interval_of items))) old new → AddsMatching unicode (in_intervals set) old new
+    → AddsMatchingWithin unicode (in_intervals set) (in_intervals (take n (map interval_of items))) old new → AddsMatchingCharacters unicode (in_intervals set) old new
 within-all unicode set outside items n old new e l gaps a =
     within-gaps unicode (in_intervals set) (in_intervals (take n (map interval_of items))) old new (λ c. ap (λ x. in_intervals x c) (all-taken items n l ∙ e) ∙ gaps c) a

@@ -12,14 +12,14 @@ use Rattle.regex_meaning.specs.Outcomes.{in_intervals}
 use Rattle.regex_meaning.specs.CharacterClasses.{single_code_point_interval}
 use Rattle.regex_pattern_front.specs.Intervals.{interval_of}
 use Rattle.regex_parser.specs.ClassReaderContracts.{is_in_any_interval}
-use Rattle.regex_parser.specs.CaseVariantContracts.{is_between, MatchesSome, AddsMatching}
+use Rattle.regex_parser.specs.CaseVariantContracts.{is_between, MatchesSome, AddsMatchingCharacters}
 use Rattle.regex_pattern_front.specs.declared.codepointset.Interval.{Interval}
 use Rattle.regex_parser.proofs.LetterCaseClosureLemmas.{in_append, in_ones}
 use Rattle.regex_parser.proofs.CaseVariantLemmas.{folds-alike, chosen, Chosen, chosen-have, chosen-from}
 
 module _ (unicode : Bool) (test : ℕ → Bool) where
-  -- the intervals of the numbers chosen
-  pub chosen-added : (old new : List Interval) → map interval_of new ≡ map interval_of old ++ map single_code_point_interval (chosen unicode test fold_pairs) → AddsMatching unicode test old new
+  -- Appending the numbers chosen from the fold pairs adds all that match one that passes the test.
+  pub chosen-added : (old new : List Interval) → map interval_of new ≡ map interval_of old ++ map single_code_point_interval (chosen unicode test fold_pairs) → AddsMatchingCharacters unicode test old new
   chosen-added old new e = record {
     sound = λ d h. ⊎_elim (λ k. inl k) (λ k. inr (some d (chosen-from unicode test fold_pairs d k))) (or_cases (is_in_any_interval old d) _ (sym (holds d) ∙ h));
     kept = λ d h. holds d ∙ or_left (is_in_any_interval old d) _ h;
@@ -42,7 +42,7 @@ module _ (unicode : Bool) (test : ℕ → Bool) where
 
 -- ---- One interval after another
 
-pub adds-none : (unicode : Bool) (test : ℕ → Bool) (old : List Interval) → ((c : ℕ) → test c ≡ false) → AddsMatching unicode test old old
+pub adds-none : (unicode : Bool) (test : ℕ → Bool) (old : List Interval) → ((c : ℕ) → test c ≡ false) → AddsMatchingCharacters unicode test old old
 adds-none unicode test old none = record {
   sound = λ d h. inl h;
   kept = λ d h. h;
@@ -50,7 +50,7 @@ adds-none unicode test old none = record {
 }
 
 pub adds-more : (unicode : Bool) (test more both : ℕ → Bool) (old middle new : List Interval) → ((c : ℕ) → both c ≡ (test c || more c))
-    → AddsMatching unicode test old middle → AddsMatching unicode more middle new → AddsMatching unicode both old new
+    → AddsMatchingCharacters unicode test old middle → AddsMatchingCharacters unicode more middle new → AddsMatchingCharacters unicode both old new
 adds-more unicode test more both old middle new joins a b = record {
   sound = λ d h. ⊎_elim (λ k. ⊎_elim (λ l. inl l) (λ l. inr (l.0, joins l.0 ∙ or_left (test l.0) _ l.1, l.2)) (a.sound d k)) (λ k. inr (k.0, joins k.0 ∙ or_right (test k.0) _ k.1, k.2)) (b.sound d h);
   kept = λ d h. b.kept d (a.kept d h);

@@ -1,13 +1,11 @@
 -- The class reader reads the members and sets that the profile's grammar specifies.
-use Rattle.std.proofs.Common.{◌≡◌, ℕ, ◌<◌, ◌≤◌, ◌⊎◌, inl, inr, Bool, true, false, not, ◌&&◌, ◌||◌, List, [], ◌∷◌, ◌++◌, map, true≢false, ⊎_elim}
+use Rattle.std.proofs.Common.{◌≡◌, ℕ, ◌<◌, ◌≤◌, ◌⊎◌, inl, inr, Bool, true, false, not, ◌&&◌, ◌||◌, List, [], ◌∷◌, ◌++◌, true≢false, ⊎_elim}
 use Rattle.std.proofs.Common.{nat_eq, refl, sym, ap, ap₂, subst, ◌∙◌, arith, append_assoc, append-nil, Some, None}
 use Rattle.std.specs.Prelude.{if◌then◌else◌, ◌==◌, nat_le, Option, Result, Ok, Err, IfOk, OnOk, IsErr, IsTrue}
 use Rattle.std.specs.Result.{IsErrAnd}
 use Rattle.std.specs.List.{list_any}
 use Rattle.std.proofs.lemmas.Bool.{ne_eqb, eqb-true, or_cases}
-use Rattle.std.proofs.lemmas.List.Folds.{list_any-append}
 use Rattle.std.proofs.Math.Bool.{or-false}
-use Rattle.std.proofs.lemmas.List.{map-append}
 use Rattle.regex_meaning.specs.Tree.{Intervals, Flags}
 use Rattle.regex_meaning.specs.Outcomes.{in_intervals}
 use Rattle.regex_meaning.specs.Text.{expand_code_point, is_scalar}
@@ -21,11 +19,11 @@ use Rattle.regex_meaning.proofs.DisjunctionReadingLemmas.{first, rest_of}
 use Rattle.regex_meaning.proofs.EscapesAndNamesLemmas.{behind}
 use Rattle.regex_meaning.proofs.ClassAndAtomLemmas.{class_letter, one_class_atom, atom_starts, is_range, atom_from, character_inj, one_member, member_starts}
 use Rattle.regex_pattern_front.specs.declared.codepointset.Interval.{Interval}
-use Rattle.regex_pattern_front.specs.Intervals.{interval_of}
 use Rattle.regex_parser.specs.declared.parser_error.ParseStopReason.{ParseStopReason}
-use Rattle.regex_parser.specs.CodePointReaderContracts.{is_syntax_error, peeked, IsEaten, IsCodePointReadIfAny, IsUnescapedRead, IsReadAndErrorMeansUnreadable}
-use Rattle.regex_parser.specs.ClassReaderContracts.{is_in_any_interval, escape_of, begins_nested_class_or_operation, IsCaseClosureOfTest, AddsMembers}
+use Rattle.regex_parser.specs.CodePointReaderContracts.{is_syntax_error, first_char_if_any, IsEaten, IsCodePointReadIfAny, IsUnescapedRead, IsReadAndErrorMeansUnreadable}
+use Rattle.regex_parser.specs.ClassReaderContracts.{is_in_any_interval, class_escape_of_letter, begins_nested_class_or_operation, IsCaseClosureOfTest, AddsMembers}
 use Rattle.regex_parser.specs.ClassReaderContracts.{IsClassMemberRead, AreClassRangesRead}
+use Rattle.regex_parser.proofs.ClassMemberListLemmas.{held-append, added-set, added-more, other_in_class}
 use Rattle.regex_parser.proofs.LetterCaseClosureLemmas.{closed-twice}
 use Rattle.regex_parser.proofs.NumberReaderLemmas.{no_sign}
 
@@ -56,7 +54,7 @@ closure-all flags test first last set e is closed_under_case_folding apart same 
       ∙ ap (λ b. list_any test (expand_code_point c b flags.unicode)) (sym e);
 }
 
--- the set of a class escape
+-- The case closure of the intervals of a class is the set of that class.
 pub set-of_class : (flags : Flags) (base set : Intervals) (test : ℕ → Bool) → ((c : ℕ) → test c ≡ in_intervals base c) → IsCaseClosureOfTest flags test set
     → IsSetOf flags (class base false ∷ []) set
 set-of_class flags base set test e s = record {
@@ -66,7 +64,7 @@ set-of_class flags base set test e s = record {
       ∙ closed-same flags (closed_under_case_folding flags (in_intervals base)) (λ d. closed_under_case_folding flags (in_intervals base) d || false) c (λ d. sym (or-false _));
 }
 
--- and which numbers it has
+-- The set of a class has exactly the numbers that the class contains.
 pub class-has : (flags : Flags) (base set : Intervals) → IsSetOf flags (class base false ∷ []) set → (c : ℕ) → in_intervals set c ≡ class_member_contains flags c (class base false)
 class-has flags base set s c =
     s.same c ∙ closed-same flags (λ d. closed_under_case_folding flags (in_intervals base) d || false) (closed_under_case_folding flags (in_intervals base)) c (λ d. or-false _)
@@ -78,9 +76,6 @@ class-has_not flags base set other s e c = e c ∙ ap (λ b. nat_le c 0x10_FFFF 
 
 -- ---- Intervals added
 
-held-append : (xs ys : List Interval) (c : ℕ) → is_in_any_interval (xs ++ ys) c ≡ (is_in_any_interval xs c || is_in_any_interval ys c)
-held-append xs ys c = ap (λ z. in_intervals z c) (map-append interval_of xs ys) ∙ list_any-append _ (map interval_of xs) (map interval_of ys)
-
 pub adds-none : (flags : Flags) (xs : List Interval) → AddsMembers flags xs xs []
 adds-none flags xs c = sym (or-false (is_in_any_interval xs c))
 
@@ -88,18 +83,12 @@ pub adds-range : (flags : Flags) (xs : List Interval) (first last : ℕ) → Add
 adds-range flags xs first last c = held-append xs (record { first = first; last = last } ∷ []) c
 
 pub adds-set : (flags : Flags) (xs ys : List Interval) (m : ClassMember) → ((c : ℕ) → is_in_any_interval ys c ≡ class_member_contains flags c m) → AddsMembers flags xs (xs ++ ys) (m ∷ [])
-adds-set flags xs ys m e c = held-append xs ys c ∙ ap (λ b. is_in_any_interval xs c || b) (e c ∙ sym (or-false (class_member_contains flags c m)))
+adds-set flags xs ys m e = added-set (class_member_contains flags) xs ys m e
 
 pub adds-more : (flags : Flags) (xs ys zs : List Interval) (ms ns : List ClassMember) → AddsMembers flags xs ys ms → AddsMembers flags ys zs ns → AddsMembers flags xs zs (ms ++ ns)
-adds-more flags xs ys zs ms ns a b c =
-    b c ∙ ap (λ x. x || list_any (class_member_contains flags c) ns) (a c) ∙ assoc (is_in_any_interval xs c) (list_any (class_member_contains flags c) ms) (list_any (class_member_contains flags c) ns)
-    ∙ ap (λ x. is_in_any_interval xs c || x) (sym (list_any-append (class_member_contains flags c) ms ns))
-  where
-    assoc : (x y z : Bool) → ((x || y) || z) ≡ (x || (y || z))
-    assoc true y z = refl
-    assoc false y z = refl
+adds-more flags xs ys zs ms ns a b = added-more (class_member_contains flags) xs ys zs ms ns a b
 
--- the set of all members
+-- The case closure of the intervals that members add to none is the set of the members.
 pub set-of_members : (flags : Flags) (xs : List Interval) (ms : List ClassMember) (set : Intervals) → AddsMembers flags [] xs ms → IsCaseClosureOfTest flags (is_in_any_interval xs) set → IsSetOf flags ms set
 set-of_members flags xs ms set a s = record {
   apart = s.apart;
@@ -108,13 +97,10 @@ set-of_members flags xs ms set a s = record {
 
 -- ---- Atoms
 
-other_in_class : (c : ℕ) → (c ≡ 92 → ⊥) → (c ≡ 93 → ⊥) → c ∈ "\\]" ≡ false
-other_in_class c e f = rw (ne_eqb c 92 e, ne_eqb c 93 f) refl
-
 pub atom-verbatim : {flags : Flags} {rest : RemainingCodePoints} (c : ℕ) → (c ≡ 92 → ⊥) → (c ≡ 93 → ⊥) → ClassAtom flags (c ∷ rest) rest (character c)
 atom-verbatim c e f = verbatim refl (other_in_class c e f)
 
--- behind a backslash nothing can be read
+-- A backslash begins no class atom if no class letter, no `b` and no character escape follows.
 pub no_atom : {flags : Flags} {here : RemainingCodePoints} → ((letter : ℕ) (there : RemainingCodePoints) (m : ClassMember) → here ≡ letter ∷ there → class_escape letter ≡ Some m → ⊥)
     → ((there : RemainingCodePoints) → here ≡ 98 ∷ there → ⊥) → ((end : RemainingCodePoints) (c : ℕ) → CharacterEscape flags.unicode here end c → ⊥)
     → (end : RemainingCodePoints) (m : ClassMember) → ClassAtom flags (92 ∷ here) end m → ⊥
@@ -130,7 +116,7 @@ member-none none end ms (alone a k) = none _ _ a
 member-none none end ms (from_to a e d le) = none _ _ a
 member-none none end ms (no_range a e d f) = none _ _ a
 
--- no end of the range can be read
+-- No class members are read at an atom if a range's dash follows it and no atom follows the dash.
 pub member-no_end : {flags : Flags} {here a b : RemainingCodePoints} {m : ClassMember} → ClassAtom flags here a m → a ≡ 45 ∷ b → IsRangeDash a → ((end : RemainingCodePoints) (n : ClassMember) → ClassAtom flags b end n → ⊥)
     → (end : RemainingCodePoints) (ms : List ClassMember) → ClassMembers flags here end ms → ⊥
 member-no_end p e r none end ms (alone q k) = let h = one_class_atom p q in k (subst IsRangeDash h.0 r)
@@ -151,9 +137,9 @@ member-not_in_order p e r less end ms (no_range q f d g) =
     let h = one_class_atom p q in
     let k = one_class_atom r (atom_from (behind e (h.0 ∙ f)) d) in true≢false (ap₂ are_characters h.1 k.1 ∙ g)
 
--- ---- Up to the end
+-- ---- Ranges up to the closing bracket
 
--- these members are read, and the rest decides
+-- Ranges there give ranges here with `ms` in front, and ranges here need ranges there.
 pub record RangesSoFar (flags : Flags) (here there : RemainingCodePoints) (ms : List ClassMember) : Type 0 where
   pub on : (end : RemainingCodePoints) (others : List ClassMember) → ClassRanges flags there end others → ClassRanges flags here end (ms ++ others)
   pub back : (end : RemainingCodePoints) (all : List ClassMember) → ClassRanges flags here end all → (others : List ClassMember) × ClassRanges flags there end others
@@ -183,14 +169,14 @@ ranges-none {flags} {middle = middle} s other none end all r = let h = s.back en
     by (no_more e) = true≢false (ap (λ x. nat_eq (first x) 93) (sym e) ∙ other)
     by (more m r) = none _ _ m
 
--- at the end of the text nothing can be read
+-- No class members are read at the end of the text.
 pub member-nothing : {flags : Flags} {here : RemainingCodePoints} → here ≡ [] → (end : RemainingCodePoints) (ms : List ClassMember) → ClassMembers flags here end ms → ⊥
 member-nothing e = member-none (λ end m a. let h = atom_starts a in by (sym h.2 ∙ e))
   where
     by : {c : ℕ} {cs : RemainingCodePoints} → c ∷ cs ≡ [] → ⊥
     by f = cc
 
--- ---- Answers of calls
+-- ---- Results of calls
 
 pub ok-map : {A E : Type 0} {P Q : A → Type 0} (r : Result A E) → IfOk r P → ((a : A) → P a → Q a) → IfOk r Q
 ok-map (Ok a) h f = f a h
@@ -214,15 +200,15 @@ not_false false e = absurd (true≢false e)
 
 -- ---- Class escapes
 
-pub atom-class : {flags : Flags} (here there : RemainingCodePoints) (o r : Option ℕ) (m : ClassMember) → o ≡ peeked here → escape_of o ≡ Some m → IsCodePointReadIfAny here r there
+pub atom-class : {flags : Flags} (here there : RemainingCodePoints) (o r : Option ℕ) (m : ClassMember) → o ≡ first_char_if_any here → class_escape_of_letter o ≡ Some m → IsCodePointReadIfAny here r there
     → ClassAtom flags (92 ∷ here) there m
-atom-class here there o None m e f n = absurd (none (ap escape_of (sym (e ∙ ap peeked n.0)) ∙ f))
+atom-class here there o None m e f n = absurd (none (ap class_escape_of_letter (sym (e ∙ ap first_char_if_any n.0)) ∙ f))
   where
     none : {A : Type 0} {x : A} → None ≡ Some x → ⊥
     none e = cc
-atom-class here there o (Some c) m e f n = of_class {letter = c} (ap (λ x. 92 ∷ x) n) (by (is_scalar c) (sym (ap escape_of (e ∙ ap peeked n)) ∙ f))
+atom-class here there o (Some c) m e f n = of_class {letter = c} (ap (λ x. 92 ∷ x) n) (by (is_scalar c) (sym (ap class_escape_of_letter (e ∙ ap first_char_if_any n)) ∙ f))
   where
-    by : (b : Bool) → escape_of (if b then Some c else None) ≡ Some m → class_escape c ≡ Some m
+    by : (b : Bool) → class_escape_of_letter (if b then Some c else None) ≡ Some m → class_escape c ≡ Some m
     by true g = g
     by false g = absurd cc
 
@@ -237,8 +223,8 @@ sets-closed here there c (inr (inr u)) e = ap has_set_operation (u.1 ∙ ap (λ 
     by [] = refl
     by (d ∷ ds) = refl
 
-peeked-is : (c d : ℕ) → (c ∈ "[" || (c ∈ "&-" && c == d)) ≡ begins_nested_class_or_operation c (if is_scalar d then Some d else None)
-peeked-is c d = by (is_scalar d) refl
+first_char_if_any-is : (c d : ℕ) → (c ∈ "[" || (c ∈ "&-" && c == d)) ≡ begins_nested_class_or_operation c (if is_scalar d then Some d else None)
+first_char_if_any-is c d = by (is_scalar d) refl
   where
     by : (b : Bool) → is_scalar d ≡ b → (c ∈ "[" || (c ∈ "&-" && c == d)) ≡ begins_nested_class_or_operation c (if b then Some d else None)
     by true e = refl
@@ -266,11 +252,11 @@ peeked-is c d = by (is_scalar d) refl
                 signs (inr h) = ⊎_elim (λ k. true≢false (ap is_scalar (sym (eqb-true c 45 k) ∙ same) ∙ e)) (λ k. true≢false (sym k)) (or_cases (nat_eq c 45) false h)
 
 pub sets-next : (here there : RemainingCodePoints) (c : ℕ) → IsUnescapedRead here (Some c) there → (c ≡ 93 → ⊥)
-    → has_set_operation here ≡ (if begins_nested_class_or_operation c (peeked there) then true else has_set_operation there)
+    → has_set_operation here ≡ (if begins_nested_class_or_operation c (first_char_if_any there) then true else has_set_operation there)
 sets-next here there c (inl u) ne = ap has_set_operation u.1.0 ∙ sym (rw (u.0, u.1.1) refl)
 sets-next here there c (inr (inl u)) ne = ap has_set_operation u.2 ∙ sym (by there)
   where
-    by : (there : RemainingCodePoints) → (if begins_nested_class_or_operation c (peeked there) then true else has_set_operation there) ≡ has_set_operation there
+    by : (there : RemainingCodePoints) → (if begins_nested_class_or_operation c (first_char_if_any there) then true else has_set_operation there) ≡ has_set_operation there
     by [] = rw u.0 refl
     by (e ∷ there) = rw u.0 (at (is_scalar e))
       where
@@ -279,7 +265,7 @@ sets-next here there c (inr (inl u)) ne = ap has_set_operation u.2 ∙ sym (by t
         at false = refl
 sets-next here there c (inr (inr u)) ne = ap has_set_operation u.1 ∙ by there
   where
-    by : (there : RemainingCodePoints) → has_set_operation (c ∷ there) ≡ (if begins_nested_class_or_operation c (peeked there) then true else has_set_operation there)
+    by : (there : RemainingCodePoints) → has_set_operation (c ∷ there) ≡ (if begins_nested_class_or_operation c (first_char_if_any there) then true else has_set_operation there)
     by [] = last (nat_eq c 91)
       where
         last : (b : Bool) → (b || false) ≡ (if b || false then true else false)
@@ -287,22 +273,22 @@ sets-next here there c (inr (inr u)) ne = ap has_set_operation u.1 ∙ by there
         last false = refl
     by (d ∷ there) =
         rw (ne_eqb c 92 u.0, ne_eqb c 93 ne) (merge (nat_eq c 91) (c ∈ "&-" && c == d))
-        ∙ ap (λ b. if b then true else has_set_operation (d ∷ there)) (peeked-is c d)
+        ∙ ap (λ b. if b then true else has_set_operation (d ∷ there)) (first_char_if_any-is c d)
       where
         merge : (x y : Bool) → (if x || false then true else if y then true else has_set_operation (d ∷ there)) ≡ (if (x || false) || y then true else has_set_operation (d ∷ there))
         merge true y = refl
         merge false true = refl
         merge false false = refl
 
--- and by what the code is told of the next one
+-- A class has a set operation if one begins here, as the reader's test tells, or in the rest.
 pub sets-by : (here there : RemainingCodePoints) (c : ℕ) (next : Option ℕ) (told b : Bool) → IsUnescapedRead here (Some c) there → (c ≡ 93 → ⊥)
-    → next ≡ peeked there → told ≡ begins_nested_class_or_operation c next → told ≡ b
+    → next ≡ first_char_if_any there → told ≡ begins_nested_class_or_operation c next → told ≡ b
     → has_set_operation here ≡ (if b then true else has_set_operation there)
 sets-by here there c next told b read ne peek is test =
     sets-next here there c read ne
     ∙ ap (λ t. if t then true else has_set_operation there) (ap (begins_nested_class_or_operation c) (sym peek) ∙ sym is ∙ test)
 
--- ---- Answers that follow from one another
+-- ---- Results that follow from those of other readers
 
 pub err-member : {flags : Flags} {here : RemainingCodePoints} (old new : List Interval) (there : RemainingCodePoints) (r : Result (Unit {0}) ParseStopReason) → IsErr r
     → ((end : RemainingCodePoints) (ms : List ClassMember) → ClassMembers flags here end ms → ⊥) → IsClassMemberRead flags here old r new there
@@ -319,15 +305,15 @@ pub err-ranges : {P : ParseStopReason → Type 0} {flags : Flags} {here : Remain
 err-ranges there (Ok s) e h same none = absurd h
 err-ranges there (Err x) e h same none = λ r. none (sym (ap is_syntax_error (same x h)) ∙ r)
 
--- what was asked for is no letter of a class escape
-pub no_class : (here : RemainingCodePoints) (o : Option ℕ) → o ≡ peeked here → escape_of o ≡ None → (letter : ℕ) (there : RemainingCodePoints) (m : ClassMember) → here ≡ letter ∷ there → class_escape letter ≡ Some m → ⊥
+-- If the peeked code point is no letter of a class escape, no such letter begins the text.
+pub no_class : (here : RemainingCodePoints) (o : Option ℕ) → o ≡ first_char_if_any here → class_escape_of_letter o ≡ None → (letter : ℕ) (there : RemainingCodePoints) (m : ClassMember) → here ≡ letter ∷ there → class_escape letter ≡ Some m → ⊥
 no_class here o e f letter there m g h =
-    by (is_scalar letter) refl (sym (ap escape_of (e ∙ ap peeked g)) ∙ f)
+    by (is_scalar letter) refl (sym (ap class_escape_of_letter (e ∙ ap first_char_if_any g)) ∙ f)
   where
     scalar : is_scalar letter ≡ false → ⊥
     scalar k = true≢false (sym (class_letter is_scalar letter refl h) ∙ k)
 
-    by : (b : Bool) → is_scalar letter ≡ b → escape_of (if b then Some letter else None) ≡ None → ⊥
+    by : (b : Bool) → is_scalar letter ≡ b → class_escape_of_letter (if b then Some letter else None) ≡ None → ⊥
     by true k g = let x : class_escape letter ≡ None = g in cc
     by false k g = scalar k
 
@@ -335,7 +321,7 @@ pub sets-none : (b c : Bool) → c ≡ false → (b && c) ≡ false
 sets-none true c e = e
 sets-none false c e = refl
 
--- a class, from its sign on
+-- Ranges after a possible `^` make a class, unless `unicode_sets` finds a set operation in them.
 pub class-read : {flags : Flags} {here middle there : RemainingCodePoints} {ms : List ClassMember} {set : Intervals} (invert : Bool)
     → (flags.unicode_sets && has_set_operation here) ≡ false → IsEaten 94 here invert middle → ClassRanges flags middle there ms → IsSetOf flags ms set
     → CharacterClass flags here there (record { invert = invert; intervals = set })

@@ -20,7 +20,7 @@ use Rattle.regex_parser.specs.SyntaxDialects.{spec_syntax_of}
 use Rattle.regex_parser.specs.ScannedGroups.{ScansGroups, scans_nothing, scans_group, scans_named_group, scans_wrong_name, scans_other}
 use Rattle.regex_parser.proofs.ScannedGroupsLemmas.{scanned-opened}
 
--- A dialect that is read in one way, whose atoms and names open no group, and whose names are not empty.
+-- A readable dialect is read in one way, its atoms and names open no group, and no name is empty.
 pub record IsReadable (S : PatternDialect) : Type 0 where
   pub one : IsReadInOneWay S
   pub passed : IsScanned S
@@ -41,9 +41,9 @@ pub readable : (x : Syntax) → IsReadable (spec_syntax_of x)
 readable Profile = record { one = reads; passed = scanned; some_name = λ here there name g. profile-name g }
 readable EcmaScript2018 = record { one = ecmascript-reads; passed = ecmascript-scanned; some_name = λ here there name g. ecmascript-name g }
 
--- ---- The groups ahead
+-- ---- Groups that open ahead
 
--- a scan of two texts finds the groups of both
+-- The names are those that a scan finds in `xs`, then those that a scan finds in `ys`.
 pub record FoundInBoth (S : PatternDialect) (xs ys names : List RemainingCodePoints) : Type 0 where
   pub front : List RemainingCodePoints
   pub back : List RemainingCodePoints
@@ -66,7 +66,7 @@ scans-both (x ∷ xs) (scans_other here e w h) =
     let k = scans-both xs h in
     record { front = k.front; back = k.back; are = k.are; first = scans_other here e w k.first; second = k.second }
 
--- the groups that are found, where these open first
+-- The names are `added`, then those that a scan finds in `ys`.
 pub record FoundBehind (S : PatternDialect) (added ys names : List RemainingCodePoints) : Type 0 where
   pub back : List RemainingCodePoints
   pub are : names ≡ added ++ back

@@ -19,9 +19,10 @@ use Rattle.regex_parser.specs.declared.parser_error.ParseStopReason.{ParseStopRe
 use Rattle.regex_parser.specs.SyntaxDialects.{AreGroupsKnownIn}
 use Rattle.regex_parser.specs.EcmaTermContracts.{AreGroupsKnown, IsEcmaAtomOr, IsEcmaTermRead}
 use Rattle.regex_parser.specs.GrouplessTermContracts.{IsAtomOr, IsAtomOrIn, IsTermReadIn, IsGrouplessTermReadIfPresent, NamesAreNumberedWithinGroupLimit}
-use Rattle.regex_parser.specs.GrouplessTermContracts.{TextBetweenOpensNoGroup, is_paren_or_bar, parse_state_at}
+use Rattle.regex_parser.specs.GrouplessTermContracts.{TextBetweenOpensNoGroup, is_paren_or_bar}
+use Rattle.regex_parser.specs.ParserInvariants.{parse_state}
 
--- a term without groups opens none
+-- A term without groups that begins with neither a parenthesis nor a bar opens no group.
 pub passed-term : (S : PatternDialect) → IsScanned S → (w : PatternContext) (c : ℕ) (rest there : RemainingCodePoints) (is_atom : Bool) (n : Node) → is_paren_or_bar c ≡ false → IsAtomOrIn S is_atom w (c ∷ rest) there n
     → TextBetweenOpensNoGroup (c ∷ rest) there
 passed-term S scan w c rest there is_atom n e h = by is_atom h
@@ -29,7 +30,7 @@ passed-term S scan w c rest there is_atom n e h = by is_atom h
     opens : {ds : RemainingCodePoints} → c ∷ rest ≡ 40 ∷ ds → ⊥
     opens f = let g : is_paren_or_bar c ≡ true = ap (λ x. is_paren_or_bar (first x)) f in true≢false (sym g ∙ e)
 
-    in_assertion : {q : ParseState} {n : Node} → Assertion S w (parse_state_at (c ∷ rest) []) q n → TextBetweenOpensNoGroup (c ∷ rest) q.text
+    in_assertion : {q : ParseState} {n : Node} → Assertion S w (parse_state (c ∷ rest) []) q n → TextBetweenOpensNoGroup (c ∷ rest) q.text
     in_assertion {q} (start f) = ap (λ x. texts_after_parentheses false x.text) f ∙ past false 94 q.text refl
     in_assertion {q} (end f) = ap (λ x. texts_after_parentheses false x.text) f ∙ past false 36 q.text refl
     in_assertion {q} (boundary true f) = ap (λ x. texts_after_parentheses false x.text) f ∙ past_escape false 66 q.text
@@ -78,7 +79,7 @@ ecmascript-term w c rest there (Ok l) old new e bound t =
     (passed-term ecmascript ecmascript-scanned w c rest there l.is_atom _ e d, λ less. d, λ past. inl (earlier (length w.groups) old new bound past))
 ecmascript-term w c rest there (Err x) old new e bound t = t
 
--- the group that a reference names, or 0
+-- `group-of` gives the group that a reference names, and 0 for any other node.
 group-of : Node → ℕ
 group-of (back_ref n c) = n
 group-of _ = 0
@@ -96,7 +97,7 @@ within w (property_escape i u e p s) = omega arith
 within w (character_escape {c = c} {members = members} d k l s) = let z = no-reference (nat_lt 1 (length members)) members c in omega (arith, z)
 within w (named_reference {name = name} {n = n} h e d f) = (number_of-bounds name w.groups n f).1
 
--- a reference names no group that there is not
+-- The number of a reference that is read is at most the number of groups.
 pub reference-within : (w : PatternContext) (here there : RemainingCodePoints) (n : ℕ) → AtomEscape w here there (reference_node w n) → n ≤ length w.groups
 unfolding group-of
 reference-within w here there n a = within w a

@@ -1,12 +1,10 @@
 -- The ECMAScript class reader reads the members and sets that the grammar specifies.
-use Rattle.std.proofs.Common.{◌≡◌, ◌⊎◌, ℕ, ◌<◌, ◌≤◌, Bool, true, false, ◌&&◌, ◌||◌, List, [], ◌∷◌, ◌++◌, map, length, true≢false, ⊎_elim, inl, inr, refl, sym}
+use Rattle.std.proofs.Common.{◌≡◌, ◌⊎◌, ℕ, ◌<◌, ◌≤◌, Bool, true, false, ◌&&◌, ◌||◌, List, [], ◌∷◌, ◌++◌, length, true≢false, ⊎_elim, inl, inr, refl, sym}
 use Rattle.std.proofs.Common.{ap, ap₂, subst, ◌∙◌, arith, append_assoc, append-nil, Option, Some, None, is_some, nat_eq, not, codes}
 use Rattle.std.specs.Prelude.{IsTrue, Result, Ok, Err, if◌then◌else◌}
-use Rattle.std.specs.List.{list_any}
 use Rattle.std.proofs.Common.{eqb-true, eq-eqb}
-use Rattle.std.proofs.lemmas.Bool.{ne_eqb, or_cases, or_left}
-use Rattle.std.proofs.lemmas.List.{map-append}
-use Rattle.std.proofs.lemmas.List.Folds.{list_any-append}
+use Rattle.std.proofs.lemmas.Bool.{or_cases, or_left}
+use Rattle.std.proofs.Math.Bool.{or-false}
 use Rattle.regex_meaning.specs.Tree.{Flags, Intervals}
 use Rattle.regex_meaning.specs.Outcomes.{in_intervals}
 use Rattle.regex_meaning.specs.Canonical.{canonicalize, canonical_character}
@@ -24,35 +22,31 @@ use Rattle.regex_meaning.specs.EcmaEscapesAndNames.{CharacterEscape, non_identit
 use Rattle.regex_meaning.proofs.DisjunctionReadingLemmas.{first, rest_of}
 use Rattle.regex_meaning.proofs.ClassAndAtomLemmas.{class_letter}
 use Rattle.regex_meaning.proofs.EcmaClassEscapeSets.{classes-are-closed}
-use Rattle.regex_meaning.proofs.EscapesAndNamesLemmas.{behind, apart, firsts}
+use Rattle.regex_meaning.proofs.EscapesAndNamesLemmas.{behind, apart, firsts, is_control_letter}
 use Rattle.regex_meaning.proofs.EcmaEscapesAndNamesLemmas.{proper-kind, escape_kind}
 use Rattle.regex_meaning.proofs.EcmaClassAndAtomLemmas.{property-from}
 use Rattle.regex_meaning.proofs.EcmaClassAndAtomLemmas.{class_letter as ecma_class_letter}
 use Rattle.regex_meaning.proofs.EcmaClassAndAtomLemmas.{one_class_atom, atom_starts, is_range, atom_from, character_inj, one_member, member_starts}
-use Rattle.regex_pattern_front.specs.Intervals.{interval_of}
 use Rattle.regex_parser.specs.ClassReaderContracts.{is_in_any_interval}
-use Rattle.regex_parser.specs.CaseVariantContracts.{AddsMatching}
+use Rattle.regex_parser.specs.CaseVariantContracts.{AddsMatchingCharacters}
 use Rattle.regex_parser.specs.EcmaClassContracts.{AddsEcmaMembers, IsCanonicalClosure, set_of_letter, IsClassControlRead, IsSimpleClassEscapeRead}
 use Rattle.regex_parser.specs.EcmaClassContracts.{IsEcmaMemberRead}
 use Rattle.regex_parser.specs.EcmaClassContracts.{AreEcmaRangesRead, IsRangeOrCause, member_of_atom}
 use Rattle.regex_parser.specs.declared.ecmascript_classes.AtomValue.{AtomValue}
 use Rattle.regex_parser.specs.declared.ecmascript_classes.AtomValue.TheVariants.{Character, Letter, Property}
 use Rattle.regex_parser.specs.declared.diagnosis.Cause.{Cause}
-use Rattle.regex_parser.specs.CodePointReaderContracts.{is_syntax_error, peeked, IsEaten, IsCodePointReadIfAny, IsReadOrSyntaxError}
+use Rattle.regex_parser.specs.CodePointReaderContracts.{is_syntax_error, first_char_if_any, IsEaten, IsCodePointReadIfAny, IsReadOrSyntaxError}
 use Rattle.regex_parser.specs.declared.parser_error.ParseStopReason.{ParseStopReason}
 use Rattle.std.specs.Result.{IsErrAnd}
+use Rattle.regex_parser.proofs.ClassMemberListLemmas.{held-append, added-set, added-more, other_in_class}
 use Rattle.regex_parser.proofs.NumberReaderLemmas.{no_sign}
-use Rattle.regex_parser.specs.ClassReaderContracts.{uninverted_digit_word_or_space_set, escape_of}
+use Rattle.regex_parser.specs.ClassReaderContracts.{uninverted_digit_word_or_space_set, class_escape_of_letter}
 use Rattle.regex_parser.specs.declared.character_class_parser.CharacterClassType.{CharacterClassType}
 use Rattle.regex_parser.specs.declared.character_class_parser.CharacterClassType.TheVariants.{Digits, WordCharacters, Spaces}
 use Rattle.regex_meaning.specs.Text.{is_word_char, nonascii_folds_to_ascii_word_char, is_scalar}
 use Rattle.regex_pattern_front.specs.declared.codepointset.Interval.{Interval}
 
-or-false : (b : Bool) → (b || false) ≡ b
-or-false true = refl
-or-false false = refl
-
--- ---- Sets of what matches
+-- ---- Canonical closures
 
 pub closure-plain : (flags : Flags) (test : ℕ → Bool) (set : Intervals) → flags.icase ≡ false → AreCanonicalIntervals set → ((c : ℕ) → in_intervals set c ≡ test c)
     → IsCanonicalClosure flags test set
@@ -69,7 +63,7 @@ closure-plain flags test set e apart same = record {
         by true f k = absurd (true≢false f)
 
 pub closure-all : (flags : Flags) (test first : ℕ → Bool) (old new : List Interval) (set : Intervals) → flags.icase ≡ true
-    → ((c : ℕ) → is_in_any_interval old c ≡ test c) → ((c : ℕ) → first c ≡ test c) → AddsMatching flags.unicode first old new
+    → ((c : ℕ) → is_in_any_interval old c ≡ test c) → ((c : ℕ) → first c ≡ test c) → AddsMatchingCharacters flags.unicode first old new
     → AreCanonicalIntervals set → ((c : ℕ) → in_intervals set c ≡ is_in_any_interval new c) → IsCanonicalClosure flags test set
 closure-all flags test first old new set e is firsts a apart same = record { apart = apart; same = λ c. (λ h. from c h, λ h. to c h) }
   where
@@ -89,9 +83,6 @@ closure-all flags test first old new set e is firsts a apart same = record { apa
 
 -- ---- Intervals added
 
-pub held-append : (xs ys : List Interval) (c : ℕ) → is_in_any_interval (xs ++ ys) c ≡ (is_in_any_interval xs c || is_in_any_interval ys c)
-held-append xs ys c = ap (λ z. in_intervals z c) (map-append interval_of xs ys) ∙ list_any-append _ (map interval_of xs) (map interval_of ys)
-
 pub adds-none : (xs : List Interval) → AddsEcmaMembers xs xs []
 adds-none xs c = sym (or-false (is_in_any_interval xs c))
 
@@ -99,18 +90,12 @@ pub adds-range : (xs : List Interval) (first last : ℕ) → AddsEcmaMembers xs 
 adds-range xs first last c = held-append xs (record { first = first; last = last } ∷ []) c
 
 pub adds-set : (xs ys : List Interval) (m : ClassMember) → ((c : ℕ) → is_in_any_interval ys c ≡ class_member_contains m c) → AddsEcmaMembers xs (xs ++ ys) (m ∷ [])
-adds-set xs ys m e c = held-append xs ys c ∙ ap (λ b. is_in_any_interval xs c || b) (e c ∙ sym (or-false (class_member_contains m c)))
+adds-set xs ys m e = added-set (λ c m. class_member_contains m c) xs ys m e
 
 pub adds-more : (xs ys zs : List Interval) (ms ns : List ClassMember) → AddsEcmaMembers xs ys ms → AddsEcmaMembers ys zs ns → AddsEcmaMembers xs zs (ms ++ ns)
-adds-more xs ys zs ms ns a b c =
-    b c ∙ ap (λ x. x || list_any (λ m. class_member_contains m c) ns) (a c) ∙ assoc (is_in_any_interval xs c) (list_any (λ m. class_member_contains m c) ms) (list_any (λ m. class_member_contains m c) ns)
-    ∙ ap (λ x. is_in_any_interval xs c || x) (sym (list_any-append (λ m. class_member_contains m c) ms ns))
-  where
-    assoc : (x y z : Bool) → ((x || y) || z) ≡ (x || (y || z))
-    assoc true y z = refl
-    assoc false y z = refl
+adds-more xs ys zs ms ns a b = added-more (λ c m. class_member_contains m c) xs ys zs ms ns a b
 
--- the set of all members
+-- The canonical closure of the intervals that members add to none is the set of the members.
 pub set-of_members : (flags : Flags) (xs : List Interval) (ms : List ClassMember) (set : Intervals) → AddsEcmaMembers [] xs ms → IsCanonicalClosure flags (is_in_any_interval xs) set → IsSetOf flags ms set
 set-of_members flags xs ms set a s = record {
   apart = s.apart;
@@ -124,7 +109,7 @@ member-none none end ms (alone a k) = none _ _ a
 member-none none end ms (from_to a e d le) = none _ _ a
 member-none none end ms (no_range u a e d f) = none _ _ a
 
--- no end of the range can be read
+-- No class members are read at an atom if a range's dash follows it and no atom follows the dash.
 pub member-no_end : {flags : Flags} {named : Bool} {here a b : RemainingCodePoints} {m : ClassMember} → ClassAtom flags named here a m → a ≡ 45 ∷ b → IsRangeDash a → ((end : RemainingCodePoints) (n : ClassMember) → ClassAtom flags named b end n → ⊥)
     → (end : RemainingCodePoints) (ms : List ClassMember) → ClassMembers flags named here end ms → ⊥
 member-no_end p e r none end ms (alone q k) = let h = one_class_atom p q in k (subst IsRangeDash h.0 r)
@@ -145,9 +130,9 @@ member-not_in_order p e r less end ms (no_range u q f d g) =
     let h = one_class_atom p q in
     let k = one_class_atom r (atom_from (behind e (h.0 ∙ f)) d) in true≢false (ap₂ are_characters h.1 k.1 ∙ g)
 
--- ---- Up to the end
+-- ---- Ranges up to the closing bracket
 
--- these members are read, and the rest decides
+-- Ranges there give ranges here with `ms` in front, and ranges here need ranges there.
 pub record RangesSoFar (flags : Flags) (named : Bool) (here there : RemainingCodePoints) (ms : List ClassMember) : Type 0 where
   pub on : (end : RemainingCodePoints) (others : List ClassMember) → ClassRanges flags named there end others → ClassRanges flags named here end (ms ++ others)
   pub back : (end : RemainingCodePoints) (all : List ClassMember) → ClassRanges flags named here end all → (others : List ClassMember) × ClassRanges flags named there end others
@@ -177,7 +162,7 @@ ranges-none {flags} {named} {middle = middle} s other none end all r = let h = s
     by (no_more e) = true≢false (ap (λ x. nat_eq (first x) 93) (sym e) ∙ other)
     by (more m r) = none _ _ m
 
--- at the end of the text nothing can be read
+-- No class members are read at the end of the text.
 pub member-nothing : {flags : Flags} {named : Bool} {here : RemainingCodePoints} → here ≡ [] → (end : RemainingCodePoints) (ms : List ClassMember) → ClassMembers flags named here end ms → ⊥
 member-nothing e = member-none (λ end m a. let h = atom_starts a in by (sym h.2 ∙ e))
   where
@@ -186,7 +171,7 @@ member-nothing e = member-none (λ end m a. let h = atom_starts a in by (sym h.2
 
 -- ---- Escapes of one letter
 
--- the length of the set of an escape of the profile, and whether it is inverted
+-- `tag` gives the length of the set of a class escape, and whether the escape is inverted.
 abbrev tag : Option Profile.ClassMember → ℕ × Bool
 tag (Some (Profile.class set invert)) = (length set, invert)
 tag _ = (0, false)
@@ -211,7 +196,7 @@ spaces-only flags Digits e = absurd (omega (arith, e))
 spaces-only flags WordCharacters e = absurd (omega (arith, e))
 spaces-only flags Spaces e = refl
 
--- the letters of both tables are the same
+-- A letter that the profile gives a base and an inversion has that base's set in ECMAScript.
 pub letter-set : (flags : Flags) (base : CharacterClassType) (invert : Bool) (letter : ℕ) → Profile.class_escape letter ≡ Some (Profile.class (uninverted_digit_word_or_space_set base) invert)
     → class_escape_set flags letter ≡ Some (set_of_letter flags base, invert)
 letter-set flags base invert letter e =
@@ -232,7 +217,7 @@ letter-set flags base invert letter e =
         ⊎_elim (λ g. at letter 83 g (λ k. letter-case flags space_class true (in_intervals space_class, true) base invert k (spaces-only flags base) refl) e) (λ g. absurd (true≢false (sym g)))
         (or_cases (nat_eq letter 83) false g)) (or_cases (nat_eq letter 115) _ g)) (or_cases (nat_eq letter 87) _ g)) (or_cases (nat_eq letter 119) _ g)) (or_cases (nat_eq letter 68) _ f)
 
--- the set of an escape of one letter is closed
+-- Canonical intervals with the members of an escape of one letter are the set of that escape.
 pub letter-closed : (flags : Flags) (letter : ℕ) (s : InvertibleSet) (set : Intervals) → class_escape_set flags letter ≡ Some s → AreCanonicalIntervals set → ((c : ℕ) → in_intervals set c ≡ s.0 c)
     → IsSetOf flags (class s.0 ∷ []) set
 letter-closed flags letter s set e apart same = record {
@@ -249,14 +234,10 @@ words-all false c = grind arith
 
 -- ---- Atoms
 
-other_in_class : (c : ℕ) → (c ≡ 92 → ⊥) → (c ≡ 93 → ⊥) → c ∈ "\\]" ≡ false
-other_in_class c e f = rw (ne_eqb c 92 e, ne_eqb c 93 f) refl
-
 pub atom-verbatim : {flags : Flags} {named : Bool} {rest : RemainingCodePoints} (c : ℕ) → (c ≡ 92 → ⊥) → (c ≡ 93 → ⊥) → ClassAtom flags named (c ∷ rest) rest (character c)
 atom-verbatim c e f = verbatim refl (other_in_class c e f)
 
--- a backslash without `u` before a `c`
-control-parts : (u b : Bool) → (not u && b) ≡ true → (u ≡ false) × (b ≡ true)
+pub control-parts : (u b : Bool) → (not u && b) ≡ true → (u ≡ false) × (b ≡ true)
 control-parts true b e = absurd (true≢false (sym e))
 control-parts false b e = (refl, e)
 
@@ -282,41 +263,41 @@ pub letter-escape : {flags : Flags} {named : Bool} {here there : RemainingCodePo
     → Profile.class_escape letter ≡ Some (Profile.class (uninverted_digit_word_or_space_set base) invert) → ClassEscape flags named here there (class (is_in_invertible_set (set_of_letter flags base, invert)))
 letter-escape {flags} base invert letter e f = class_escape (by_letter e (letter-set flags base invert letter f))
 
--- an escape of one letter
-pub letter-read : {flags : Flags} {named : Bool} (here there : RemainingCodePoints) (o r : Option ℕ) (base : CharacterClassType) (invert : Bool) → o ≡ peeked here
-    → escape_of o ≡ Some (Profile.class (uninverted_digit_word_or_space_set base) invert) → IsCodePointReadIfAny here r there → ClassEscape flags named here there (class (is_in_invertible_set (set_of_letter flags base, invert)))
-letter-read here there o None base invert e f n = absurd (none (ap escape_of (sym (e ∙ ap peeked n.0)) ∙ f))
+-- If the peeked letter escapes a class, reading it reads the escape of that class.
+pub letter-read : {flags : Flags} {named : Bool} (here there : RemainingCodePoints) (o r : Option ℕ) (base : CharacterClassType) (invert : Bool) → o ≡ first_char_if_any here
+    → class_escape_of_letter o ≡ Some (Profile.class (uninverted_digit_word_or_space_set base) invert) → IsCodePointReadIfAny here r there → ClassEscape flags named here there (class (is_in_invertible_set (set_of_letter flags base, invert)))
+letter-read here there o None base invert e f n = absurd (none (ap class_escape_of_letter (sym (e ∙ ap first_char_if_any n.0)) ∙ f))
   where
     none : {A : Type 0} {x : A} → None ≡ Some x → ⊥
     none e = cc
-letter-read {flags} {named} here there o (Some c) base invert e f n = letter-escape base invert c n (by (is_scalar c) (sym (ap escape_of (e ∙ ap peeked n)) ∙ f))
+letter-read {flags} {named} here there o (Some c) base invert e f n = letter-escape base invert c n (by (is_scalar c) (sym (ap class_escape_of_letter (e ∙ ap first_char_if_any n)) ∙ f))
   where
-    by : (b : Bool) → escape_of (if b then Some c else None) ≡ Some (Profile.class (uninverted_digit_word_or_space_set base) invert) → Profile.class_escape c ≡ Some (Profile.class (uninverted_digit_word_or_space_set base) invert)
+    by : (b : Bool) → class_escape_of_letter (if b then Some c else None) ≡ Some (Profile.class (uninverted_digit_word_or_space_set base) invert) → Profile.class_escape c ≡ Some (Profile.class (uninverted_digit_word_or_space_set base) invert)
     by true g = g
     by false g = absurd cc
 
--- what was asked for is no letter of a class escape
-no-letter : (flags : Flags) (here : RemainingCodePoints) (o : Option ℕ) → o ≡ peeked here → escape_of o ≡ None → (letter : ℕ) (rest : RemainingCodePoints) (s : InvertibleSet) → here ≡ letter ∷ rest
+-- If the peeked code point is no letter of a class escape, no such letter begins the text.
+no-letter : (flags : Flags) (here : RemainingCodePoints) (o : Option ℕ) → o ≡ first_char_if_any here → class_escape_of_letter o ≡ None → (letter : ℕ) (rest : RemainingCodePoints) (s : InvertibleSet) → here ≡ letter ∷ rest
     → class_escape_set flags letter ≡ Some s → ⊥
 no-letter flags here o e f letter rest s g h =
-    by (is_scalar letter) (ecma_class_letter is_scalar flags letter refl h) (sym (ap escape_of (e ∙ ap peeked g)) ∙ f)
+    by (is_scalar letter) (ecma_class_letter is_scalar flags letter refl h) (sym (ap class_escape_of_letter (e ∙ ap first_char_if_any g)) ∙ f)
   where
     some : is_some (Profile.class_escape letter) ≡ true
     some = ecma_class_letter (λ c. is_some (Profile.class_escape c)) flags letter refl h
 
-    by : (b : Bool) → b ≡ true → escape_of (if b then Some letter else None) ≡ None → ⊥
+    by : (b : Bool) → b ≡ true → class_escape_of_letter (if b then Some letter else None) ≡ None → ⊥
     by true k g = true≢false (sym some ∙ ap is_some g)
     by false k g = true≢false (sym k)
 
--- neither a letter nor a property is here
-pub no-class_escape : {flags : Flags} {here : RemainingCodePoints} (o : Option ℕ) → o ≡ peeked here → escape_of o ≡ None
+-- No class escape is read if no letter of one is here and, with `u`, neither `p` nor `P` is.
+pub no-class_escape : {flags : Flags} {here : RemainingCodePoints} (o : Option ℕ) → o ≡ first_char_if_any here → class_escape_of_letter o ≡ None
     → (flags.unicode ≡ true → (invert : Bool) (rest : RemainingCodePoints) → here ≡ (if invert then 80 else 112) ∷ rest → ⊥)
     → (end : RemainingCodePoints) (s : ℕ → Bool) → CharacterClassEscape flags here end s → ⊥
 no-class_escape {flags} {here} o e f none end s (by_letter {letter = l} {s = t} g h) = no-letter flags here o e f l end t g h
 no-class_escape o e f none end s (by_property {a = a} false u g p) = none u false a g
 no-class_escape o e f none end s (by_property {a = a} true u g p) = none u true a g
 
--- an escape of a property
+-- A text that begins with the code of `P` or `p` begins with that word.
 pub property-begin : (invert : Bool) {here a : RemainingCodePoints} → here ≡ (if invert then 80 else 112) ∷ a → here ≡ codes (if invert then "P" else "p") ++ a
 property-begin true e = e
 property-begin false e = e
@@ -342,14 +323,14 @@ no-property invert e none end s (by_property {a = b} {p = p} other u g d) = none
 
 pub no-character : (flags : Flags) (named : Bool) {here a : RemainingCodePoints} (invert : Bool) → flags.unicode ≡ true → here ≡ (if invert then 80 else 112) ∷ a
     → (end : RemainingCodePoints) (c : ℕ) → CharacterEscape (grammar_parameters flags named) here end c → ⊥
-no-character flags named false u e end c (non_identity_escape p) = true≢false (sym (proper-kind p (ap (λ x. escape_kind (first x)) e)) ∙ ap (λ x. first x ∈ "tnvfr") e)
-no-character flags named true u e end c (non_identity_escape p) = true≢false (sym (proper-kind p (ap (λ x. escape_kind (first x)) e)) ∙ ap (λ x. first x ∈ "tnvfr") e)
+no-character flags named false u e end c (non_identity_escape p) = true≢false (sym (proper-kind p (ap (λ x. escape_kind (first x)) e)) ∙ ap (λ x. is_control_letter (first x)) e)
+no-character flags named true u e end c (non_identity_escape p) = true≢false (sym (proper-kind p (ap (λ x. escape_kind (first x)) e)) ∙ ap (λ x. is_control_letter (first x)) e)
 no-character flags named false u e end c (identity_escape f i k) =
     true≢false (sym (ap (is_identity_escape (grammar_parameters flags named)) (firsts e f) ∙ i) ∙ ap (λ b. is_identity_escape (record { unicode = b; named_groups = named }) 112) u)
 no-character flags named true u e end c (identity_escape f i k) =
     true≢false (sym (ap (is_identity_escape (grammar_parameters flags named)) (firsts e f) ∙ i) ∙ ap (λ b. is_identity_escape (record { unicode = b; named_groups = named }) 80) u)
 
--- a wrong property
+-- At `p` or `P` with `u`, no class escape is read if no simple escape and no property is there.
 pub no-property_escape : {flags : Flags} {named : Bool} {here a : RemainingCodePoints} (invert : Bool) → (flags.unicode ≡ true) × (here ≡ (if invert then 80 else 112) ∷ a)
     → ((end : RemainingCodePoints) (c : ℕ) → SimpleClassEscape flags here end c → ⊥) → ((end : RemainingCodePoints) (p : SpecProperty) → PropertyExpression a end p → ⊥)
     → (end : RemainingCodePoints) (m : ClassMember) → ClassEscape flags named here end m → ⊥
@@ -383,7 +364,7 @@ no-dash u no_b no_dash end c (backspace e) = no_b _ e
 no-dash u no_b no_dash end c (dash v e) = no_dash _ e
 no-dash u no_b no_dash end c (class_control_letter v e k) = true≢false (sym u ∙ v)
 
--- ---- Answers that follow from one another
+-- ---- Results that follow from those of other readers
 
 pub err-member : {flags : Flags} {named : Bool} {here : RemainingCodePoints} (old new : List Interval) (there : RemainingCodePoints) (r : Result (Unit {0}) ParseStopReason) (e : ParseStopReason) {P : ParseStopReason → Type 0}
     → IsErrAnd r P → ((x : ParseStopReason) → P x → x ≡ e)
@@ -401,7 +382,7 @@ pub err-or : {A B : Type 0} {P : ParseStopReason → Type 0} (of : A → B) (rea
 err-or of reads there (Ok s) e h same none = absurd h
 err-or of reads there (Err x) e h same none = λ r. none (sym (ap is_syntax_error (same x h)) ∙ r)
 
--- a class, from its sign on
+-- Ranges after a possible `^` make a character class.
 pub class-read : {flags : Flags} {named : Bool} {here middle there : RemainingCodePoints} {ms : List ClassMember} {set : Intervals} (invert : Bool)
     → IsEaten 94 here invert middle → ClassRanges flags named middle there ms → IsSetOf flags ms set → CharacterClass flags named here there (record { invert = invert; intervals = set })
 class-read true e r s = inverted e r s
@@ -428,7 +409,7 @@ member-no_union u p e r none end ms (no_range v q f d g) = true≢false (sym u �
 no-range : {A : Type 0} {i : Interval} → ◌≡◌ {A = Option Interval} (Some i) None → A
 no-range e = absurd (true≢false (ap is_some e))
 
--- a range is read
+-- If two atoms around a dash make an interval, members are read that add that interval.
 pub member-range : {flags : Flags} {named : Bool} {here a b there : RemainingCodePoints} (first second : AtomValue) (i : Interval) (old : List Interval)
     → ClassAtom flags named here a (member_of_atom flags first) → a ≡ 45 ∷ b → ClassAtom flags named b there (member_of_atom flags second) → IsRangeOrCause first second flags.unicode (Ok (Some i))
     → (ms : List ClassMember) × ClassMembers flags named here there ms × AddsEcmaMembers old (old ++ i ∷ []) ms
@@ -439,7 +420,7 @@ member-range (Character c) (Property r invert) i old p e q h = no-range h.1
 member-range (Letter l) second i old p e q h = no-range h.1
 member-range (Property r invert) second i old p e q h = no-range h.1
 
--- the `-` denotes itself
+-- If two atoms around a dash make no range, they are members, and the dash denotes itself.
 pub member-apart : {flags : Flags} {named : Bool} {here a b there : RemainingCodePoints} (first second : AtomValue)
     → ClassAtom flags named here a (member_of_atom flags first) → a ≡ 45 ∷ b → ClassAtom flags named b there (member_of_atom flags second) → IsRangeOrCause first second flags.unicode (Ok None)
     → ClassMembers flags named here there (member_of_atom flags first ∷ character 45 ∷ member_of_atom flags second ∷ [])
@@ -449,7 +430,7 @@ member-apart (Character c) (Property r invert) p e q h = no_range h.0 p e q refl
 member-apart (Letter l) second p e q h = no_range h.0 p e q refl
 member-apart (Property r invert) second p e q h = no_range h.0 p e q refl
 
--- the range is wrong
+-- If two atoms around a dash make a wrong range, no class members are read.
 pub member-wrong : {flags : Flags} {named : Bool} {here a b there : RemainingCodePoints} (first second : AtomValue) (cause : Cause)
     → ClassAtom flags named here a (member_of_atom flags first) → a ≡ 45 ∷ b → ClassAtom flags named b there (member_of_atom flags second) → IsRangeOrCause first second flags.unicode (Err cause)
     → (end : RemainingCodePoints) (ms : List ClassMember) → ClassMembers flags named here end ms → ⊥

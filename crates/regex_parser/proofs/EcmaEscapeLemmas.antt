@@ -33,7 +33,7 @@ high_first first l k = grind arith
 value_first : (first : ℕ) → first ≤ 7 → digit_value (48 + first) ≡ first
 value_first first l = grind arith
 
--- where no digit is read none follows
+-- If a text has no leading octal digit, its next code point is no octal digit.
 none_next : (here : RemainingCodePoints) → leading_digits 8 here ≡ [] → next_code_point_passes is_octal_digit here ≡ false
 none_next [] e = refl
 none_next (c ∷ cs) e = by (is_octal_digit c) refl
@@ -74,7 +74,7 @@ octal-three {here} {middle} {there} {first} {second} {third} l r s =
     same : {x y z : ℕ} → x ≡ first → y ≡ second → z ≡ third → 64 * x + 8 * y + z ≡ 8 * (8 * first + second) + third
     same {x} {y} {z} e f g = omega (arith, e, f, g)
 
--- ---- What begins with a code point
+-- ---- Escapes that begin with a code point
 
 kind-is : {g : GrammarParameters} {here rest end : RemainingCodePoints} {c d : ℕ} → here ≡ c ∷ rest → (x : NonIdentityEscape g here end d) → escape_kind c ≡ tag x
 kind-is e x = let (l, r, f, k) = tagged x in ap escape_kind (firsts e f) ∙ k
@@ -91,7 +91,7 @@ pub control-read : {E : Type 0} (g : GrammarParameters) (c : ℕ) (rest : Remain
 control-read g c rest (Some d) cause is k = control_escape refl (sym is)
 control-read g c rest None cause is k = λ end a x. let h = is ∙ control-inverse k x in cc
 
--- a letter or a sign with which no other escape begins
+-- A code point that is no octal digit and none of `c`, `x` and `u` has the escape kind 1.
 pub other-kind : (c : ℕ) → is_octal_digit c ≡ false → (c ≡ 99 → ⊥) → (c ≡ 120 → ⊥) → (c ≡ 117 → ⊥) → escape_kind c ≡ 1
 other-kind c e f g h = grind arith
 
@@ -127,7 +127,7 @@ pub unicode-none : {g : GrammarParameters} {rest : RemainingCodePoints} → ((en
 unicode-none {g} none end c (unicode_escape e h) = none end c (subst (λ x. UnicodeEscape g.unicode x end c) (sym (ap rest_of e)) h)
 unicode-none none end c x = unlike 117 (tag x) refl (kind-is refl x)
 
--- with `u` only a `\0` without a digit after it is an escape
+-- With `u`, a digit up to 7 begins no escape, except a `0` that no digit follows.
 pub digit-none : {g : GrammarParameters} {rest : RemainingCodePoints} (first : ℕ) → first ≤ 7 → g.unicode ≡ true → (first ≡ 0 → next_code_point_passes is_ascii_digit rest ≡ true)
     → (end : RemainingCodePoints) (c : ℕ) → NonIdentityEscape g ((48 + first) ∷ rest) end c → ⊥
 digit-none first l u none end c (null e k) =
@@ -137,21 +137,21 @@ digit-none first l u none end c (legacy_octal_escape v o) = true≢false (sym u 
 digit-none first l u none end c x =
     unlike 48 (tag x) refl (sym (ap (λ b. if b then 48 else if (48 + first) ∈ "cxu" then 48 + first else 1) (octal_first first l)) ∙ kind-is refl x)
 
--- ---- A character
+-- ---- Character escapes
 
--- an escape that denotes the character itself, where no other is
+-- An identity escape is read if the code point allows it and no other escape is here.
 pub identity-read : {g : GrammarParameters} {here there : RemainingCodePoints} {c : ℕ} → here ≡ c ∷ there → is_identity_escape g c ≡ true
     → ((end : RemainingCodePoints) (d : ℕ) → NonIdentityEscape g here end d → ⊥) → CharacterEscape g here there c
 identity-read e f none = identity_escape e f (λ x. none x.0 x.1 x.2)
 
--- no escape
+-- No character escape is here if neither an identity escape nor another escape is.
 pub no-escape : {g : GrammarParameters} {here : RemainingCodePoints} → ((end : RemainingCodePoints) (d : ℕ) → NonIdentityEscape g here end d → ⊥)
     → ((c : ℕ) (rest : RemainingCodePoints) → here ≡ c ∷ rest → is_identity_escape g c ≡ true → ⊥)
     → (end : RemainingCodePoints) (d : ℕ) → CharacterEscape g here end d → ⊥
 no-escape none other end d (non_identity_escape x) = none end d x
 no-escape none other end d (identity_escape e f k) = other d end e f
 
--- the text begins with this code point, which is that one
+-- The result of reading an escape in `d ∷ rest` holds for a text that is equal to `d ∷ rest`.
 pub at-letter : {E : Type 0} (g : GrammarParameters) {here rest : RemainingCodePoints} (there : RemainingCodePoints) (c d : ℕ) (r : Result ℕ E) → here ≡ c ∷ rest → c ≡ d
     → IsReadOrNothingCanBeRead (NonIdentityEscape g (d ∷ rest)) r there → IsReadOrNothingCanBeRead (NonIdentityEscape g here) r there
 at-letter g {rest = rest} there c d r e f h = subst (λ x. IsReadOrNothingCanBeRead (NonIdentityEscape g x) r there) (sym (e ∙ ap (λ (y : ℕ). y ∷ rest) f)) h

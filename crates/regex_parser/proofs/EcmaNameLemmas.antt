@@ -18,13 +18,13 @@ use Rattle.regex_meaning.proofs.EscapesAndNamesLemmas.{behind, firsts, apart, on
 use Rattle.regex_meaning.proofs.EcmaEscapesAndNamesLemmas.{TestsNames, start-tests, part-tests, no-sign, one_name_character}
 use Rattle.regex_parser.specs.CodePointReaderContracts.{IsReadOrSyntaxError}
 use Rattle.regex_parser.specs.declared.parser_error.ParseStopReason.{ParseStopReason}
-use Rattle.regex_parser.specs.EcmaReaderContracts.{passes_in_name, NameCharacterAt, NoNameCharacter, IsNameCodePointRead}
+use Rattle.regex_parser.specs.EcmaReaderContracts.{is_allowed_as_name_character, NameCharacterAt, NoNameCharacter, IsNameCodePointRead}
 
-pub tests : (is_first : Bool) → TestsNames (passes_in_name is_first)
+pub tests : (is_first : Bool) → TestsNames (is_allowed_as_name_character is_first)
 tests true = start-tests
 tests false = part-tests
 
--- ---- What is no character passes nowhere
+-- ---- Numbers that are no characters, which pass no test
 
 abbrev range_apart : Range → Bool
 range_apart r = nat_lt r.1 0xD800 || (nat_lt 0xDFFF r.0 && nat_lt r.1 0x11_0000)
@@ -52,17 +52,17 @@ none-outside (r ∷ rs) c h out =
         let y = and_parts (nat_lt 0xDFFF r.0) (nat_lt r.1 0x11_0000) x in
         let a = ltb-true r.1 0x11_0000 y.1 in let b = leb-true c r.1 q.1 in omega (arith, a, b, o)
 
--- a character below U+D800 is none of these numbers
+-- A number outside the scalar values differs from every number below U+D800.
 unequal : (c k : ℕ) → OutOfScalarRange c → k < 0xD800 → nat_eq c k ≡ false
 unequal c k (inl o) l = false_from_ne_true (nat_eq c k) (λ e. let f = eqb-true c k e in omega (arith, f, l, o.0))
 unequal c k (inr o) l = false_from_ne_true (nat_eq c k) (λ e. let f = eqb-true c k e in omega (arith, f, l, o))
 
-pub no-character : (is_first : Bool) (c : ℕ) → OutOfScalarRange c → passes_in_name is_first c ≡ false
+pub no-character : (is_first : Bool) (c : ℕ) → OutOfScalarRange c → is_allowed_as_name_character is_first c ≡ false
 unfolding is_id_start id_start_ranges is_id_continue id_continue_ranges
 no-character true c out = rw (none-outside id_start_ranges c refl out, unequal c 95 out (omega arith), unequal c 36 out (omega arith)) refl
 no-character false c out = rw (none-outside id_continue_ranges c refl out, unequal c 36 out (omega arith), unequal c 0x200C out (omega arith), unequal c 0x200D out (omega arith)) refl
 
--- ---- What a code point begins
+-- ---- Characters of names that begin with a code point
 
 pub nil-not-cons : {c : ℕ} {rest : RemainingCodePoints} → [] ≡ c ∷ rest → ⊥
 nil-not-cons e = cc
@@ -73,8 +73,8 @@ nothing-named is_first e end c (escaped f u p) = cc
 nothing-named is_first e end c (surrogates f l r p) = cc
 
 backslash-inverse : (is_first : Bool) {here rest end : RemainingCodePoints} {c : ℕ} → here ≡ 92 ∷ rest → NameCharacterAt is_first here end c
-    → (a : RemainingCodePoints) × (rest ≡ 117 ∷ a) × UnicodeEscape true a end c × (passes_in_name is_first c ≡ true)
-backslash-inverse is_first h (verbatim e f) = absurd (apart (passes_in_name is_first) f (no-sign (tests is_first) 92 refl) (firsts e h))
+    → (a : RemainingCodePoints) × (rest ≡ 117 ∷ a) × UnicodeEscape true a end c × (is_allowed_as_name_character is_first c ≡ true)
+backslash-inverse is_first h (verbatim e f) = absurd (apart (is_allowed_as_name_character is_first) f (no-sign (tests is_first) 92 refl) (firsts e h))
 backslash-inverse is_first h (escaped {a = a} e u f) = (a, behind h e, u, f)
 backslash-inverse is_first h (surrogates e l r f) = absurd (apart is_high_surrogate l refl (firsts e h))
 
@@ -88,13 +88,13 @@ escape-none is_first h none end c x =
 pub escape-read : (is_first : Bool) {here a there : RemainingCodePoints} (c : ℕ) → here ≡ 117 ∷ a → UnicodeEscape true a there c → IsNameCodePointRead is_first (92 ∷ here) (Some c) there
 escape-read is_first {here} {a} {there} c h u = (λ p. escaped (ap (λ x. 92 ∷ x) h) u p, λ p end d x. other p (backslash-inverse is_first refl x))
   where
-    other : {end : RemainingCodePoints} {d : ℕ} → passes_in_name is_first c ≡ false
-        → (b : RemainingCodePoints) × (here ≡ 117 ∷ b) × UnicodeEscape true b end d × (passes_in_name is_first d ≡ true) → ⊥
-    other p (b, e, v, f) = apart (passes_in_name is_first) f p (sym (one_unicode (behind h e) u v).1)
+    other : {end : RemainingCodePoints} {d : ℕ} → is_allowed_as_name_character is_first c ≡ false
+        → (b : RemainingCodePoints) × (here ≡ 117 ∷ b) × UnicodeEscape true b end d × (is_allowed_as_name_character is_first d ≡ true) → ⊥
+    other p (b, e, v, f) = apart (is_allowed_as_name_character is_first) f p (sym (one_unicode (behind h e) u v).1)
 
 lead-inverse : (is_first : Bool) {here rest end : RemainingCodePoints} {lead c : ℕ} → here ≡ lead ∷ rest → is_high_surrogate lead ≡ true → NameCharacterAt is_first here end c
-    → (trail : ℕ) × (rest ≡ trail ∷ end) × (is_low_surrogate trail ≡ true) × (passes_in_name is_first c ≡ true) × (c ≡ 0x1_0000 + (lead - 0xD800) * 0x400 + (trail - 0xDC00))
-lead-inverse is_first {lead = lead} h s (verbatim e f) = absurd (apart (passes_in_name is_first) f ((tests is_first).no_lead lead s) (firsts e h))
+    → (trail : ℕ) × (rest ≡ trail ∷ end) × (is_low_surrogate trail ≡ true) × (is_allowed_as_name_character is_first c ≡ true) × (c ≡ 0x1_0000 + (lead - 0xD800) * 0x400 + (trail - 0xDC00))
+lead-inverse is_first {lead = lead} h s (verbatim e f) = absurd (apart (is_allowed_as_name_character is_first) f ((tests is_first).no_lead lead s) (firsts e h))
 lead-inverse is_first h s (escaped e u f) = absurd (apart is_high_surrogate s refl (firsts h e))
 lead-inverse is_first h s (surrogates {lead = l} {trail = t} e k r f) = (t, behind h e, r, f, ap (λ x. 0x1_0000 + (x - 0xD800) * 0x400 + (t - 0xDC00)) (firsts e h))
 
@@ -106,24 +106,23 @@ pub pair-read : (is_first : Bool) {here there : RemainingCodePoints} {lead trail
     → IsNameCodePointRead is_first (lead ∷ here) (Some (0x1_0000 + (lead - 0xD800) * 0x400 + (trail - 0xDC00))) there
 pair-read is_first {here} {there} {lead} {trail} s h r = (λ p. surrogates (ap (λ x. lead ∷ x) h) s r p, λ p end d x. other p (lead-inverse is_first refl s x))
   where
-    other : {end : RemainingCodePoints} {d : ℕ} → passes_in_name is_first (0x1_0000 + (lead - 0xD800) * 0x400 + (trail - 0xDC00)) ≡ false
-        → (t : ℕ) × (here ≡ t ∷ end) × (is_low_surrogate t ≡ true) × (passes_in_name is_first d ≡ true) × (d ≡ 0x1_0000 + (lead - 0xD800) * 0x400 + (t - 0xDC00)) → ⊥
+    other : {end : RemainingCodePoints} {d : ℕ} → is_allowed_as_name_character is_first (0x1_0000 + (lead - 0xD800) * 0x400 + (trail - 0xDC00)) ≡ false
+        → (t : ℕ) × (here ≡ t ∷ end) × (is_low_surrogate t ≡ true) × (is_allowed_as_name_character is_first d ≡ true) × (d ≡ 0x1_0000 + (lead - 0xD800) * 0x400 + (t - 0xDC00)) → ⊥
     other p (t, e, k, f, v) =
-        apart (passes_in_name is_first) f p (v ∙ ap (λ x. 0x1_0000 + (lead - 0xD800) * 0x400 + (x - 0xDC00)) (firsts e h))
+        apart (is_allowed_as_name_character is_first) f p (v ∙ ap (λ x. 0x1_0000 + (lead - 0xD800) * 0x400 + (x - 0xDC00)) (firsts e h))
 
--- any other code point is itself
+-- A code point that is neither a backslash nor a high surrogate is read as itself.
 pub itself-read : (is_first : Bool) {here there : RemainingCodePoints} {c : ℕ} → here ≡ c ∷ there → (c ≡ 92 → ⊥) → is_high_surrogate c ≡ false → IsNameCodePointRead is_first here (Some c) there
 itself-read is_first {here} {there} {c} h no_backslash no_lead = (λ p. verbatim h p, λ p end d x. other p x)
   where
-    other : {end : RemainingCodePoints} {d : ℕ} → passes_in_name is_first c ≡ false → NameCharacterAt is_first here end d → ⊥
-    other p (verbatim e f) = apart (passes_in_name is_first) f p (firsts e h)
+    other : {end : RemainingCodePoints} {d : ℕ} → is_allowed_as_name_character is_first c ≡ false → NameCharacterAt is_first here end d → ⊥
+    other p (verbatim e f) = apart (is_allowed_as_name_character is_first) f p (firsts e h)
     other p (escaped e u f) = no_backslash (firsts h e)
     other p (surrogates e l r f) = apart is_high_surrogate l no_lead (firsts e h)
 
 -- ---- The name so far
 
--- These characters are read: with the rest of a name behind them they are a name, and every name here
--- goes on with its rest there.
+-- The characters of `name` and a rest there make a name here, and a name here needs a rest there.
 pub record NameSoFar (here : RemainingCodePoints) (name : List ℕ) (there : RemainingCodePoints) : Type 0 where
   pub characters : List ℕ
   pub bytes : name ≡ encode_utf8_all characters
@@ -172,7 +171,7 @@ name-stops {middle = middle} s no_end none end other g = let (more, r) = s.needs
 pub no-name : {here : RemainingCodePoints} → NoNameCharacter true here → (end : RemainingCodePoints) (other : List ℕ) → GroupName here end other → ⊥
 no-name none end other (group_name x r) = none _ _ x
 
--- an answer that hands on a call's error
+-- A result that is an error satisfies the contract of a reader if nothing can be read.
 pub err-read : {A B : Type 0} (of : A → B) (reads : RemainingCodePoints → B → Type 0) (there : RemainingCodePoints) (r : Result A ParseStopReason) → IsErr r
     → ((end : RemainingCodePoints) (b : B) → reads end b → ⊥) → IsReadOrSyntaxError of reads r there
 err-read of reads there (Ok a) e none = absurd (true≢false (sym e))

@@ -12,7 +12,6 @@ use Rattle.std.specs.List.{list_all}
 use Rattle.std.proofs.lemmas.Bool.{eqb-true, eqb-false, eq-eqb, lt-ltb, le-ltb, cases_lt}
 use Rattle.regex_meaning.specs.Tree.{Node, Flags as SpecFlags, BracketContents as SpecContents, bracket, back_ref, char, char_set, alike, by_canonical_case}
 use Rattle.regex_meaning.specs.Text.{is_scalar}
-use Rattle.regex_meaning.specs.NumberListHelpers.{contains}
 use Rattle.regex_meaning.specs.Canonical.{AreCaseVariants}
 use Rattle.regex_meaning.proofs.CaseVariantListLemmas.{few-case-variants}
 use Rattle.regex_meaning.specs.ReadingStatesAndDigits.{RemainingCodePoints, ParseState, PatternContext, ◌∈◌, begins_with_characters, group_number_of}
@@ -48,48 +47,49 @@ use Rattle.regex_pattern_front.specs.declared.ir.Node.{Node as TheNode}
 use Rattle.regex_parser.specs.declared.character_class_parser.CharacterClassType.{CharacterClassType}
 use Rattle.regex_parser.specs.declared.groupless_terms.GrouplessTerm.{GrouplessTerm}
 use Rattle.regex_parser.specs.declared.parser_error.ParseStopReason.{ParseStopReason}
-use Rattle.regex_pattern_front.specs.AstToSpecTree.{node_of, spec_flags_of, class_as_spec}
-use Rattle.regex_parser.specs.ClassReaderContracts.{uninverted_digit_word_or_space_set, escape_of}
-use Rattle.regex_parser.specs.CodePointReaderContracts.{is_syntax_error, peeked, IsCodePointReadIfAny}
+use Rattle.regex_pattern_front.specs.AstToSpecTree.{spec_node_of, spec_flags_of, class_as_spec}
+use Rattle.regex_parser.specs.ClassReaderContracts.{uninverted_digit_word_or_space_set, class_escape_of_letter}
+use Rattle.regex_parser.specs.CodePointReaderContracts.{is_syntax_error, first_char_if_any, IsCodePointReadIfAny}
 use Rattle.regex_parser.specs.EcmaClassContracts.{set_of_letter}
-use Rattle.regex_parser.specs.GrouplessTermContracts.{pattern_context, parse_state_at, anchor_sign, boundary_letter, IsNumberUnlessMissingOrZero}
+use Rattle.regex_parser.specs.GrouplessTermContracts.{pattern_context, anchor_sign, boundary_letter, IsNumberUnlessMissingOrZero}
 use Rattle.regex_parser.specs.GrouplessTermContracts.{is_star_plus_or_question, is_brace_or_closing_bracket, is_paren_or_bar}
+use Rattle.regex_parser.specs.ParserInvariants.{parse_state}
 use Rattle.regex_parser.specs.EcmaTermContracts.{AreGroupsKnown, NoEcmaTerm, IsEcmaAtomOr, IsEcmaTermRead, IsEcmaCharacterNode, NoAtomEscape, IsAtomEscapeRead}
 use Rattle.regex_parser.specs.EcmaTermContracts.{is_nonzero_digit}
 use Rattle.regex_parser.specs.EcmaTermContracts.{IsClassEscapeRead, NoGroupNumber, IsGroupNumberRead, IsEcmaNameWithNumber, IsEcmaNameNumberRead}
 use Rattle.regex_parser.specs.EcmaTermContracts.{IsEcmaReferenceRead}
-use Rattle.regex_parser.proofs.EcmaClassLemmas.{letter-set, no-character, property-begin}
+use Rattle.regex_parser.proofs.EcmaClassLemmas.{letter-set, no-character, property-begin, control-parts}
 use Rattle.regex_parser.proofs.EcmaEscapeLemmas.{digit-none}
-use Rattle.regex_parser.proofs.NumberReaderLemmas.{no_sign}
-use Rattle.regex_parser.proofs.GrouplessTermLemmas.{none_of}
+use Rattle.regex_parser.proofs.NumberReaderLemmas.{no_sign, nonzero_digit_bounds}
+use Rattle.regex_parser.proofs.GrouplessTermLemmas.{none_of, unlike-first, begins_otherwise, no_plain}
 use Rattle.regex_parser.specs.declared.ecmascript_escapes.GrammarParameters.{GrammarParameters as TheParameters}
 use Rattle.regex_parser.specs.EcmaReaderContracts.{spec_parameters_of}
 
 -- ---- Signs
 
 pub anchored-ecma : (flags : Flags) (groups : List RemainingCodePoints) (there : RemainingCodePoints) (t : AnchorType)
-    → IsEcmaAtomOr false (pattern_context flags groups) (anchor_sign t ∷ there) there (node_of (Anchor t flags.multiline))
-unfolding node_of
+    → IsEcmaAtomOr false (pattern_context flags groups) (anchor_sign t ∷ there) there (spec_node_of (Anchor t flags.multiline))
+unfolding spec_node_of
 anchored-ecma flags groups there StartOfLine = λ opened. start refl
 anchored-ecma flags groups there EndOfLine = λ opened. line_end refl
 
 pub bounded-ecma : (flags : Flags) (groups : List RemainingCodePoints) (there : RemainingCodePoints) (invert unicode_icase : Bool) → unicode_icase ≡ (flags.icase && flags.unicode)
-    → IsEcmaAtomOr false (pattern_context flags groups) (92 ∷ boundary_letter invert ∷ there) there (node_of (WordBoundary invert unicode_icase))
-unfolding node_of
+    → IsEcmaAtomOr false (pattern_context flags groups) (92 ∷ boundary_letter invert ∷ there) there (spec_node_of (WordBoundary invert unicode_icase))
+unfolding spec_node_of
 bounded-ecma flags groups there true unicode_icase e = λ opened. rw e (boundary true refl)
 bounded-ecma flags groups there false unicode_icase e = λ opened. rw e (boundary false refl)
 
-pub atom-of : (w : PatternContext) (here there : RemainingCodePoints) (l : GrouplessTerm) (m : Node) → l.is_atom ≡ true → node_of l.node ≡ m → SimpleAtom w here there m → IsEcmaAtomOr l.is_atom w here there (node_of l.node)
-atom-of w here there l m e f d = subst (λ b. IsEcmaAtomOr b w here there (node_of l.node)) (sym e) (subst (λ x. SimpleAtom w here there x) (sym f) d)
+pub atom-of : (w : PatternContext) (here there : RemainingCodePoints) (l : GrouplessTerm) (m : Node) → l.is_atom ≡ true → spec_node_of l.node ≡ m → SimpleAtom w here there m → IsEcmaAtomOr l.is_atom w here there (spec_node_of l.node)
+atom-of w here there l m e f d = subst (λ b. IsEcmaAtomOr b w here there (spec_node_of l.node)) (sym e) (subst (λ x. SimpleAtom w here there x) (sym f) d)
 
 pub dot-all-ecma : (flags : Flags) (groups : List RemainingCodePoints) (there : RemainingCodePoints) (l : GrouplessTerm) → flags.dot_all ≡ true → l.is_atom ≡ true → l.node ≡ MatchAny
-    → IsEcmaAtomOr l.is_atom (pattern_context flags groups) (46 ∷ there) there (node_of l.node)
-unfolding node_of
+    → IsEcmaAtomOr l.is_atom (pattern_context flags groups) (46 ∷ there) there (spec_node_of l.node)
+unfolding spec_node_of
 dot-all-ecma flags groups there l e f g = atom-of _ _ _ l _ f (rw (g, e) refl) (any_character refl)
 
 pub dot-other-ecma : (flags : Flags) (groups : List RemainingCodePoints) (there : RemainingCodePoints) (l : GrouplessTerm) → flags.dot_all ≡ false → l.is_atom ≡ true → l.node ≡ MatchAnyExceptLineTerminator
-    → IsEcmaAtomOr l.is_atom (pattern_context flags groups) (46 ∷ there) there (node_of l.node)
-unfolding node_of
+    → IsEcmaAtomOr l.is_atom (pattern_context flags groups) (46 ∷ there) there (spec_node_of l.node)
+unfolding spec_node_of
 dot-other-ecma flags groups there l e f g = atom-of _ _ _ l _ f (rw (g, e) refl) (any_character refl)
 
 -- ---- Characters
@@ -98,23 +98,20 @@ pub several-variants : (members : List ℕ) (flags : SpecFlags) (c : ℕ) → Ar
 several-variants members flags c s = few-case-variants flags.icase flags.unicode c members s
 
 pub node-variants : (flags : Flags) (c : ℕ) (members : Vec ℕ Global) (n : TheNode) → AreCaseVariants flags.icase flags.unicode c members.items → 1 < length members.items → n ≡ CharSet members
-    → IsEcmaCharacterNode (spec_flags_of flags) c (node_of n)
-unfolding node_of
-node-variants flags c members n s k e = (members.items, s, ap node_of e ∙ sym (ap (λ b. if b then char_set members.items else char c) (lt-ltb 1 (length members.items) k)))
+    → IsEcmaCharacterNode (spec_flags_of flags) c (spec_node_of n)
+unfolding spec_node_of
+node-variants flags c members n s k e = (members.items, s, ap spec_node_of e ∙ sym (ap (λ b. if b then char_set members.items else char c) (lt-ltb 1 (length members.items) k)))
 
 pub node-alone : (flags : Flags) (c : ℕ) (members : List ℕ) (n : TheNode) → AreCaseVariants flags.icase flags.unicode c members → length members ≤ 1 → n ≡ Char c
-    → IsEcmaCharacterNode (spec_flags_of flags) c (node_of n)
-unfolding node_of
-node-alone flags c members n s k e = (members, s, ap node_of e ∙ sym (ap (λ b. if b then char_set members else char c) (le-ltb 1 (length members) k)))
+    → IsEcmaCharacterNode (spec_flags_of flags) c (spec_node_of n)
+unfolding spec_node_of
+node-alone flags c members n s k e = (members, s, ap spec_node_of e ∙ sym (ap (λ b. if b then char_set members else char c) (le-ltb 1 (length members) k)))
 
-pub node-Char : (c : ℕ) → node_of (Char c) ≡ char c
-unfolding node_of
+pub node-Char : (c : ℕ) → spec_node_of (Char c) ≡ char c
+unfolding spec_node_of
 node-Char c = refl
 
 -- ---- Digits
-
-low : (c : ℕ) → is_in_range 49 57 c ≡ true → (49 ≤ c) × (c ≤ 57)
-low c e = (grind arith, grind arith)
 
 digit-is : (c : ℕ) → is_in_range 49 57 c ≡ true → is_digit c 10 ≡ true
 digit-is c e = grind arith
@@ -126,13 +123,13 @@ digit-nonzero : (c : ℕ) → is_digit c 10 ≡ true → (c ≡ 48 → ⊥) → 
 digit-nonzero c e f = grind arith
 
 digit-cases : (c : ℕ) → is_in_range 49 57 c ≡ true → ((n : ℕ) × (c ≡ 48 + n) × (n ≤ 7) × (0 < n)) ⊎ ((c ≡ 56) ⊎ (c ≡ 57))
-digit-cases c e = let h = low c e in ⊎_elim (λ k. inr (by (nat_eq c 56) refl k)) (λ k. inl (c - 48, omega arith, omega arith, omega arith)) (cases_lt 55 c)
+digit-cases c e = let h = nonzero_digit_bounds c e in ⊎_elim (λ k. inr (by (nat_eq c 56) refl k)) (λ k. inl (c - 48, omega arith, omega arith, omega arith)) (cases_lt 55 c)
   where
     by : (b : Bool) → nat_eq c 56 ≡ b → 55 < c → (c ≡ 56) ⊎ (c ≡ 57)
     by true f k = inl (eqb-true c 56 f)
-    by false f k = let h = low c e in let g = eqb-false c 56 f in inr (omega (arith, h, g))
+    by false f k = let h = nonzero_digit_bounds c e in let g = eqb-false c 56 f in inr (omega (arith, h, g))
 
--- with `u` a digit but zero begins no escape of a character
+-- With `u`, a digit from 1 to 9 begins no character escape.
 no-digit : (g : GrammarParameters) → g.unicode ≡ true → (c : ℕ) (rest : RemainingCodePoints) → is_in_range 49 57 c ≡ true → (end : RemainingCodePoints) (d : ℕ) → CharacterEscape g (c ∷ rest) end d → ⊥
 no-digit g u c rest h end d (non_identity_escape p) =
     ⊎_elim (λ x. digit-none x.0 x.2 u (λ z. absurd (omega (arith, x.3, z))) end d (subst (λ y. NonIdentityEscape g (y ∷ rest) end d) x.1 p))
@@ -142,8 +139,8 @@ no-digit g u c rest h end d (identity_escape {c = x} e f k) =
     let in_signs : x ∈ "^$\\.*+?()[]{}|/" ≡ true = sym (ap (λ b. is_identity_escape (record { unicode = b; named_groups = g.named_groups }) x) u) ∙ f in
     true≢false (sym (inside (λ y. not (is_in_range 49 57 y)) (codes "^$\\.*+?()[]{}|/") x refl in_signs) ∙ ap not (ap (is_in_range 49 57) (sym (firsts refl e)) ∙ h))
 
--- what was asked for is a digit but no zero
-first-digit : (here : RemainingCodePoints) (o : Option ℕ) → o ≡ peeked here → is_nonzero_digit o ≡ true → (c : ℕ) × (cs : RemainingCodePoints) × (here ≡ c ∷ cs) × (is_in_range 49 57 c ≡ true)
+-- If the peeked code point is a nonzero digit, the text begins with a digit from 1 to 9.
+first-digit : (here : RemainingCodePoints) (o : Option ℕ) → o ≡ first_char_if_any here → is_nonzero_digit o ≡ true → (c : ℕ) × (cs : RemainingCodePoints) × (here ≡ c ∷ cs) × (is_in_range 49 57 c ≡ true)
 first-digit [] o e f = absurd (true≢false (sym f ∙ ap is_nonzero_digit e))
 first-digit (c ∷ cs) o e f = (c, cs, refl, by (is_scalar c) (sym (ap is_nonzero_digit e) ∙ f))
   where
@@ -154,17 +151,17 @@ first-digit (c ∷ cs) o e f = (c, cs, refl, by (is_scalar c) (sym (ap is_nonzer
 no-zero : (here : RemainingCodePoints) {c : ℕ} {cs : RemainingCodePoints} → here ≡ c ∷ cs → is_in_range 49 57 c ≡ true → begins_with_characters "0" here ≡ false
 no-zero here {c} e h = no_sign "0" 48 refl here (λ rest f. true≢false (sym h ∙ ap (is_in_range 49 57) (firsts e f)))
 
--- it is none
-pub no-begin : (w : PatternContext) (here : RemainingCodePoints) (o : Option ℕ) → o ≡ peeked here → is_nonzero_digit o ≡ false → ¬ (BeginsGroupNumber w here)
+-- If the peeked code point is no nonzero digit, no number of a group begins here.
+pub no-begin : (w : PatternContext) (here : RemainingCodePoints) (o : Option ℕ) → o ≡ first_char_if_any here → is_nonzero_digit o ≡ false → ¬ (BeginsGroupNumber w here)
 no-begin w here o e f (there, n, group_number z d l) = by here o e f z (digit_begins d)
   where
-    by : (here : RemainingCodePoints) (o : Option ℕ) → o ≡ peeked here → is_nonzero_digit o ≡ false → begins_with_characters "0" here ≡ false → is_digit (first here) 10 ≡ true → ⊥
+    by : (here : RemainingCodePoints) (o : Option ℕ) → o ≡ first_char_if_any here → is_nonzero_digit o ≡ false → begins_with_characters "0" here ≡ false → is_digit (first here) 10 ≡ true → ⊥
     by [] o e f z d = true≢false (sym d)
     by (c ∷ cs) o e f z d =
         let h : is_in_range 49 57 c ≡ true = digit-nonzero c d (λ k. true≢false (sym (ap (λ x. begins_with_characters "0" (x ∷ cs)) k) ∙ z)) in
         true≢false (sym h ∙ sym (ap is_nonzero_digit (e ∙ ap (λ b. if b then Some c else None) (digit-scalar c h))) ∙ f)
 
--- ---- Where no atom is
+-- ---- Escapes that make no atom
 
 no-number_escape : (w : PatternContext) (here : RemainingCodePoints) {c : ℕ} {cs : RemainingCodePoints} → w.flags.unicode ≡ true → here ≡ c ∷ cs → is_in_range 49 57 c ≡ true
     → NoGroupNumber (length w.groups) here → NoAtomEscape w here
@@ -229,7 +226,7 @@ no-character_atom w here number name classes none end n (named_reference m f d g
 -- ---- References
 
 pub number-reference : {R : Type 0} (flags : Flags) (count : ℕ) (named : Bool) (numbers : BTreeMap (String R) ℕ) (groups : List RemainingCodePoints) (here there : RemainingCodePoints) (o : Option ℕ)
-    (r : Result (Option ℕ) ParseStopReason) → AreGroupsKnown flags count named numbers groups → o ≡ peeked here → is_nonzero_digit o ≡ true → IsGroupNumberRead count flags.unicode here r there
+    (r : Result (Option ℕ) ParseStopReason) → AreGroupsKnown flags count named numbers groups → o ≡ first_char_if_any here → is_nonzero_digit o ≡ true → IsGroupNumberRead count flags.unicode here r there
     → IsEcmaReferenceRead (pattern_context flags groups) here r there
 number-reference flags count named numbers groups here there o (Ok (Some n)) k e f h =
     let d = first-digit here o e f in decimal_escape (group_number (no-zero here d.2 d.3) h.0 (subst (λ m. n ≤ m) k.counted h.2))
@@ -272,28 +269,28 @@ pub err-reference : {P : ParseStopReason → Type 0} (w : PatternContext) (here 
 err-reference w here there (Ok o) e h same none = absurd h
 err-reference w here there (Err x) e h same none = λ r. none (sym (ap is_syntax_error (same x h)) ∙ r)
 
-pub canonical-leaf : (greatest id : ℕ) (unicode : Bool) → 0 < id → id ≤ greatest → IsWellFormedGrouplessSubtree greatest (node_of (CanonicalBackRef id unicode))
-unfolding node_of
+pub canonical-leaf : (greatest id : ℕ) (unicode : Bool) → 0 < id → id ≤ greatest → IsWellFormedGrouplessSubtree greatest (spec_node_of (CanonicalBackRef id unicode))
+unfolding spec_node_of
 canonical-leaf greatest id unicode h k = leaf-reference greatest id (alike unicode) h k
 
-pub canonical-node : (now old : Flags) (id : ℕ) (n : TheNode) → now ≡ old → now.icase ≡ true → n ≡ CanonicalBackRef id now.unicode → node_of n ≡ back_ref id (by_canonical_case old.icase old.unicode)
-unfolding node_of
+pub canonical-node : (now old : Flags) (id : ℕ) (n : TheNode) → now ≡ old → now.icase ≡ true → n ≡ CanonicalBackRef id now.unicode → spec_node_of n ≡ back_ref id (by_canonical_case old.icase old.unicode)
+unfolding spec_node_of
 canonical-node now old id n same icase e =
-    subst (λ f. node_of n ≡ back_ref id (by_canonical_case f.icase f.unicode)) same (ap node_of e ∙ sym (ap (λ b. back_ref id (by_canonical_case b now.unicode)) icase))
+    subst (λ f. spec_node_of n ≡ back_ref id (by_canonical_case f.icase f.unicode)) same (ap spec_node_of e ∙ sym (ap (λ b. back_ref id (by_canonical_case b now.unicode)) icase))
 
 -- ---- Class escapes
 
-pub letter-atom : (flags : Flags) (groups : List RemainingCodePoints) (here there : RemainingCodePoints) (o r : Option ℕ) (base : CharacterClassType) (invert : Bool) (b : TheContents) → o ≡ peeked here
-    → escape_of o ≡ Some (Profile.class (uninverted_digit_word_or_space_set base) invert) → IsCodePointReadIfAny here r there → b.invert ≡ invert → IsSetOf (spec_flags_of flags) (class (set_of_letter (spec_flags_of flags) base) ∷ []) b.cps
+pub letter-atom : (flags : Flags) (groups : List RemainingCodePoints) (here there : RemainingCodePoints) (o r : Option ℕ) (base : CharacterClassType) (invert : Bool) (b : TheContents) → o ≡ first_char_if_any here
+    → class_escape_of_letter o ≡ Some (Profile.class (uninverted_digit_word_or_space_set base) invert) → IsCodePointReadIfAny here r there → b.invert ≡ invert → IsSetOf (spec_flags_of flags) (class (set_of_letter (spec_flags_of flags) base) ∷ []) b.cps
     → AtomEscape (pattern_context flags groups) here there (bracket (class_as_spec b))
-letter-atom flags groups here there o None base invert b e f n i s = absurd (none (ap escape_of (sym (e ∙ ap peeked n.0)) ∙ f))
+letter-atom flags groups here there o None base invert b e f n i s = absurd (none (ap class_escape_of_letter (sym (e ∙ ap first_char_if_any n.0)) ∙ f))
   where
     none : {A : Type 0} {x : A} → None ≡ Some x → ⊥
     none e = cc
 letter-atom flags groups here there o (Some c) base invert b e f n i s =
-    character_class_escape n (letter-set (spec_flags_of flags) base invert c (by (is_scalar c) (sym (ap escape_of (e ∙ ap peeked n)) ∙ f)) ∙ ap (λ x. Some (set_of_letter (spec_flags_of flags) base, x)) (sym i)) s
+    character_class_escape n (letter-set (spec_flags_of flags) base invert c (by (is_scalar c) (sym (ap class_escape_of_letter (e ∙ ap first_char_if_any n)) ∙ f)) ∙ ap (λ x. Some (set_of_letter (spec_flags_of flags) base, x)) (sym i)) s
   where
-    by : (b : Bool) → escape_of (if b then Some c else None) ≡ Some (Profile.class (uninverted_digit_word_or_space_set base) invert) → Profile.class_escape c ≡ Some (Profile.class (uninverted_digit_word_or_space_set base) invert)
+    by : (b : Bool) → class_escape_of_letter (if b then Some c else None) ≡ Some (Profile.class (uninverted_digit_word_or_space_set base) invert) → Profile.class_escape c ≡ Some (Profile.class (uninverted_digit_word_or_space_set base) invert)
     by true g = g
     by false g = absurd cc
 
@@ -312,31 +309,31 @@ pub err-class : {P : ParseStopReason → Type 0} (flags : Flags) (here there : R
 err-class flags here there (Ok o) e h same none = absurd h
 err-class flags here there (Err x) e h same none = λ r. none (sym (ap is_syntax_error (same x h)) ∙ r)
 
--- ---- Atoms behind a backslash
+-- ---- Atoms that begin with a backslash
 
 pub err-escape : {P : ParseStopReason → Type 0} (w : PatternContext) (here there : RemainingCodePoints) (r : Result GrouplessTerm ParseStopReason) (e : ParseStopReason) → IsErrAnd r P → ((x : ParseStopReason) → P x → x ≡ e)
     → (IsTrue (is_syntax_error e) → NoAtomEscape w here) → IsAtomEscapeRead w here r there
 err-escape w here there (Ok o) e h same none = absurd h
 err-escape w here there (Err x) e h same none = λ r. none (sym (ap is_syntax_error (same x h)) ∙ r)
 
-pub escape-of : (w : PatternContext) (here there : RemainingCodePoints) (l : GrouplessTerm) (m : Node) → l.is_atom ≡ true → node_of l.node ≡ m → AtomEscape w here there m → (l.is_atom ≡ true) × AtomEscape w here there (node_of l.node)
+pub escape-of : (w : PatternContext) (here there : RemainingCodePoints) (l : GrouplessTerm) (m : Node) → l.is_atom ≡ true → spec_node_of l.node ≡ m → AtomEscape w here there m → (l.is_atom ≡ true) × AtomEscape w here there (spec_node_of l.node)
 escape-of w here there l m e f d = (e, subst (λ x. AtomEscape w here there x) (sym f) d)
 
 pub character-atom : (w : PatternContext) (here there : RemainingCodePoints) (c : ℕ) (n : Node) → IsEcmaCharacterNode w.flags c n → CharacterEscape (grammar_parameters_of w) here there c → ¬ (BeginsGroupNumber w here)
     → ((end : RemainingCodePoints) (s : ℕ → Bool) → CharacterClassEscape w.flags here end s → ⊥) → AtomEscape w here there n
 character-atom w here there c n (members, s, e) d number classes = subst (λ x. AtomEscape w here there x) (sym e) (character_escape d number (λ k. classes k.0 k.1 k.2) s)
 
-pub character-escaped : (w : PatternContext) (here there : RemainingCodePoints) (c : ℕ) (r : Result GrouplessTerm ParseStopReason) → IfOk r (λ l. l.is_atom ≡ true) → IfOk r (λ l. IsEcmaCharacterNode w.flags c (node_of l.node))
+pub character-escaped : (w : PatternContext) (here there : RemainingCodePoints) (c : ℕ) (r : Result GrouplessTerm ParseStopReason) → IfOk r (λ l. l.is_atom ≡ true) → IfOk r (λ l. IsEcmaCharacterNode w.flags c (spec_node_of l.node))
     → IfErr r (λ e. is_syntax_error e ≡ false) → CharacterEscape (grammar_parameters_of w) here there c → ¬ (BeginsGroupNumber w here)
     → ((end : RemainingCodePoints) (s : ℕ → Bool) → CharacterClassEscape w.flags here end s → ⊥) → IsAtomEscapeRead w here r there
-character-escaped w here there c (Ok l) a n m d number classes = (a, character-atom w here there c (node_of l.node) n d number classes)
+character-escaped w here there c (Ok l) a n m d number classes = (a, character-atom w here there c (spec_node_of l.node) n d number classes)
 character-escaped w here there c (Err e) a n m d number classes = λ r. absurd (true≢false (sym r ∙ m))
 
 pub parameters-same : (flags : Flags) (groups : List RemainingCodePoints) (p : TheParameters) (named : Bool) → p.unicode ≡ flags.unicode → p.named_groups ≡ named → named ≡ has_named_groups (pattern_context flags groups)
     → spec_parameters_of p ≡ grammar_parameters_of (pattern_context flags groups)
 parameters-same flags groups p named e f g = ap₂ (λ (u : Bool) (n : Bool). grammar_parameters (record (spec_flags_of flags) { unicode = u }) n) e (f ∙ g)
 
--- neither a reference nor a class escape is here
+-- Neither a reference nor a class escape begins here, and the reader has not moved from here.
 pub record NothingBefore (flags : Flags) (groups : List RemainingCodePoints) (here last : RemainingCodePoints) : Type 0 where
   pub same : last ≡ here
   pub number : ¬ (BeginsGroupNumber (pattern_context flags groups) here)
@@ -362,43 +359,37 @@ atom-none {flags} {groups} {here} {last} {p} b e none =
 
 pub atom-character : {flags : Flags} {groups : List RemainingCodePoints} {here last : RemainingCodePoints} {p : GrammarParameters} (there : RemainingCodePoints) (c : ℕ) (r : Result GrouplessTerm ParseStopReason)
     → NothingBefore flags groups here last → p ≡ grammar_parameters_of (pattern_context flags groups) → CharacterEscape p last there c → IfOk r (λ l. l.is_atom ≡ true)
-    → IfOk r (λ l. IsEcmaCharacterNode (spec_flags_of flags) c (node_of l.node)) → IfErr r (λ e. is_syntax_error e ≡ false) → IsAtomEscapeRead (pattern_context flags groups) here r there
+    → IfOk r (λ l. IsEcmaCharacterNode (spec_flags_of flags) c (spec_node_of l.node)) → IfErr r (λ e. is_syntax_error e ≡ false) → IsAtomEscapeRead (pattern_context flags groups) here r there
 atom-character {flags} {groups} {here} {last} {p} there c r b e d a n m =
     character-escaped (pattern_context flags groups) here there c r a n m (subst (λ x. CharacterEscape x here there c) e (subst (λ x. CharacterEscape p x there c) b.same d)) b.number b.classes
 
 -- ---- Terms
 
--- no atom without groups is here
+-- `NoEcmaAtom w here` states that no atom without groups is read at `here`.
 abbrev NoEcmaAtom : PatternContext → (here : RemainingCodePoints) → Type 0
 NoEcmaAtom w here = (there : RemainingCodePoints) (n : Node) → SimpleAtom w here there n → ⊥
 
-other : (test : ℕ → Bool) {c d : ℕ} {cs ds : RemainingCodePoints} → test c ≡ false → test d ≡ true → c ∷ cs ≡ d ∷ ds → ⊥
-other test e f g = true≢false (sym f ∙ sym (ap test (ap first g)) ∙ e)
-
-abbrev begins_otherwise : ℕ → Bool
-begins_otherwise c = c ∈ "^$\\("
-
--- only anchors, escapes and parentheses begin what is no atom
+-- If no atom begins at a character other than `^`, `$`, `\` and `(`, no term begins there.
 no-term-plain : (w : PatternContext) (c : ℕ) (rest : RemainingCodePoints) → c ∈ "^$\\(" ≡ false → NoEcmaAtom w (c ∷ rest) → NoEcmaTerm w (c ∷ rest)
 no-term-plain w c rest e none behind opened q n t = by t
   where
-    in_atom : {b : Bool} {q : ParseState} {n : Node} → Atom ecmascript w b (parse_state_at (c ∷ rest) opened) q n → ⊥
+    in_atom : {b : Bool} {q : ParseState} {n : Node} → Atom ecmascript w b (parse_state (c ∷ rest) opened) q n → ⊥
     in_atom (leaf a) = none _ _ a
-    in_atom (group f g d close) = other begins_otherwise e refl (ap (λ x. x.text) f)
-    in_atom (named_group f g d close) = other begins_otherwise e refl (ap (λ x. x.text) f)
-    in_atom (plain_group f d close) = other begins_otherwise e refl (ap (λ x. x.text) f)
+    in_atom (group f g d close) = unlike-first begins_otherwise e refl (ap (λ x. x.text) f)
+    in_atom (named_group f g d close) = unlike-first begins_otherwise e refl (ap (λ x. x.text) f)
+    in_atom (plain_group f d close) = unlike-first begins_otherwise e refl (ap (λ x. x.text) f)
 
-    no_assertion : {q : ParseState} {n : Node} → Assertion ecmascript w (parse_state_at (c ∷ rest) opened) q n → ⊥
-    no_assertion (start f) = other begins_otherwise e refl (ap (λ x. x.text) f)
-    no_assertion (line_end f) = other begins_otherwise e refl (ap (λ x. x.text) f)
-    no_assertion (boundary true f) = other begins_otherwise e refl (ap (λ x. x.text) f)
-    no_assertion (boundary false f) = other begins_otherwise e refl (ap (λ x. x.text) f)
-    no_assertion (look false false f d g) = other begins_otherwise e refl (ap (λ x. x.text) f)
-    no_assertion (look true false f d g) = other begins_otherwise e refl (ap (λ x. x.text) f)
-    no_assertion (look false true f d g) = other begins_otherwise e refl (ap (λ x. x.text) f)
-    no_assertion (look true true f d g) = other begins_otherwise e refl (ap (λ x. x.text) f)
+    no_assertion : {q : ParseState} {n : Node} → Assertion ecmascript w (parse_state (c ∷ rest) opened) q n → ⊥
+    no_assertion (start f) = unlike-first begins_otherwise e refl (ap (λ x. x.text) f)
+    no_assertion (line_end f) = unlike-first begins_otherwise e refl (ap (λ x. x.text) f)
+    no_assertion (boundary true f) = unlike-first begins_otherwise e refl (ap (λ x. x.text) f)
+    no_assertion (boundary false f) = unlike-first begins_otherwise e refl (ap (λ x. x.text) f)
+    no_assertion (look false false f d g) = unlike-first begins_otherwise e refl (ap (λ x. x.text) f)
+    no_assertion (look true false f d g) = unlike-first begins_otherwise e refl (ap (λ x. x.text) f)
+    no_assertion (look false true f d g) = unlike-first begins_otherwise e refl (ap (λ x. x.text) f)
+    no_assertion (look true true f d g) = unlike-first begins_otherwise e refl (ap (λ x. x.text) f)
 
-    by : {b : Bool} {q : ParseState} {n : Node} → Term ecmascript w b (parse_state_at (c ∷ rest) opened) q n → ⊥
+    by : {b : Bool} {q : ParseState} {n : Node} → Term ecmascript w b (parse_state (c ∷ rest) opened) q n → ⊥
     by (assertion a k) = no_assertion a
     by (repeated_assertion a may k) = no_assertion a
     by (atom a k) = in_atom a
@@ -407,7 +398,7 @@ no-term-plain w c rest e none behind opened q n t = by t
 abbrev is_slash : ℕ → Bool
 is_slash c = c ∈ "\\"
 
--- behind a backslash no word boundary stands
+-- If no atom begins at a backslash that neither `b` nor `B` follows, no term begins there.
 no-term-escape : (w : PatternContext) (rest : RemainingCodePoints) → ((there : RemainingCodePoints) → rest ≡ 98 ∷ there → ⊥) → ((there : RemainingCodePoints) → rest ≡ 66 ∷ there → ⊥)
     → NoEcmaAtom w (92 ∷ rest) → NoEcmaTerm w (92 ∷ rest)
 no-term-escape w rest no_b no_B none behind opened q n t = by t
@@ -415,13 +406,13 @@ no-term-escape w rest no_b no_B none behind opened q n t = by t
     wrong : {d : ℕ} {ds : RemainingCodePoints} → is_slash d ≡ false → 92 ∷ rest ≡ d ∷ ds → ⊥
     wrong e g = true≢false (ap is_slash (ap first g) ∙ e)
 
-    in_atom : {b : Bool} {q : ParseState} {n : Node} → Atom ecmascript w b (parse_state_at (92 ∷ rest) opened) q n → ⊥
+    in_atom : {b : Bool} {q : ParseState} {n : Node} → Atom ecmascript w b (parse_state (92 ∷ rest) opened) q n → ⊥
     in_atom (leaf a) = none _ _ a
     in_atom (group f g d close) = wrong refl (ap (λ x. x.text) f)
     in_atom (named_group f g d close) = wrong refl (ap (λ x. x.text) f)
     in_atom (plain_group f d close) = wrong refl (ap (λ x. x.text) f)
 
-    no_assertion : {q : ParseState} {n : Node} → Assertion ecmascript w (parse_state_at (92 ∷ rest) opened) q n → ⊥
+    no_assertion : {q : ParseState} {n : Node} → Assertion ecmascript w (parse_state (92 ∷ rest) opened) q n → ⊥
     no_assertion (start f) = wrong refl (ap (λ x. x.text) f)
     no_assertion (line_end f) = wrong refl (ap (λ x. x.text) f)
     no_assertion (boundary true f) = no_B _ (ap (λ x. rest_of x.text) f)
@@ -431,15 +422,15 @@ no-term-escape w rest no_b no_B none behind opened q n t = by t
     no_assertion (look false true f d g) = wrong refl (ap (λ x. x.text) f)
     no_assertion (look true true f d g) = wrong refl (ap (λ x. x.text) f)
 
-    by : {b : Bool} {q : ParseState} {n : Node} → Term ecmascript w b (parse_state_at (92 ∷ rest) opened) q n → ⊥
+    by : {b : Bool} {q : ParseState} {n : Node} → Term ecmascript w b (parse_state (92 ∷ rest) opened) q n → ⊥
     by (assertion a k) = no_assertion a
     by (repeated_assertion a may k) = no_assertion a
     by (atom a k) = in_atom a
     by (quantified a k) = in_atom a
 
--- ---- Where no atom begins
+-- ---- Characters at which no atom begins
 
--- what an atom at this character is, by its number
+-- The kind of the first character of an atom is the tag of the atom.
 tag-at : {w : PatternContext} {c : ℕ} {rest there : RemainingCodePoints} {n : Node} (x : SimpleAtom w (c ∷ rest) there n) → atom_kind c ≡ atom_tag x
 tag-at x = let (d, r, e, k) = atom-tagged x in ap atom_kind (firsts refl e) ∙ k
 
@@ -472,22 +463,15 @@ no-bracket_atom w c rest e (inl u) there n (extended_pattern_character f g v k) 
 no-bracket_atom w c rest e (inr q) there n (extended_pattern_character f g v k) = k q
 no-bracket_atom w c rest e why there n x = true≢false (sym (inside (λ d. not (nat_eq (atom_kind d) (atom_tag x))) (codes "{}]") c refl e) ∙ ap not (eq-eqb _ _ (tag-at x)))
 
-not-plain : (c : ℕ) (word : RemainingCodePoints) → list_all (λ d. not (d ∈ "^$\\(")) word ≡ true → contains word c ≡ true → c ∈ "^$\\(" ≡ false
-not-plain c word h e = by (c ∈ "^$\\(") (inside (λ d. not (d ∈ "^$\\(")) word c h e)
-  where
-    by : (b : Bool) → not b ≡ true → b ≡ false
-    by false k = refl
-    by true k = sym k
-
 pub alone-none-ecma : (w : PatternContext) (c : ℕ) (rest : RemainingCodePoints) → (is_star_plus_or_question c ≡ true) ⊎ ((is_brace_or_closing_bracket c ≡ true) × ((w.flags.unicode ≡ true) ⊎ BeginsQuantifier (c ∷ rest))) → NoEcmaTerm w (c ∷ rest)
-alone-none-ecma w c rest (inl e) = no-term-plain w c rest (not-plain c (codes "*+?") refl e) (no-sign_atom w c rest e)
-alone-none-ecma w c rest (inr e) = no-term-plain w c rest (not-plain c (codes "{}]") refl e.0) (no-bracket_atom w c rest e.0 e.1)
+alone-none-ecma w c rest (inl e) = no-term-plain w c rest (no_plain c (codes "*+?") refl e) (no-sign_atom w c rest e)
+alone-none-ecma w c rest (inr e) = no-term-plain w c rest (no_plain c (codes "{}]") refl e.0) (no-bracket_atom w c rest e.0 e.1)
 
--- ---- Terms behind a backslash
+-- ---- Terms that begin with a backslash
 
-pub boundary-read : (w : PatternContext) (c : ℕ) (here there : RemainingCodePoints) (l : GrouplessTerm) → here ≡ c ∷ there → IsEcmaAtomOr l.is_atom w (92 ∷ c ∷ there) there (node_of l.node)
-    → IsEcmaAtomOr l.is_atom w (92 ∷ here) there (node_of l.node)
-boundary-read w c here there l e h = subst (λ x. IsEcmaAtomOr l.is_atom w (92 ∷ x) there (node_of l.node)) (sym e) h
+pub boundary-read : (w : PatternContext) (c : ℕ) (here there : RemainingCodePoints) (l : GrouplessTerm) → here ≡ c ∷ there → IsEcmaAtomOr l.is_atom w (92 ∷ c ∷ there) there (spec_node_of l.node)
+    → IsEcmaAtomOr l.is_atom w (92 ∷ here) there (spec_node_of l.node)
+boundary-read w c here there l e h = subst (λ x. IsEcmaAtomOr l.is_atom w (92 ∷ x) there (spec_node_of l.node)) (sym e) h
 
 pub escape-read : (w : PatternContext) (rest middle last there : RemainingCodePoints) (r : Result GrouplessTerm ParseStopReason) → (middle ≡ rest) × ((a : RemainingCodePoints) → rest ≡ 98 ∷ a → ⊥)
     → (last ≡ middle) × ((a : RemainingCodePoints) → middle ≡ 66 ∷ a → ⊥) → (not w.flags.unicode && begins_with_characters "c" last) ≡ false → IsAtomEscapeRead w last r there → IsEcmaTermRead w (92 ∷ rest) r there
@@ -504,38 +488,34 @@ escape-read w rest middle last there r b d no_c h =
     control = subst (λ x. (not w.flags.unicode && begins_with_characters "c" x) ≡ false) (d.0 ∙ b.0) no_c
 
     by : (r : Result GrouplessTerm ParseStopReason) → IsAtomEscapeRead w rest r there → IsEcmaTermRead w (92 ∷ rest) r there
-    by (Ok l) h = atom-of w (92 ∷ rest) there l (node_of l.node) h.0 refl (atom_escape refl (no_sign "b" 98 refl rest no_b) (no_sign "B" 66 refl rest no_B) h.1)
+    by (Ok l) h = atom-of w (92 ∷ rest) there l (spec_node_of l.node) h.0 refl (atom_escape refl (no_sign "b" 98 refl rest no_b) (no_sign "B" 66 refl rest no_B) h.1)
     by (Err e) h = λ s. no-term-escape w rest no_b no_B (no-slash_atom w rest control (h s))
 
 c-begins : (here : RemainingCodePoints) → begins_with_characters "c" here ≡ true → here ≡ 99 ∷ rest_of here
 c-begins [] e = absurd (true≢false (sym e))
 c-begins (c ∷ cs) e = ap (λ x. x ∷ cs) (c-first (c ∷ cs) e)
 
-control-parts : (u b : Bool) → (not u && b) ≡ true → (u ≡ false) × (b ≡ true)
-control-parts true b e = absurd (true≢false (sym e))
-control-parts false b e = (refl, e)
-
 pub control-read : (w : PatternContext) (rest middle last there : RemainingCodePoints) (c : ℕ) (r : Result GrouplessTerm ParseStopReason) → (middle ≡ rest) × ((a : RemainingCodePoints) → rest ≡ 98 ∷ a → ⊥)
     → (last ≡ middle) × ((a : RemainingCodePoints) → middle ≡ 66 ∷ a → ⊥) → (not w.flags.unicode && begins_with_characters "c" last) ≡ true → CharacterEscape (grammar_parameters_of w) last there c
-    → IfOk r (λ l. l.is_atom ≡ true) → IfOk r (λ l. IsEcmaCharacterNode w.flags c (node_of l.node)) → IfErr r (λ e. is_syntax_error e ≡ false) → IsEcmaTermRead w (92 ∷ rest) r there
+    → IfOk r (λ l. l.is_atom ≡ true) → IfOk r (λ l. IsEcmaCharacterNode w.flags c (spec_node_of l.node)) → IfErr r (λ e. is_syntax_error e ≡ false) → IsEcmaTermRead w (92 ∷ rest) r there
 control-read w rest middle last there c (Err e) b d is p a n m = λ s. absurd (true≢false (sym s ∙ m))
 control-read w rest middle last there c (Ok l) b d is p a n m =
     let is_c = (control-parts w.flags.unicode _ (subst (λ x. (not w.flags.unicode && begins_with_characters "c" x) ≡ true) (d.0 ∙ b.0) is)).1 in
-    atom-of w (92 ∷ rest) there l (node_of l.node) a refl
+    atom-of w (92 ∷ rest) there l (spec_node_of l.node) a refl
     (atom_escape refl (no_sign "b" 98 refl rest b.1) (no_sign "B" 66 refl rest (λ a e. d.1 a (b.0 ∙ e)))
-    (character-atom w rest there c (node_of l.node) n (subst (λ x. CharacterEscape (grammar_parameters_of w) x there c) (d.0 ∙ b.0) p)
+    (character-atom w rest there c (spec_node_of l.node) n (subst (λ x. CharacterEscape (grammar_parameters_of w) x there c) (d.0 ∙ b.0) p)
     (λ k. apart-kinds rest (number-kind k.2) (ap kind (c-first rest is_c)) refl) (λ end s k. no-class 99 refl (c-begins rest is_c) k)))
 
 pub slash-read : (w : PatternContext) (rest middle last : RemainingCodePoints) (l : GrouplessTerm) → middle ≡ rest → last ≡ middle → (not w.flags.unicode && begins_with_characters "c" last) ≡ true
-    → ((end : RemainingCodePoints) (c : ℕ) → CharacterEscape (grammar_parameters_of w) last end c → ⊥) → l.is_atom ≡ true → l.node ≡ Char 92 → IsEcmaAtomOr l.is_atom w (92 ∷ rest) last (node_of l.node)
+    → ((end : RemainingCodePoints) (c : ℕ) → CharacterEscape (grammar_parameters_of w) last end c → ⊥) → l.is_atom ≡ true → l.node ≡ Char 92 → IsEcmaAtomOr l.is_atom w (92 ∷ rest) last (spec_node_of l.node)
 slash-read w rest middle last l b d is none a n =
     let h = control-parts w.flags.unicode _ is in
-    atom-of w (92 ∷ rest) last l (char 92) a (ap node_of n ∙ node-Char 92) (backslash h.0 (ap (λ x. 92 ∷ x) (sym (d ∙ b))) h.1 (λ k. none k.0 k.1 k.2))
+    atom-of w (92 ∷ rest) last l (char 92) a (ap spec_node_of n ∙ node-Char 92) (backslash h.0 (ap (λ x. 92 ∷ x) (sym (d ∙ b))) h.1 (λ k. none k.0 k.1 k.2))
 
 -- ---- Other terms
 
 pub class-term : (w : PatternContext) (c : ℕ) (named : Bool) (rest there : RemainingCodePoints) (l : GrouplessTerm) (b : SpecContents) → c ≡ 91 → named ≡ has_named_groups w → CharacterClass w.flags named rest there b → l.is_atom ≡ true
-    → node_of l.node ≡ bracket b → IsEcmaAtomOr l.is_atom w (c ∷ rest) there (node_of l.node)
+    → spec_node_of l.node ≡ bracket b → IsEcmaAtomOr l.is_atom w (c ∷ rest) there (spec_node_of l.node)
 class-term w c named rest there l b e k d f g =
     atom-of _ _ _ l _ f g (character_class (ap (λ (x : ℕ). x ∷ rest) e) (subst (λ x. CharacterClass w.flags x rest there b) k d))
 
@@ -549,11 +529,11 @@ err-term w here there (Ok o) e h same none = absurd h
 err-term w here there (Err x) e h same none = λ r. none (sym (ap is_syntax_error (same x h)) ∙ r)
 
 pub brace-term : (w : PatternContext) (c : ℕ) (rest : RemainingCodePoints) (l : GrouplessTerm) → is_brace_or_closing_bracket c ≡ true → (w.flags.unicode ≡ false) × ¬ (BeginsQuantifier (c ∷ rest)) → l.is_atom ≡ true → l.node ≡ Char c
-    → IsEcmaAtomOr l.is_atom w (c ∷ rest) rest (node_of l.node)
-brace-term w c rest l e u a n = atom-of w (c ∷ rest) rest l (char c) a (ap node_of n ∙ node-Char c) (extended_pattern_character refl e u.0 u.1)
+    → IsEcmaAtomOr l.is_atom w (c ∷ rest) rest (spec_node_of l.node)
+brace-term w c rest l e u a n = atom-of w (c ∷ rest) rest l (char c) a (ap spec_node_of n ∙ node-Char c) (extended_pattern_character refl e u.0 u.1)
 
 pub character-term : (w : PatternContext) (c : ℕ) (rest : RemainingCodePoints) (r : Result GrouplessTerm ParseStopReason) → nat_eq c 92 ≡ false → nat_eq c 91 ≡ false → c ∈ "^$." ≡ false → is_star_plus_or_question c ≡ false
-    → is_brace_or_closing_bracket c ≡ false → is_paren_or_bar c ≡ false → IfOk r (λ l. l.is_atom ≡ true) → IfOk r (λ l. IsEcmaCharacterNode w.flags c (node_of l.node)) → IfErr r (λ e. is_syntax_error e ≡ false)
+    → is_brace_or_closing_bracket c ≡ false → is_paren_or_bar c ≡ false → IfOk r (λ l. l.is_atom ≡ true) → IfOk r (λ l. IsEcmaCharacterNode w.flags c (spec_node_of l.node)) → IfErr r (λ e. is_syntax_error e ≡ false)
     → IsEcmaTermRead w (c ∷ rest) r rest
 character-term w c rest (Ok l) x y z u v p a (members, s, e) m = atom-of w (c ∷ rest) rest l _ a e (pattern_character refl (none_of c x y z u v p) s)
 character-term w c rest (Err e) x y z u v p a n m = λ s. absurd (true≢false (sym s ∙ m))

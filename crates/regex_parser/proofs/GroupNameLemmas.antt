@@ -11,7 +11,7 @@ use Rattle.regex_meaning.specs.EscapesNamesQuantifiers.{GroupName, group_name, i
 use Rattle.regex_meaning.proofs.DisjunctionReadingLemmas.{first, rest_of}
 use Rattle.regex_meaning.proofs.EscapesAndNamesLemmas.{name_letters}
 
--- nothing yet, or the beginning of a name
+-- `may_begin` accepts the empty text and every text that `is_name` accepts.
 abbrev pub may_begin : RemainingCodePoints → Bool
 may_begin [] = true
 may_begin (c ∷ cs) = is_name (c ∷ cs)
@@ -20,7 +20,7 @@ abbrev pub is_none : RemainingCodePoints → Bool
 is_none [] = true
 is_none (c ∷ cs) = false
 
--- what may stand behind these letters
+-- An identifier start may follow if there are no letters yet, and an identifier part otherwise.
 abbrev pub may_follow : (name : RemainingCodePoints) → ℕ → Bool
 may_follow name c = if is_none name then is_ascii_identifier_start c else is_ascii_identifier_part c
 
@@ -52,7 +52,7 @@ name-ends here name middle there s some e = group_name (s.is ∙ ap (λ x. name 
 no_end : {c : ℕ} → is_ascii_identifier_part c ≡ true → c ≡ 62 → ⊥
 no_end e f = true≢false (sym e ∙ ap is_ascii_identifier_part f)
 
--- letters of which the last is followed by another sign are no name
+-- A text of letters and then a sign other than `>` is no text of letters and then `>`.
 other_sign : (n m : RemainingCodePoints) (c : ℕ) (r end : RemainingCodePoints) → list_all is_ascii_identifier_part n ≡ true → list_all is_ascii_identifier_part m ≡ true → is_ascii_identifier_part c ≡ false → (c ≡ 62 → ⊥)
     → n ++ c ∷ r ≡ m ++ 62 ∷ end → ⊥
 other_sign [] [] c r end e f g h k = h (ap first k)
@@ -70,7 +70,7 @@ name-stops here name middle there c s e f g end other (group_name h k) = by name
     by [] (y ∷ ys) a f g k h = true≢false (sym (and_parts (is_ascii_identifier_start y) _ k).0 ∙ sym (ap (λ x. is_ascii_identifier_start (first x)) h) ∙ f)
     by (x ∷ xs) (y ∷ ys) a f g k h = other_sign (x ∷ xs) (y ∷ ys) c there end (name_letters (x ∷ xs) a) (name_letters (y ∷ ys) k) f (g refl) h
 
--- nor are letters up to the end
+-- If the letters of a name reach the end of the text, no group name is read.
 pub name-unclosed : (here name middle : RemainingCodePoints) → NameSoFar here name middle → middle ≡ [] → (end other : RemainingCodePoints) → GroupName here end other → ⊥
 name-unclosed here name middle s e end other (group_name h k) = all name other s.letters (sym (append-nil name) ∙ sym (ap (λ x. name ++ x) e) ∙ sym s.is ∙ h)
   where
@@ -84,7 +84,7 @@ name-unclosed here name middle s e end other (group_name h k) = all name other s
     all [] m a h = none_left [] m refl h
     all (x ∷ xs) m a h = none_left (x ∷ xs) m (name_letters (x ∷ xs) a) h
 
--- a letter of a name is its own UTF-8
+-- The UTF-8 of a letter of a name is that letter alone.
 pub one_byte : (x c : ℕ) → x ≡ c → is_ascii_identifier_part c ≡ true → (x < 128 → encode_utf8 x ≡ x ∷ []) → encode_utf8 x ≡ c ∷ []
 one_byte x c e f g = let small : c < 128 = ascii c f in g (omega arith) ∙ ap (λ (y : ℕ). y ∷ []) e
   where

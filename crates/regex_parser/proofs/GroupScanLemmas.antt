@@ -76,7 +76,7 @@ texts-none : (k : Bool) → texts_after_parentheses k [] ≡ []
 unfolding texts_after_parentheses
 texts-none k = refl
 
--- the texts ahead, where the scan has read a code point
+-- After a code point, the texts ahead are the one that it opens, if any, and those of the rest.
 texts-read : (k : Bool) (c : ℕ) (here there : RemainingCodePoints) → IsUnescapedRead here (Some c) there
     → texts_after_parentheses k here ≡ text_after_open_parenthesis k c there ++ texts_after_parentheses (in_class_after k c) there
 texts-read k c here there (inl u) =
@@ -84,7 +84,7 @@ texts-read k c here there (inl u) =
 texts-read k c here there (inr (inl u)) = ap (texts_after_parentheses k) u.2 ∙ texts-escape k u.1 there ∙ sym (rw u.0 refl)
 texts-read k c here there (inr (inr u)) = ap (texts_after_parentheses k) u.1 ∙ texts-step k c there u.0
 
--- ---- How a parenthesis opens
+-- ---- Groups that a parenthesis opens
 
 first_is_not : (c : ℕ) (here : RemainingCodePoints) (d : ℕ) → DoesNotBeginWith d (c ∷ here) → nat_eq d c ≡ false
 first_is_not c here d h = false_from_ne_true (nat_eq d c) (λ e. h here (ap (λ (x : ℕ). x ∷ here) (sym (eqb-true d c e))))
@@ -187,7 +187,7 @@ scan-end syntax pattern here scan s e = (
   s.collected,
 )
 
--- the words that open a lookaround
+-- The signs that the scan reads behind a parenthesis spell the opener of the lookaround.
 pub look-is : {here a b : RemainingCodePoints} (d there : RemainingCodePoints) (negate backwards : Bool) → here ≡ 63 ∷ a → b ≡ a → IsEaten 60 b backwards d → IsLookaroundPolaritySignRead d (Some negate) there
     → 40 ∷ here ≡ codes (lookaround_opener negate backwards) ++ there
 look-is d there false false e f g h = ap (λ x. 40 ∷ x) (e ∙ ap (λ x. 63 ∷ x) (sym f ∙ sym g.0 ∙ h))
@@ -195,10 +195,10 @@ look-is d there true false e f g h = ap (λ x. 40 ∷ x) (e ∙ ap (λ x. 63 ∷
 look-is d there false true e f g h = ap (λ x. 40 ∷ x) (e ∙ ap (λ x. 63 ∷ x) (sym f ∙ g ∙ ap (λ x. 60 ∷ x) h))
 look-is d there true true e f g h = ap (λ x. 40 ∷ x) (e ∙ ap (λ x. 63 ∷ x) (sym f ∙ g ∙ ap (λ x. 60 ∷ x) h))
 
--- ---- What one step collects
+-- ---- Groups that one step collects
 
 module _ (S : PatternDialect) (old new : GroupAndNameScanState) where
-  -- texts that open no group
+  -- A step that keeps the numbers and the count collects the groups of texts that open none.
   pub collects-none : (texts : List RemainingCodePoints) → OpensScannedGroups S texts [] → new.numbers ≡ old.numbers → new.groups ≡ old.groups → CollectsGroups S old new texts
   collects-none texts o e f = (
     [],
@@ -214,14 +214,14 @@ module _ (S : PatternDialect) (old new : GroupAndNameScanState) where
       → RecordsFurtherGroupsInScan S old new texts
   records-none texts o e f g h = (h, g, collects-none texts o e f)
 
-  -- a code point that opens no group
+  -- A step that updates only `in_class` processes a code point that opens no group.
   pub processes-none : (c : ℕ) (rest : RemainingCodePoints) → (nat_eq c 40 && not old.in_class) ≡ false → new.in_class ≡ in_class_after old.in_class c → new.numbers ≡ old.numbers → new.groups ≡ old.groups
       → new.syntax ≡ old.syntax → GroupNameScanProcessesCodePoint S old new c rest
   processes-none c rest o k e f g =
       let none : text_after_open_parenthesis old.in_class c rest ≡ [] = rw o refl in
       (g, k, collects-none (text_after_open_parenthesis old.in_class c rest) (subst (λ x. OpensScannedGroups S x []) (sym none) (opens-no_text S)) e f)
 
-  -- a parenthesis that opens a group
+  -- A step that records the groups of the rest processes a parenthesis that opens a group.
   pub processes-opened : (c : ℕ) (rest : RemainingCodePoints) → c ≢ 91 → c ≢ 93 → (nat_eq c 40 && not old.in_class) ≡ true → RecordsFurtherGroupsInScan S old new (rest ∷ [])
       → GroupNameScanProcessesCodePoint S old new c rest
   processes-opened c rest other_open other_close opens h =
@@ -239,7 +239,7 @@ choice group x o b = if is_some x then o else if b then Some group else o
 abbrev last : ℕ → Option ℕ → Bool → Option ℕ
 last before o p = elim o [ Some n ↦ Some n | None ↦ if p then Some (before + 1) else None ]
 
--- a group more, by its name or none
+-- The step counts one group more, and gives its name a number unless the name has one.
 module _ (old new : GroupAndNameScanState) (name : RemainingCodePoints) (groups : new.groups ≡ min (old.groups + 1) (2 ^ 32 - 1))
     (named : nat_lt 0 (btree_map_len new.numbers) ≡ (nat_lt 0 (btree_map_len old.numbers) || nat_lt 0 (length name)))
     (numbers : (other : RemainingCodePoints) → 0 < length other → get_by_text new.numbers other
@@ -304,12 +304,12 @@ collects-nameless old new e g =
     by true o (c ∷ cs) is = refl
     by false o (c ∷ cs) is = refl
 
--- a group without a name
+-- A step that counts one group more and keeps the numbers records a group without a name.
 pub records-nameless : (S : PatternDialect) (old new : GroupAndNameScanState) (texts : List RemainingCodePoints) → OpensScannedGroups S texts ([] ∷ []) → new.groups ≡ min (old.groups + 1) (2 ^ 32 - 1)
     → new.in_class ≡ old.in_class → new.numbers ≡ old.numbers → new.syntax ≡ old.syntax → RecordsFurtherGroupsInScan S old new texts
 records-nameless S old new texts o e f g h = (h, f, ([] ∷ [], o, collects-nameless old new e g))
 
--- a group with a name
+-- A step that counts one group more and adds its name if absent records a group with a name.
 pub records-named : (S : PatternDialect) (old new : GroupAndNameScanState) (here there name : RemainingCodePoints) (group : ℕ) → S.group_name here there name → 0 < length name → group ≡ min (old.groups + 1) (2 ^ 32 - 1)
     → (new.groups ≡ group) × (new.in_class ≡ old.in_class) × (new.syntax ≡ old.syntax) → 0 < btree_map_len new.numbers
     → ((other : RemainingCodePoints) → get_by_text new.numbers other ≡ group_numbers_adding_absent_name name group (λ x. get_by_text old.numbers x) other)
@@ -323,18 +323,18 @@ records-named S old new here there name group g positive e same some numbers =
     or-true true b e = refl
     or-true false b e = sym e
 
--- a name is not empty
+-- The name of a group is not empty.
 pub name-positive : (syntax : Syntax) (here there name : RemainingCodePoints) → (spec_syntax_of syntax).group_name here there name → 0 < length name
 name-positive InProfile here there [] (Profile.group_name e is) = absurd (true≢false (sym is))
 name-positive InProfile here there (c ∷ cs) g = omega arith
 name-positive EcmaScript2018 here there name (group_name {characters = characters} {c = c} n r) = let h = length-le-encodes (c ∷ characters) in omega (arith, h)
 
--- a map with a value is not empty
+-- A list of entries in which a look-up finds a value is not empty.
 pub entries-positive : {K X : Type 0} (test : K → Bool) (es : List (K × X)) → is_some (lookup test es) ≡ true → 0 < length es
 entries-positive test [] e = absurd (true≢false (sym e))
 entries-positive test (x ∷ es) e = omega arith
 
--- a name that no other group has
+-- A map with an absent name inserted has the numbers of the old map and that of the name.
 pub number-inserted : {R : Type 0} (old new : BTreeMap (String R) ℕ) (name : RemainingCodePoints) (group : ℕ) → is_some (get_by_text old name) ≡ false
     → UpdatesBy string_cmp (λ k. slice_cmp nat_cmp name (string_bytes k)) old new (Some group)
     → (other : RemainingCodePoints) → get_by_text new other ≡ group_numbers_adding_absent_name name group (λ x. get_by_text old x) other

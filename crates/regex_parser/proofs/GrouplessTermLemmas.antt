@@ -4,7 +4,7 @@ use Rattle.std.proofs.Common.{refl, sym, ap, ap₂, subst, ◌∙◌, arith, Vec
 use Rattle.std.specs.Prelude.{codes, ◌||◌, ◌&&◌, Result, Ok, Err, IfOk, IfErr, IsTrue}
 use Rattle.std.specs.List.{list_all}
 use Rattle.std.specs.Result.{IsErrAnd}
-use Rattle.std.proofs.lemmas.Bool.{false_from_ne_true, lt-ltb}
+use Rattle.std.proofs.lemmas.Bool.{false_from_ne_true, lt-ltb, not-true}
 use Rattle.regex_meaning.specs.Tree.{by_case}
 use Rattle.regex_meaning.specs.NumberListHelpers.{contains}
 use Rattle.regex_meaning.specs.Text.{expand_code_point}
@@ -33,41 +33,42 @@ use Rattle.regex_pattern_front.specs.declared.ir.Node.TheVariants.{Char, CharSet
 use Rattle.regex_pattern_front.specs.declared.ir.Node.TheVariants.{WordBoundary, BackRef}
 use Rattle.regex_parser.specs.declared.groupless_terms.GrouplessTerm.{GrouplessTerm as TheLeaf}
 use Rattle.regex_pattern_front.specs.declared.types.BracketContents.{BracketContents as TheContents}
-use Rattle.regex_pattern_front.specs.AstToSpecTree.{node_of, spec_flags_of, class_as_spec}
-use Rattle.regex_parser.specs.GrouplessTermContracts.{NoSimpleAtom, NoTerm, parse_state_at, pattern_context, TextBetweenIsGrouplessTerm, IsAtomOr, IsTermReadOrNone}
+use Rattle.regex_pattern_front.specs.AstToSpecTree.{spec_node_of, spec_flags_of, class_as_spec}
+use Rattle.regex_parser.specs.GrouplessTermContracts.{NoSimpleAtom, NoTerm, pattern_context, TextBetweenIsGrouplessTerm, IsAtomOr, IsTermReadOrNone}
 use Rattle.regex_parser.specs.GrouplessTermContracts.{IsAtomReadIfPresent}
 use Rattle.regex_parser.specs.GrouplessTermContracts.{IsGrouplessTermReadIfPresent, TextBetweenOpensNoGroup}
 use Rattle.regex_parser.specs.GrouplessTermContracts.{IsAssertion, anchor_sign, boundary_letter, is_paren_or_bar, is_star_plus_or_question}
 use Rattle.regex_parser.specs.GrouplessTermContracts.{is_brace_or_closing_bracket}
+use Rattle.regex_parser.specs.ParserInvariants.{parse_state}
 
--- another character stands first
-other : (test : ℕ → Bool) {c d : ℕ} {cs ds : RemainingCodePoints} → test c ≡ false → test d ≡ true → c ∷ cs ≡ d ∷ ds → ⊥
-other test e f g = true≢false (sym f ∙ sym (ap test (ap first g)) ∙ e)
+-- Texts are different if a test tells their first characters apart.
+pub unlike-first : (test : ℕ → Bool) {c d : ℕ} {cs ds : RemainingCodePoints} → test c ≡ false → test d ≡ true → c ∷ cs ≡ d ∷ ds → ⊥
+unlike-first test e f g = true≢false (sym f ∙ sym (ap test (ap first g)) ∙ e)
 
-abbrev begins_otherwise : ℕ → Bool
+abbrev pub begins_otherwise : ℕ → Bool
 begins_otherwise c = c ∈ "^$\\("
 
--- only anchors, escapes and parentheses begin what is no atom
+-- If no atom begins at a character other than `^`, `$`, `\` and `(`, no term begins there.
 pub no_term-plain : (w : PatternContext) (c : ℕ) (rest : RemainingCodePoints) → c ∈ "^$\\(" ≡ false → NoSimpleAtom w (c ∷ rest) → NoTerm w (c ∷ rest)
 no_term-plain w c rest e none behind opened q n t = by t
   where
-    in_atom : {b : Bool} {q : ParseState} {n : Node} → Atom profile w b (parse_state_at (c ∷ rest) opened) q n → ⊥
+    in_atom : {b : Bool} {q : ParseState} {n : Node} → Atom profile w b (parse_state (c ∷ rest) opened) q n → ⊥
     in_atom (leaf a) = none _ _ a
-    in_atom (group f g d close) = other begins_otherwise e refl (ap (λ x. x.text) f)
-    in_atom (named_group f g d close) = other begins_otherwise e refl (ap (λ x. x.text) f)
-    in_atom (plain_group f d close) = other begins_otherwise e refl (ap (λ x. x.text) f)
+    in_atom (group f g d close) = unlike-first begins_otherwise e refl (ap (λ x. x.text) f)
+    in_atom (named_group f g d close) = unlike-first begins_otherwise e refl (ap (λ x. x.text) f)
+    in_atom (plain_group f d close) = unlike-first begins_otherwise e refl (ap (λ x. x.text) f)
 
-    no_assertion : {q : ParseState} {n : Node} → Assertion profile w (parse_state_at (c ∷ rest) opened) q n → ⊥
-    no_assertion (start f) = other begins_otherwise e refl (ap (λ x. x.text) f)
-    no_assertion (end f) = other begins_otherwise e refl (ap (λ x. x.text) f)
-    no_assertion (boundary true f) = other begins_otherwise e refl (ap (λ x. x.text) f)
-    no_assertion (boundary false f) = other begins_otherwise e refl (ap (λ x. x.text) f)
-    no_assertion (look false false f d g) = other begins_otherwise e refl (ap (λ x. x.text) f)
-    no_assertion (look true false f d g) = other begins_otherwise e refl (ap (λ x. x.text) f)
-    no_assertion (look false true f d g) = other begins_otherwise e refl (ap (λ x. x.text) f)
-    no_assertion (look true true f d g) = other begins_otherwise e refl (ap (λ x. x.text) f)
+    no_assertion : {q : ParseState} {n : Node} → Assertion profile w (parse_state (c ∷ rest) opened) q n → ⊥
+    no_assertion (start f) = unlike-first begins_otherwise e refl (ap (λ x. x.text) f)
+    no_assertion (end f) = unlike-first begins_otherwise e refl (ap (λ x. x.text) f)
+    no_assertion (boundary true f) = unlike-first begins_otherwise e refl (ap (λ x. x.text) f)
+    no_assertion (boundary false f) = unlike-first begins_otherwise e refl (ap (λ x. x.text) f)
+    no_assertion (look false false f d g) = unlike-first begins_otherwise e refl (ap (λ x. x.text) f)
+    no_assertion (look true false f d g) = unlike-first begins_otherwise e refl (ap (λ x. x.text) f)
+    no_assertion (look false true f d g) = unlike-first begins_otherwise e refl (ap (λ x. x.text) f)
+    no_assertion (look true true f d g) = unlike-first begins_otherwise e refl (ap (λ x. x.text) f)
 
-    by : {b : Bool} {q : ParseState} {n : Node} → Term profile w b (parse_state_at (c ∷ rest) opened) q n → ⊥
+    by : {b : Bool} {q : ParseState} {n : Node} → Term profile w b (parse_state (c ∷ rest) opened) q n → ⊥
     by (assertion a k) = no_assertion a
     by (repeated_assertion a may k) = no_assertion a
     by (atom a k) = in_atom a
@@ -76,7 +77,7 @@ no_term-plain w c rest e none behind opened q n t = by t
 abbrev is_slash : ℕ → Bool
 is_slash c = c ∈ "\\"
 
--- behind a backslash no word boundary stands
+-- If no atom begins at a backslash that neither `b` nor `B` follows, no term begins there.
 pub no_term-escape : (w : PatternContext) (rest : RemainingCodePoints) → ((there : RemainingCodePoints) → rest ≡ 98 ∷ there → ⊥) → ((there : RemainingCodePoints) → rest ≡ 66 ∷ there → ⊥)
     → NoSimpleAtom w (92 ∷ rest) → NoTerm w (92 ∷ rest)
 no_term-escape w rest no_b no_B none behind opened q n t = by t
@@ -84,13 +85,13 @@ no_term-escape w rest no_b no_B none behind opened q n t = by t
     wrong : {d : ℕ} {ds : RemainingCodePoints} → is_slash d ≡ false → 92 ∷ rest ≡ d ∷ ds → ⊥
     wrong e g = true≢false (ap is_slash (ap first g) ∙ e)
 
-    in_atom : {b : Bool} {q : ParseState} {n : Node} → Atom profile w b (parse_state_at (92 ∷ rest) opened) q n → ⊥
+    in_atom : {b : Bool} {q : ParseState} {n : Node} → Atom profile w b (parse_state (92 ∷ rest) opened) q n → ⊥
     in_atom (leaf a) = none _ _ a
     in_atom (group f g d close) = wrong refl (ap (λ x. x.text) f)
     in_atom (named_group f g d close) = wrong refl (ap (λ x. x.text) f)
     in_atom (plain_group f d close) = wrong refl (ap (λ x. x.text) f)
 
-    no_assertion : {q : ParseState} {n : Node} → Assertion profile w (parse_state_at (92 ∷ rest) opened) q n → ⊥
+    no_assertion : {q : ParseState} {n : Node} → Assertion profile w (parse_state (92 ∷ rest) opened) q n → ⊥
     no_assertion (start f) = wrong refl (ap (λ x. x.text) f)
     no_assertion (end f) = wrong refl (ap (λ x. x.text) f)
     no_assertion (boundary true f) = no_B _ (ap (λ x. rest_of x.text) f)
@@ -100,13 +101,13 @@ no_term-escape w rest no_b no_B none behind opened q n t = by t
     no_assertion (look false true f d g) = wrong refl (ap (λ x. x.text) f)
     no_assertion (look true true f d g) = wrong refl (ap (λ x. x.text) f)
 
-    by : {b : Bool} {q : ParseState} {n : Node} → Term profile w b (parse_state_at (92 ∷ rest) opened) q n → ⊥
+    by : {b : Bool} {q : ParseState} {n : Node} → Term profile w b (parse_state (92 ∷ rest) opened) q n → ⊥
     by (assertion a k) = no_assertion a
     by (repeated_assertion a may k) = no_assertion a
     by (atom a k) = in_atom a
     by (quantified a k) = in_atom a
 
--- ---- Where no atom begins
+-- ---- Characters at which no atom begins
 
 pub no_leaf-sign : (w : PatternContext) (c : ℕ) (rest : RemainingCodePoints) → c ∈ "^$*+?()|" ≡ true → NoSimpleAtom w (c ∷ rest)
 no_leaf-sign w c rest e _ n a = true≢false (sym (leaf_apart w _ _ _ a) ∙ ap not e)
@@ -120,7 +121,7 @@ is_open d = d ∈ "["
 abbrev special : ℕ → Bool
 special c = c ∈ "^$\\.*+?()[]{}|"
 
--- a bracket or a brace is a character without `u` alone, and where no quantifier stands
+-- A brace or a `]` begins no simple atom with `u`, nor where a quantifier begins.
 pub no_leaf-bracket : (w : PatternContext) (c : ℕ) (rest : RemainingCodePoints) → c ∈ "{}]" ≡ true → (w.flags.unicode ≡ true) ⊎ BeginsQuantifier (c ∷ rest) → NoSimpleAtom w (c ∷ rest)
 no_leaf-bracket w c rest e why _ n a = by refl a why
   where
@@ -155,53 +156,53 @@ no_leaf-class w rest none _ n a = by refl a
     by s (character_class_escape f g d) = wrong s refl f
     by {there = there} s (character_class {contents = x} f d) = none there x (subst (λ y. CharacterClass w.flags y there x) (behind f s) d)
 
--- ---- What was read
+-- ---- Terms that were read
 
-pub leaf-of : (w : PatternContext) (here there : RemainingCodePoints) (l : TheLeaf) (m : Node) → l.is_atom ≡ true → node_of l.node ≡ m → SimpleAtom w here there m → TextBetweenIsGrouplessTerm w here l there
-leaf-of w here there l m e f d = subst (λ b. IsAtomOr b w here there (node_of l.node)) (sym e) (subst (λ x. SimpleAtom w here there x) (sym f) d)
+pub leaf-of : (w : PatternContext) (here there : RemainingCodePoints) (l : TheLeaf) (m : Node) → l.is_atom ≡ true → spec_node_of l.node ≡ m → SimpleAtom w here there m → TextBetweenIsGrouplessTerm w here l there
+leaf-of w here there l m e f d = subst (λ b. IsAtomOr b w here there (spec_node_of l.node)) (sym e) (subst (λ x. SimpleAtom w here there x) (sym f) d)
 
--- with no reference more
+-- A term without groups that is read with no new reference meets the reader's contract.
 pub read-leaf : (none : Type 0) (w : PatternContext) (here there : RemainingCodePoints) (l : TheLeaf) (references : ℕ) → TextBetweenIsGrouplessTerm w here l there
     → IsTermReadOrNone none w here (Ok l) references references there
 read-leaf none w here there l references d = (λ h. d, λ h. inl h)
 
-pub anchored : (flags : Flags) (groups : List RemainingCodePoints) (there : RemainingCodePoints) (t : AnchorType) → IsAssertion (pattern_context flags groups) (anchor_sign t ∷ there) there (node_of (Anchor t flags.multiline))
-unfolding node_of
+pub anchored : (flags : Flags) (groups : List RemainingCodePoints) (there : RemainingCodePoints) (t : AnchorType) → IsAssertion (pattern_context flags groups) (anchor_sign t ∷ there) there (spec_node_of (Anchor t flags.multiline))
+unfolding spec_node_of
 anchored flags groups there StartOfLine = λ opened. start refl
 anchored flags groups there EndOfLine = λ opened. end refl
 
 pub bounded : (flags : Flags) (groups : List RemainingCodePoints) (there : RemainingCodePoints) (invert unicode_icase : Bool) → unicode_icase ≡ (flags.icase && flags.unicode)
-    → IsAssertion (pattern_context flags groups) (92 ∷ boundary_letter invert ∷ there) there (node_of (WordBoundary invert unicode_icase))
-unfolding node_of
+    → IsAssertion (pattern_context flags groups) (92 ∷ boundary_letter invert ∷ there) there (spec_node_of (WordBoundary invert unicode_icase))
+unfolding spec_node_of
 bounded flags groups there true unicode_icase e = λ opened. rw e (boundary true refl)
 bounded flags groups there false unicode_icase e = λ opened. rw e (boundary false refl)
 
 pub dot-all : (flags : Flags) (groups : List RemainingCodePoints) (there : RemainingCodePoints) (l : TheLeaf) → flags.dot_all ≡ true → l.is_atom ≡ true → l.node ≡ MatchAny
     → TextBetweenIsGrouplessTerm (pattern_context flags groups) (46 ∷ there) l there
-unfolding node_of
+unfolding spec_node_of
 dot-all flags groups there l e f g = leaf-of _ _ _ l _ f (rw (g, e) refl) (any_character refl)
 
 pub dot-other : (flags : Flags) (groups : List RemainingCodePoints) (there : RemainingCodePoints) (l : TheLeaf) → flags.dot_all ≡ false → l.is_atom ≡ true → l.node ≡ MatchAnyExceptLineTerminator
     → TextBetweenIsGrouplessTerm (pattern_context flags groups) (46 ∷ there) l there
-unfolding node_of
+unfolding spec_node_of
 dot-other flags groups there l e f g = leaf-of _ _ _ l _ f (rw (g, e) refl) (any_character refl)
 
 pub node-set : (flags : Flags) (c : ℕ) (members : Vec ℕ Global) (n : TheNode) → members.items ≡ expand_code_point c flags.icase flags.unicode → 1 < length members.items
-    → n ≡ CharSet members → node_of n ≡ character_node (spec_flags_of flags) c
-unfolding node_of
+    → n ≡ CharSet members → spec_node_of n ≡ character_node (spec_flags_of flags) c
+unfolding spec_node_of
 node-set flags c members n e f g = let many : nat_lt 1 (length members.items) ≡ true = lt-ltb 1 _ f in rw (g, sym e, many) refl
 
 pub node-one : (flags : Flags) (c : ℕ) (members : Vec ℕ Global) (n : TheNode) → members.items ≡ expand_code_point c flags.icase flags.unicode → length members.items ≤ 1
-    → n ≡ Char c → node_of n ≡ character_node (spec_flags_of flags) c
-unfolding node_of
+    → n ≡ Char c → spec_node_of n ≡ character_node (spec_flags_of flags) c
+unfolding spec_node_of
 node-one flags c members n e f g = let one : nat_lt 1 (length members.items) ≡ false = grind arith in rw (g, sym e, one) refl
 
-pub node-BackRef : (n : ℕ) (icase : Bool) → node_of (BackRef n icase) ≡ back_ref n (by_case icase)
-unfolding node_of
+pub node-BackRef : (n : ℕ) (icase : Bool) → spec_node_of (BackRef n icase) ≡ back_ref n (by_case icase)
+unfolding spec_node_of
 node-BackRef n icase = refl
 
-pub node-Bracket : (contents : TheContents) → node_of (Bracket contents) ≡ bracket (class_as_spec contents)
-unfolding node_of
+pub node-Bracket : (contents : TheContents) → spec_node_of (Bracket contents) ≡ bracket (class_as_spec contents)
+unfolding spec_node_of
 node-Bracket contents = refl
 
 pub read-err : {P : ParseStopReason → Type 0} (none : Type 0) (w : PatternContext) (here there : RemainingCodePoints) (r : Result TheLeaf ParseStopReason) (e : ParseStopReason) (old new : ℕ) → IsErrAnd r P → ((x : ParseStopReason) → P x → x ≡ e)
@@ -210,7 +211,7 @@ read-err N w here there (Ok l) e old new h same none = absurd h
 read-err N w here there (Err x) e old new h same none = λ r. none (sym (ap is_syntax_error (same x h)) ∙ r)
 
 pub character-read : (none : Type 0) (w : PatternContext) (here there : RemainingCodePoints) (m : Node) (r : Result TheLeaf ParseStopReason) (references : ℕ) → IfOk r (λ l. l.is_atom ≡ true)
-    → IfOk r (λ l. node_of l.node ≡ m) → IfErr r (λ e. is_syntax_error e ≡ false) → SimpleAtom w here there m → IsTermReadOrNone none w here r references references there
+    → IfOk r (λ l. spec_node_of l.node ≡ m) → IfErr r (λ e. is_syntax_error e ≡ false) → SimpleAtom w here there m → IsTermReadOrNone none w here r references references there
 character-read none w here there m (Ok l) references a n e d = read-leaf none w here there l references (leaf-of w here there l m a n d)
 character-read none w here there m (Err x) references a n e d = λ r. absurd (true≢false (sym r ∙ e))
 
@@ -218,7 +219,7 @@ pub in-all : (r : Result TheLeaf ParseStopReason) {P : Type 0} → P → IfOk r 
 in-all (Ok l) p = p
 in-all (Err e) p = tt
 
--- ---- Behind a backslash
+-- ---- Terms that begin with a backslash
 
 weaken : (none other : Type 0) (w : PatternContext) (here there : RemainingCodePoints) (r : Result TheLeaf ParseStopReason) (old new : ℕ) → (none → other) → IsTermReadOrNone none w here r old new there → IsTermReadOrNone other w here r old new there
 weaken N O w here there (Ok l) old new f h = (h.0, λ k. ⊎_elim (λ x. inl x) (λ x. inr (f x)) (h.1 k))
@@ -235,7 +236,7 @@ escape-passed c rest there e = ap (λ x. texts_after_parentheses false (92 ∷ x
 pub passed-of : (w : PatternContext) (c : ℕ) (rest there : RemainingCodePoints) (l : TheLeaf) → is_paren_or_bar c ≡ false → TextBetweenIsGrouplessTerm w (c ∷ rest) l there → TextBetweenOpensNoGroup (c ∷ rest) there
 passed-of w c rest there l e h = passed-term profile scanned w c rest there l.is_atom _ e (in-profile w (c ∷ rest) there _ l.is_atom h)
 
--- ---- A character of its own
+-- ---- Characters that stand for themselves
 
 abbrev any_part : ℕ → Bool
 any_part d = (d ∈ "^$." || is_star_plus_or_question d) || ((is_brace_or_closing_bracket d || is_paren_or_bar d) || (nat_eq d 92 || nat_eq d 91))
@@ -253,12 +254,8 @@ alone flags groups c rest a b d e g = by (is_brace_or_closing_bracket c) refl
     by true f = let u = e.1 f in extended_character refl f u.0 u.1
     by false f = pattern_character refl (none_of c a b d e.0 f g)
 
-no_plain : (c : ℕ) (word : RemainingCodePoints) → list_all (λ d. not (d ∈ "^$\\(")) word ≡ true → contains word c ≡ true → c ∈ "^$\\(" ≡ false
-no_plain c word h e = by (c ∈ "^$\\(") (inside (λ d. not (d ∈ "^$\\(")) word c h e)
-  where
-    by : (b : Bool) → not b ≡ true → b ≡ false
-    by false k = refl
-    by true k = sym k
+pub no_plain : (c : ℕ) (word : RemainingCodePoints) → list_all (λ d. not (d ∈ "^$\\(")) word ≡ true → contains word c ≡ true → c ∈ "^$\\(" ≡ false
+no_plain c word h e = not-true (c ∈ "^$\\(") (inside (λ d. not (d ∈ "^$\\(")) word c h e)
 
 pub alone-none : (w : PatternContext) (c : ℕ) (rest : RemainingCodePoints) → (is_star_plus_or_question c ≡ true) ⊎ ((is_brace_or_closing_bracket c ≡ true) × ((w.flags.unicode ≡ true) ⊎ BeginsQuantifier (c ∷ rest))) → NoTerm w (c ∷ rest)
 alone-none w c rest (inl e) =
@@ -269,5 +266,5 @@ pub bracket-none : (w : PatternContext) (c : ℕ) (rest : RemainingCodePoints) �
 bracket-none w c rest e none = subst (λ x. NoTerm w (x ∷ rest)) (sym e) (no_term-plain w 91 rest refl (no_leaf-class w rest none))
 
 pub bracket-read : (flags : Flags) (groups : List RemainingCodePoints) (c : ℕ) (rest there : RemainingCodePoints) (l : TheLeaf) (b : BracketContents) → c ≡ 91 → CharacterClass (spec_flags_of flags) rest there b → l.is_atom ≡ true
-    → node_of l.node ≡ bracket b → TextBetweenIsGrouplessTerm (pattern_context flags groups) (c ∷ rest) l there
+    → spec_node_of l.node ≡ bracket b → TextBetweenIsGrouplessTerm (pattern_context flags groups) (c ∷ rest) l there
 bracket-read flags groups c rest there l b e d f g = leaf-of _ _ _ l _ f g (character_class (ap (λ (x : ℕ). x ∷ rest) e) d)

@@ -7,6 +7,7 @@ use Rattle.std.specs.List.{list_any}
 use Rattle.std.proofs.lemmas.Bool.{cases_lt, cases_eq, lt-leb, le-leb, ne_eqb, eq-eqb, eqb-true, or_cases, or_left, or_right, and_parts}
 use Rattle.std.proofs.lemmas.List.Folds.{list_any-append}
 use Rattle.regex_meaning.specs.NumberListHelpers.{contains}
+use Rattle.regex_meaning.proofs.BoolLemmas.{same-truth}
 use Rattle.regex_meaning.specs.Tree.{Intervals, Flags}
 use Rattle.regex_meaning.specs.Outcomes.{in_intervals}
 use Rattle.regex_meaning.specs.Text.{to_ascii_lowercase, to_ascii_uppercase, fold_code_point, nonascii_with_fold, code_points_with_fold, expand_code_point}
@@ -15,7 +16,7 @@ use Rattle.regex_parser.specs.ClassReaderContracts.{letter_case_variants_if_any_
 
 -- ---- Letters
 
--- one of these letters is moved, and any other number stays
+-- A number from `first` to `last` is moved to `moved`, and any other number stays.
 abbrev Moves : (first last d moved there : ℕ) → Type 0
 Moves first last d moved there = ((first ≤ d) × (d ≤ last) × (there ≡ moved)) ⊎ (((d < first) ⊎ (last < d)) × (there ≡ d))
 
@@ -42,7 +43,7 @@ upper_cases d = moves 97 122 d (d - 32)
 pub lower_cases : (d : ℕ) → LowerCases d
 lower_cases d = moves 65 90 d (d + 32)
 
--- without `unicode` a fold is no lowercase letter
+-- `AnUpper f` states that `f` is no lower-case ASCII letter.
 AnUpper : ℕ → Type 0
 AnUpper f = (f < 97) ⊎ (122 < f)
 
@@ -60,15 +61,15 @@ two x y d e = ⊎_elim (λ h. inl (eqb-true d x h)) (λ h. ⊎_elim (λ k. inr (
 only : (x d : ℕ) → contains (x ∷ []) d ≡ true → d ≡ x
 only x d e = ⊎_elim (λ h. eqb-true d x h) (λ h. absurd (true≢false (sym h))) (or_cases (nat_eq d x) false e)
 
--- what stands beside a letter's two cases
+-- A number that two joined lists contain is contained in one of them.
 either : (xs ys : List ℕ) (d : ℕ) → contains (xs ++ ys) d ≡ true → (contains xs d ≡ true) ⊎ (contains ys d ≡ true)
 either xs ys d e = or_cases (contains xs d) (contains ys d) (sym (list_any-append (nat_eq d) xs ys) ∙ e)
 
--- the two cases of a fold
+-- `cases_of f` lists the upper and the lower case of `f`, once if they are equal.
 cases_of : ℕ → List ℕ
 cases_of f = if to_ascii_uppercase f == to_ascii_lowercase f then f ∷ [] else to_ascii_uppercase f ∷ to_ascii_lowercase f ∷ []
 
--- one whose cases do not differ is both
+-- A number whose upper and lower case are equal is its own upper case.
 one_case : (f : ℕ) → (to_ascii_uppercase f == to_ascii_lowercase f) ≡ true → to_ascii_uppercase f ≡ f
 one_case f s = is (upper_cases f) (lower_cases f)
   where
@@ -86,7 +87,7 @@ in_cases f d e = by (to_ascii_uppercase f == to_ascii_lowercase f) refl e
     by true s e = inl (only f d e ∙ sym (one_case f s))
     by false s e = two _ _ d e
 
--- both are of the cases
+-- The cases of a number contain its upper case and its lower case.
 has_both : (f : ℕ) → (contains (cases_of f) (to_ascii_uppercase f) ≡ true) × (contains (cases_of f) (to_ascii_lowercase f) ≡ true)
 unfolding cases_of
 has_both f = by (to_ascii_uppercase f == to_ascii_lowercase f) refl
@@ -107,14 +108,14 @@ with_fold : (unicode : Bool) (f : ℕ) → code_points_with_fold unicode f ≡ c
 unfolding cases_of
 with_fold unicode f = refl
 
--- ---- The fold of what has this fold
+-- ---- Folds of the code points with a given fold
 
--- the fold with `unicode`, by cases
+-- With `unicode`, a code point other than U+017F and U+212A folds to its ASCII lower case.
 fold_plain : (d : ℕ) → (d ≡ 0x017F → ⊥) → (d ≡ 0x212A → ⊥) → fold_code_point true d ≡ to_ascii_lowercase d
 unfolding fold_code_point
 fold_plain d a b = rw (ne_eqb d 0x017F a, ne_eqb d 0x212A b) refl
 
--- a fold with `unicode` is no uppercase letter, nor one of the two beyond ASCII
+-- `ALower f` states that `f` is no upper-case ASCII letter, and neither U+017F nor U+212A.
 ALower : ℕ → Type 0
 ALower f = ((f < 65) ⊎ (90 < f)) × (f ≡ 0x017F → ⊥) × (f ≡ 0x212A → ⊥)
 
@@ -207,13 +208,13 @@ same_fold false c d e = at_false c d e
         ⊎_elim (λ h. upper_of_case f d (an_upper c) (in_cases f d h)) (λ h. absurd (true≢false (sym h)))
         (either (cases_of f) [] d (sym (ap (λ x. contains x d) (with_fold false f)) ∙ e))
 
--- all that have the fold of one have one fold
+-- A case variant of a code point has the same case variants.
 pub same_class : (unicode : Bool) (c d : ℕ) → contains (expand_code_point c true unicode) d ≡ true
     → expand_code_point d true unicode ≡ expand_code_point c true unicode
 unfolding expand_code_point
 same_class unicode c d e = ap (code_points_with_fold unicode) (same_fold unicode c d e)
 
--- each has its own fold
+-- A code point is one of its own case variants.
 pub own_class : (unicode : Bool) (d : ℕ) → contains (expand_code_point d true unicode) d ≡ true
 unfolding expand_code_point fold_code_point
 own_class unicode d = in_all unicode (fold_code_point unicode d) d (has_own unicode d)
@@ -271,7 +272,7 @@ alone : (f : ℕ) → to_ascii_uppercase f ≡ f → to_ascii_lowercase f ≡ f 
 unfolding cases_of
 alone f e g = rw (eq-eqb (to_ascii_uppercase f) (to_ascii_lowercase f) (e ∙ sym g)) refl
 
--- only a letter has the fold of another
+-- A code point is its only case variant, or it is a case variant of a letter from A to Z.
 pub letter_or_alone : (unicode : Bool) (d : ℕ)
     → (expand_code_point d true unicode ≡ d ∷ [])
     ⊎ ((upper : ℕ) × (65 ≤ upper) × (upper ≤ 90) × (contains (expand_code_point upper true unicode) d ≡ true))
@@ -347,7 +348,7 @@ letter_or_alone true d = at_true d
         kelvin : 107 ≡ fold_code_point true 0x212A
         kelvin = refl
 
--- ---- A test passed by one of the same fold
+-- ---- Tests that a case variant passes
 
 pub any-intro : (test : ℕ → Bool) (xs : List ℕ) (d : ℕ) → contains xs d ≡ true → test d ≡ true → list_any test xs ≡ true
 any-intro test [] d e t = absurd (true≢false (sym e))
@@ -360,17 +361,12 @@ fold-own unicode test d t = any-intro test (expand_code_point d true unicode) d 
 pub fold-same : (unicode : Bool) (test : ℕ → Bool) (c d : ℕ) → contains (expand_code_point c true unicode) d ≡ true → some_case_variant_passes unicode test d ≡ some_case_variant_passes unicode test c
 fold-same unicode test c d e = ap (list_any test) (same_class unicode c d e)
 
-iff : (a b : Bool) → (a ≡ true → b ≡ true) → (b ≡ true → a ≡ true) → a ≡ b
-iff true b f g = sym (f refl)
-iff false true f g = g refl
-iff false false f g = refl
-
 any-elim : (test : ℕ → Bool) (xs : List ℕ) → list_any test xs ≡ true → (d : ℕ) × (contains xs d ≡ true) × (test d ≡ true)
 any-elim test [] e = absurd (true≢false (sym e))
 any-elim test (x ∷ xs) e =
     ⊎_elim (λ h. (x, or_left (nat_eq x x) _ (eq-eqb x x refl), h)) (λ h. let k = any-elim test xs h in (k.0, or_right (nat_eq k.0 x) _ k.1, k.2)) (or_cases (test x) _ e)
 
--- what is closed stays so
+-- Closing a test under case folding twice is the same as closing it once.
 pub closed-twice : (flags : Flags) (test : ℕ → Bool) (c : ℕ) → closed_under_case_folding flags (closed_under_case_folding flags test) c ≡ closed_under_case_folding flags test c
 unfolding expand_code_point
 closed-twice flags test c = by flags.icase
@@ -385,11 +381,11 @@ closed-twice flags test c = by flags.icase
             either_way true = refl
             either_way false = refl
     by true =
-        iff _ _
+        same-truth _ _
         (λ h. let k = any-elim (some_case_variant_passes flags.unicode test) _ h in sym (fold-same flags.unicode test c k.0 k.1) ∙ k.2)
         (λ h. fold-own flags.unicode (some_case_variant_passes flags.unicode test) c h)
 
--- ---- The letters one after another
+-- ---- The closure, letter by letter
 
 pub in_append : (xs ys : Intervals) (c : ℕ) → in_intervals (xs ++ ys) c ≡ (in_intervals xs c || in_intervals ys c)
 in_append xs ys c = list_any-append _ xs ys
@@ -409,7 +405,7 @@ pub in_ones : (letters : List ℕ) (c : ℕ) → in_intervals (map single_code_p
 in_ones [] c = refl
 in_ones (d ∷ ds) c = ap₂ (λ x y. x || y) (in_one c d) (in_ones ds c)
 
--- the letters below this one are done
+-- The set has only case variants, keeps the test's members, and is closed for letters below `next`.
 pub record ClosingSoFar (test : ℕ → Bool) (unicode : Bool) (set : Intervals) (next : ℕ) : Type 0 where
   pub sound : (d : ℕ) → in_intervals set d ≡ true → some_case_variant_passes unicode test d ≡ true
   pub kept : (d : ℕ) → test d ≡ true → in_intervals set d ≡ true
@@ -452,7 +448,7 @@ closing-more test unicode set new next s e = record {
 
 pub closing-all : (test : ℕ → Bool) (unicode : Bool) (set : Intervals) (next : ℕ) → ClosingSoFar test unicode set next → 91 ≤ next
     → (d : ℕ) → in_intervals set d ≡ some_case_variant_passes unicode test d
-closing-all test unicode set next s done d = iff _ _ (s.sound d) (λ h. by h (letter_or_alone unicode d))
+closing-all test unicode set next s done d = same-truth _ _ (s.sound d) (λ h. by h (letter_or_alone unicode d))
   where
     by : some_case_variant_passes unicode test d ≡ true
         → (expand_code_point d true unicode ≡ d ∷ []) ⊎ ((upper : ℕ) × (65 ≤ upper) × (upper ≤ 90) × (contains (expand_code_point upper true unicode) d ≡ true))
@@ -460,7 +456,7 @@ closing-all test unicode set next s done d = iff _ _ (s.sound d) (λ h. by h (le
     by h (inl single_code_point_interval) = s.kept d (⊎_elim (λ k. k) (λ k. absurd (true≢false (sym k))) (or_cases (test d) false (sym (ap (list_any test) single_code_point_interval) ∙ h)))
     by h (inr k) = let last : k.0 ≤ 90 = k.2 in s.complete k.0 d k.1 (omega arith) (sym (fold-same unicode test k.0 d k.3) ∙ h) k.3
 
--- what one letter adds, where its kind is these letters
+-- The intervals that a letter adds are its case variants, if one of them passes the test.
 pub closing-as : (test : ℕ → Bool) (upper : ℕ) (unicode : Bool) (letters : List ℕ) (passes : Bool) → letters ≡ expand_code_point upper true unicode
     → passes ≡ list_any test letters → (if passes then map single_code_point_interval letters else []) ≡ letter_case_variants_if_any_passes test upper unicode
 closing-as test upper unicode letters passes e f =

@@ -12,6 +12,7 @@ pub mod QuantifierLemmas
 pub mod EscapeLemmas
 pub mod LetterCaseClosureLemmas
 pub mod GroupNameLemmas
+pub mod ClassMemberListLemmas
 pub mod ClassReaderLemmas
 pub mod PartialDisjunctionLemmas
 pub mod GroupScanLemmas

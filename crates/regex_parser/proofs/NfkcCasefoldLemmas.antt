@@ -10,6 +10,7 @@ use Rattle.std.specs.Char.{OutOfScalarRange}
 use Rattle.std.proofs.lemmas.Bool.{and_parts, or_cases, ltb-true, leb-true, eqb-false}
 use Rattle.std.proofs.lemmas.Bool.Decides.{nat_tests}
 use Rattle.std.proofs.lemmas.Str.{encodes_same, encodes-chars}
+use Rattle.std.proofs.Math.Bool.{or-false}
 use lib.Pointwise.{bytes_decides}
 use Rattle.ucd_table.specs.Rows.{in_ranges}
 use Rattle.ucd_case.specs.CaseFolding.{full_folding, full_fold}
@@ -27,27 +28,23 @@ use Rattle.unicode_normalization.specs.Compose.{compose, compose_after}
 use Rattle.unicode_normalization.specs.Hangul.{is_syllable, decompose_hangul}
 use Rattle.regex_meaning.specs.Outcomes.{in_intervals}
 use Rattle.regex_meaning.specs.UnicodeProperties.{has_property, changes_when_nfkc_casefolded, is_nfkc_casefolded}
+use Rattle.regex_meaning.proofs.BoolLemmas.{same-truth}
 use Rattle.regex_parser.specs.ClassReaderContracts.{is_in_any_interval}
 use Rattle.regex_pattern_front.specs.declared.codepointset.Interval.{Interval}
 use Rattle.regex_pattern_front.proofs.CanonicalLemmas.{outside}
-use Rattle.regex_parser.proofs.EcmaClassLemmas.{held-append}
+use Rattle.regex_parser.proofs.ClassMemberListLemmas.{held-append}
 
--- ---- Of a character
+-- ---- Numbers that are characters
 
 pub ignorable-changes : (c : ℕ) → is_default_ignorable_code_point c ≡ true → true ≡ not (is_nfkc_casefolded c)
 unfolding is_nfkc_casefolded
 ignorable-changes c e = sym (ap (λ b. not (not b && bytes_eq (nfkc (full_fold c)) (c ∷ []))) e)
 
-same-if : (b d : Bool) → (b ≡ true → d ≡ true) → (d ≡ true → b ≡ true) → b ≡ d
-same-if true d f g = sym (f refl)
-same-if false true f g = g refl
-same-if false false f g = refl
-
 pub changes-if_not_same : (c : ℕ) (folded normalized itself : List ℕ) (differs : Bool) → is_default_ignorable_code_point c ≡ false → IsUtf8 folded → folded ≡ encode_utf8_all (full_fold c)
     → normalized ≡ encode_utf8_all (nfkc (chars folded)) → itself ≡ encode_utf8 c → differs ≡ not (bytes_eq normalized itself) → differs ≡ not (is_nfkc_casefolded c)
 unfolding is_nfkc_casefolded
 changes-if_not_same c folded normalized itself differs e utf8 f n i d =
-    d ∙ ap not (same-if (bytes_eq normalized itself) (bytes_eq (nfkc (full_fold c)) (c ∷ [])) on back)
+    d ∙ ap not (same-truth (bytes_eq normalized itself) (bytes_eq (nfkc (full_fold c)) (c ∷ [])) on back)
     ∙ sym (ap (λ b. not (not b && bytes_eq (nfkc (full_fold c)) (c ∷ []))) e)
   where
     characters : chars folded ≡ full_fold c
@@ -65,9 +62,9 @@ changes-if_not_same c folded normalized itself differs e utf8 f n i d =
     back : bytes_eq (nfkc (full_fold c)) (c ∷ []) ≡ true → bytes_eq normalized itself ≡ true
     back h = (bytes_decides normalized itself).1 (text ∙ ap encode_utf8_all ((bytes_decides (nfkc (full_fold c)) (c ∷ [])).0 h) ∙ sym one)
 
--- ---- Of what is no character
+-- ---- Numbers that are no characters
 
--- no range has a number from here to there
+-- Ranges that lie outside `low` to `high` contain no number between them.
 ranges-outside : (ranges : List (ℕ × ℕ)) (low high c : ℕ) → list_all (λ r. nat_lt r.1 low || nat_lt high r.0) ranges ≡ true → low ≤ c → c ≤ high → in_ranges ranges c ≡ false
 unfolding in_ranges
 ranges-outside [] low high c h from to = refl
@@ -81,7 +78,7 @@ ranges-outside (r ∷ ranges) low high c h from to = ap₂ ◌||◌ (beside (nat
     beside true e (inl x) = let p = and_parts (nat_le r.0 c) (nat_le c r.1) e in let y = ltb-true r.1 low x in let z = leb-true c r.1 p.1 in absurd (omega (arith, y, z, from))
     beside true e (inr x) = let p = and_parts (nat_le r.0 c) (nat_le c r.1) e in let y = ltb-true high r.0 x in let z = leb-true r.0 c p.0 in absurd (omega (arith, y, z, to))
 
--- the three tables have no row from here to there
+-- `AreApart low high` states that no row of the three tables meets `low` to `high`.
 record AreApart (low high : ℕ) : Type 0 where
   pub folds : list_all (λ r. nat_lt r.1 low || nat_lt high r.0) full_folding_rows ≡ true
   pub decomposes : list_all (λ r. nat_lt r.1 low || nat_lt high r.0) decomposition_rows ≡ true
@@ -162,11 +159,7 @@ below-next c = grind (arith, nat_tests)
 below-same : (c : ℕ) → nat_lt c c ≡ false
 below-same c = grind (arith, nat_tests)
 
-or-false : (b : Bool) → (b || false) ≡ b
-or-false true = refl
-or-false false = refl
-
--- whether the code points below c that pass the test are those in the intervals
+-- The intervals contain exactly the numbers below `c` that pass the test.
 abbrev pub HoldsBelow : (test : ℕ → Bool) → List Interval → (c : ℕ) → Type 0
 HoldsBelow test intervals c = (d : ℕ) → is_in_any_interval intervals d ≡ (nat_lt d c && test d)
 

@@ -5,6 +5,7 @@ use Prim.Native.String.{String}
 use Rattle.std.specs.Prelude.{codes, nat_eq}
 use Rattle.std.specs.List.{list_all, starts_with}
 use Rattle.std.specs.Char.{is_digit, digit_value}
+use Rattle.std.specs.Int.{is_in_range}
 use Rattle.std.proofs.lemmas.List.Sums.{fold-append, take_while-cons}
 use Rattle.std.proofs.lemmas.List.Folds.{list_all-append}
 use Rattle.std.proofs.lemmas.Bool.{cases_lt, and_parts, ltb-true, eqb-true}
@@ -16,7 +17,14 @@ use Rattle.regex_meaning.specs.EscapesNamesQuantifiers.{FixedHexDigits, hex}
 use Rattle.regex_meaning.proofs.DisjunctionReadingLemmas.{rest_of}
 use Rattle.regex_parser.specs.CodePointReaderContracts.{IsDigitRead, IsNumberRead}
 
--- the text begins with these digits
+pub nonzero_digit_bounds : (c : ℕ) → is_in_range 49 57 c ≡ true → (49 ≤ c) × (c ≤ 57)
+nonzero_digit_bounds c e = (grind arith, grind arith)
+
+-- No number is read where no digits are.
+pub no-number : {here there : RemainingCodePoints} {n : ℕ} → Digits 10 here there n → leading_digits 10 here ≡ [] → ⊥
+no-number (digits_from h) e = let k : 0 < length (leading_digits 10 []) = subst (λ x. 0 < length x) e h in omega arith
+
+-- The text is the digits `ds` of the base, then the text `there`.
 pub record HasDigits (base : ℕ) (here there ds : RemainingCodePoints) : Type 0 where
   pub is : here ≡ ds ++ there
   pub all : list_all (λ c. is_digit c base) ds ≡ true
@@ -48,7 +56,7 @@ digits-here base {here} {there} {ds} h f some =
     (subst (λ x. Digits base here x (value_of_digits base (leading_digits base here))) rest
     (digits_from (let long : length (leading_digits base here) ≡ length ds = ap length same in omega arith)))
 
--- a word of one sign does not stand where the sign does not
+-- A text that does not begin with a sign does not begin with the word of that sign.
 pub no_sign : (word : String) (sign : ℕ) → codes word ≡ sign ∷ [] → (here : RemainingCodePoints) → ((rest : RemainingCodePoints) → here ≡ sign ∷ rest → ⊥) → begins_with_characters word here ≡ false
 no_sign word sign e here none = subst (λ w. starts_with nat_eq here w ≡ false) (sym e) (go here none)
   where
@@ -60,7 +68,7 @@ no_sign word sign e here none = subst (λ w. starts_with nat_eq here w ≡ false
         by true e = absurd (none cs (ap (λ (x : ℕ). x ∷ cs) (sym (eqb-true sign c e))))
         by false e = rw e refl
 
--- ---- A number that may be past what can be told
+-- ---- Numbers that saturate at a greatest value
 
 pub record NumberSoFar (base most : ℕ) (here : RemainingCodePoints) (value : ℕ) (there : RemainingCodePoints) : Type 0 where
   pub ds : RemainingCodePoints
@@ -69,7 +77,7 @@ pub record NumberSoFar (base most : ℕ) (here : RemainingCodePoints) (value : �
   pub value_is : value ≡ min (value_of_digits base ds) most
 
 module _ (base most : ℕ) (some : 1 ≤ base) (fits : base ≤ most) where
-  -- with one digit more, of a number that is told, and of one that is not
+  -- Adding a digit to a saturated number gives the saturated number with that digit.
   step : (n d : ℕ) → min (min (min n most * base) most + d) most ≡ min (base * n + d) most
   step n d = elim (cases_lt n most) [
     | inl told ↦
@@ -109,7 +117,7 @@ module _ (base most : ℕ) (some : 1 ≤ base) (fits : base ≤ most) where
   number-end here middle there value s r =
       rw r.0 (value_of_digits base s.ds, digits-here base s.leading_digits r.1 s.some, s.value_is)
 
--- ---- So many digits
+-- ---- Numbers with a fixed count of digits
 
 pub record HexSoFar (count : ℕ) (here : RemainingCodePoints) (value : ℕ) (there : RemainingCodePoints) : Type 0 where
   pub ds : RemainingCodePoints
@@ -144,7 +152,7 @@ hex-next count here middle there value d few s r =
       );
     }
 
--- where digits end too early there is no such number
+-- If fewer hex digits are read than needed and none follows, no number of that length is here.
 pub hex-short : (count all : ℕ) (here there : RemainingCodePoints) (value : ℕ) → count < all → HexSoFar count here value there → leading_digits 16 there ≡ []
     → (end : RemainingCodePoints) (c : ℕ) → FixedHexDigits all here end c → ⊥
 hex-short count all here there value less s none end c (hex ds e l t) = by s.ds ds (omega arith) (sym s.leading_digits.is ∙ e) t

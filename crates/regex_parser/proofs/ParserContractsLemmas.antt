@@ -6,7 +6,7 @@ use Rattle.std.specs.Option.{option_eq}
 use Rattle.std.specs.Result.{IsErrAnd, result_err}
 use Rattle.std.proofs.lemmas.Bool.{eqb-true, eq-eqb}
 use Rattle.regex_meaning.specs.Tree as tree
-use Rattle.regex_meaning.specs.ReadingStatesAndDigits.{RemainingCodePoints, ParseState, groups_at, begins_with_characters, group_number_of}
+use Rattle.regex_meaning.specs.ReadingStatesAndDigits.{RemainingCodePoints, ParseState, number_of_opened_groups, begins_with_characters, group_number_of}
 use Rattle.regex_meaning.specs.EscapesNamesQuantifiers.{BeginsQuantifier, ValidQuantifier}
 use Rattle.regex_meaning.specs.Grammar.{PatternDialect}
 use Rattle.regex_parser.specs.ParseStack.{IsTerm, once, repeated, push_term, empty_disjunction}
@@ -34,49 +34,49 @@ use Rattle.regex_parser.specs.GroupReaderContracts.{AreGroupsCollected, IsOpenin
 use Rattle.regex_parser.specs.GrouplessTermContracts.{IsAtomOrIn, NoTermIn, IsReaderOfSame}
 use Rattle.regex_parser.specs.GroupIdInvariant.{OpenDisjunctionsHaveAllGroups, captures_opened_by_group_kind}
 use Rattle.regex_parser.specs.PartialDisjunctionModel.{disjunction_of}
-use Rattle.regex_parser.specs.ParserContracts.{IsTermWithOptionalQuantifierRead, IsOptionalGroupNameRead, is_named_group, around_from, open_group_of}
+use Rattle.regex_parser.specs.ParserContracts.{IsTermWithOptionalQuantifierRead, IsOptionalGroupNameRead, is_named_group, grammar_open_groups_from, open_group_of}
 use Rattle.regex_parser.specs.ParserContracts.{group_kind_of, KnowsGroups, HasNoTreeFor}
 use Rattle.regex_parser.specs.ParserContracts.{group_node_around, HasReadPatternUpTo, AdvancesOrHasNoTree}
 use Rattle.regex_parser.specs.ParserContracts.{IsParseResult}
 use Rattle.regex_parser.specs.CodePointReaderContracts.{IsOptionalQuantifierRead, is_syntax_error}
-use Rattle.regex_pattern_front.specs.AstToSpecTree.{node_of, group_name_bytes, spec_quantifier_of, spec_flags_of}
+use Rattle.regex_pattern_front.specs.AstToSpecTree.{spec_node_of, group_name_bytes, spec_quantifier_of, spec_flags_of}
 
 pub stands-once : (is_atom : Bool) (here there : RemainingCodePoints) (start end : ℕ) (n : Node) (found : Option Quantifier) → is_atom ≡ true → found ≡ None
-    → IsOptionalQuantifierRead here found there → IsTermWithOptionalQuantifierRead is_atom here start end (node_of n) (Ok n) there
+    → IsOptionalQuantifierRead here found there → IsTermWithOptionalQuantifierRead is_atom here start end (spec_node_of n) (Ok n) there
 stands-once true here there start end n None e f h = λ opened count. rw h.0 (once h.1)
 stands-once true here there start end n (Some q) e f h = cc
 stands-once false here there start end n found e f h = absurd (true≢false (sym e))
 
-pub stands-alone : (is_atom : Bool) (here : RemainingCodePoints) (start end : ℕ) (n : Node) → is_atom ≡ false → ¬ (BeginsQuantifier here) → IsTermWithOptionalQuantifierRead is_atom here start end (node_of n) (Ok n) here
+pub stands-alone : (is_atom : Bool) (here : RemainingCodePoints) (start end : ℕ) (n : Node) → is_atom ≡ false → ¬ (BeginsQuantifier here) → IsTermWithOptionalQuantifierRead is_atom here start end (spec_node_of n) (Ok n) here
 stands-alone false here start end n e none = (refl, refl, none)
 stands-alone true here start end n e none = absurd (true≢false e)
 
 pub is-loop : (is_atom : Bool) (here there : RemainingCodePoints) (start end : ℕ) (term : tree.Node) (m : Node) (found : Option Quantifier) (q : Quantifier) → is_atom ≡ true → found ≡ Some q
-    → IsOptionalQuantifierRead here found there → node_of m ≡ tree.loop (spec_quantifier_of q) start end term → IsTermWithOptionalQuantifierRead is_atom here start end term (Ok m) there
+    → IsOptionalQuantifierRead here found there → spec_node_of m ≡ tree.loop (spec_quantifier_of q) start end term → IsTermWithOptionalQuantifierRead is_atom here start end term (Ok m) there
 is-loop false here there start end term m found q e f h is = absurd (true≢false (sym e))
 is-loop true here there start end term m found q e f h is =
     λ opened count.
     let k : ValidQuantifier here there (spec_quantifier_of q) = subst (λ x. IsOptionalQuantifierRead here x there) f h in
     subst (λ x. IsTerm start term (parse_state here opened) (parse_state there opened) x) (sym (is ∙ ap (λ g. tree.loop (spec_quantifier_of q) start g term) (sym count))) (repeated k)
 
--- one parenthesis more, the innermost
-pub around-push : (inner : List grammar.OpenGroup) (os : List OpenGroup) (o : OpenGroup) → around_from inner (os ++ o ∷ []) ≡ open_group_of o ∷ around_from inner os
+-- The last open parenthesis is the innermost open group.
+pub around-push : (inner : List grammar.OpenGroup) (os : List OpenGroup) (o : OpenGroup) → grammar_open_groups_from inner (os ++ o ∷ []) ≡ open_group_of o ∷ grammar_open_groups_from inner os
 around-push inner [] o = refl
 around-push inner (p ∷ os) o = around-push (open_group_of p ∷ inner) os o
 
--- a parenthesis is open where there is one
-pub around-some : (inner : List grammar.OpenGroup) (os : List OpenGroup) → 0 < length inner + length os → around_from inner os ≡ [] → ⊥
+-- The list of open groups is not empty if a parenthesis is open.
+pub around-some : (inner : List grammar.OpenGroup) (os : List OpenGroup) → 0 < length inner + length os → grammar_open_groups_from inner os ≡ [] → ⊥
 around-some [] [] h e = omega (arith, h)
 around-some (i ∷ is) [] h e = cc
 around-some inner (o ∷ os) h e = around-some (open_group_of o ∷ inner) os (omega arith) e
 
--- the last of them is the innermost
+-- The invariant holds with the last open parenthesis as the innermost group.
 pub at-last : {S : PatternDialect} {flags : tree.Flags} {pattern : RemainingCodePoints} {names : List RemainingCodePoints} {references groups : ℕ} {level : grammar.PartialDisjunction} {here : RemainingCodePoints} (all os : List OpenGroup) (o : OpenGroup) → all ≡ os ++ o ∷ []
-    → IsParserInvariant S flags pattern names references groups (around_from [] all) level here → IsParserInvariant S flags pattern names references groups (open_group_of o ∷ around_from [] os) level here
+    → IsParserInvariant S flags pattern names references groups (grammar_open_groups_from [] all) level here → IsParserInvariant S flags pattern names references groups (open_group_of o ∷ grammar_open_groups_from [] os) level here
 at-last {S} {flags} {pattern} {names} {references} {groups} {level} {here} all os o e s =
-    subst (λ x. IsParserInvariant S flags pattern names references groups x level here) (ap (λ x. around_from [] x) e ∙ around-push [] os o) s
+    subst (λ x. IsParserInvariant S flags pattern names references groups x level here) (ap (λ x. grammar_open_groups_from [] x) e ∙ around-push [] os o) s
 
--- ---- The reader goes on
+-- ---- Parsers that read on
 
 pub same-then : (a b c : GrouplessTermReader) → IsReaderOfSame b a → IsReaderOfSame c b → IsReaderOfSame c a
 same-then a b c e f = (f.0 ∙ e.0, f.1 ∙ e.1, f.2 ∙ e.2, f.3 ∙ e.3)
@@ -88,18 +88,18 @@ pub no-tree-same : {pattern : RemainingCodePoints} {s t : Syntax} {f g : Flags} 
 no-tree-same {pattern} {s} {t} {f} {g} e k h =
     subst (λ x. HasNoTreeIn (spec_syntax_of x) (spec_flags_of f) pattern) e (subst (λ x. HasNoTreeIn (spec_syntax_of t) (spec_flags_of x) pattern) k h)
 
--- what is known of a parser that reads on
+-- A parser that keeps the invariant and the reader's knowledge has read the pattern up to `there`.
 pub reads-on : (old new : Parser) {pattern : RemainingCodePoints} {names : List RemainingCodePoints} {here there : RemainingCodePoints} → IsReaderOfSame new.leaves old.leaves → HasReadPatternUpTo pattern names here old → new.groups ≤ 65535
-    → IsParserInvariant (spec_syntax_of old.leaves.syntax) (spec_flags_of old.leaves.flags) pattern names new.leaves.references new.groups (around_from [] new.around.items) (disjunction_of new.level) there
+    → IsParserInvariant (spec_syntax_of old.leaves.syntax) (spec_flags_of old.leaves.flags) pattern names new.leaves.references new.groups (grammar_open_groups_from [] new.around.items) (disjunction_of new.level) there
     → HasReadPatternUpTo pattern names there new
 reads-on old new {pattern} {names} {here} {there} e h few s = record {
   known = known-same new.leaves old.leaves e h.known;
   few = few;
-  stands = subst (λ x. IsParserInvariant (spec_syntax_of x) (spec_flags_of new.leaves.flags) pattern names new.leaves.references new.groups (around_from [] new.around.items) (disjunction_of new.level) there) (sym e.2)
-      (subst (λ x. IsParserInvariant (spec_syntax_of old.leaves.syntax) (spec_flags_of x) pattern names new.leaves.references new.groups (around_from [] new.around.items) (disjunction_of new.level) there) (sym e.0) s);
+  stands = subst (λ x. IsParserInvariant (spec_syntax_of x) (spec_flags_of new.leaves.flags) pattern names new.leaves.references new.groups (grammar_open_groups_from [] new.around.items) (disjunction_of new.level) there) (sym e.2)
+      (subst (λ x. IsParserInvariant (spec_syntax_of old.leaves.syntax) (spec_flags_of x) pattern names new.leaves.references new.groups (grammar_open_groups_from [] new.around.items) (disjunction_of new.level) there) (sym e.0) s);
 }
 
--- ---- Refusals are handed on
+-- ---- Errors that are handed on
 
 pub err-reads : {P : ParseStopReason → Type 0} {A : Type 0} (here : RemainingCodePoints) (old new : Parser) (r : Result A ParseStopReason) (e : ParseStopReason) → IsErrAnd r P → ((x : ParseStopReason) → P x → x ≡ e)
     → (IsTrue (is_syntax_error e) → (pattern : RemainingCodePoints) (names : List RemainingCodePoints) → HasReadPatternUpTo pattern names here old → HasNoTreeFor old.leaves pattern)
@@ -112,15 +112,15 @@ pub err-parsed : {P : ParseStopReason → Type 0} (S : PatternDialect) {A : Type
 err-parsed S of flags pattern (Ok a) e h same none = absurd h
 err-parsed S of flags pattern (Err x) e h same none = λ r. none (sym (ap is_syntax_error (same x h)) ∙ r)
 
--- ---- All of the pattern
+-- ---- The whole pattern
 
--- it has read on from there to here
+-- The new parser reads the same pattern, has all groups, and has read on from `here`.
 pub record GoesOn (here : RemainingCodePoints) (old new : Parser) : Type 0 where
   pub reading : OpenDisjunctionsHaveAllGroups new
   pub same : IsReaderOfSame new.leaves old.leaves
   pub text : (pattern : RemainingCodePoints) (names : List RemainingCodePoints) → HasReadPatternUpTo pattern names here old → HasReadPatternUpTo pattern names new.leaves.reader.rest.now new
 
--- what the scan of a pattern has found is what the parser has to know
+-- The groups that the scan collected are the groups that the parser has to know.
 pub groups-known-in : {R : Type 0} {S : PatternDialect} → IsReadable S → (flags : Flags) (count : ℕ) (named : Bool) (numbers : BTreeMap (String R) ℕ) (names : List RemainingCodePoints) → AreGroupsCollected count numbers names
     → AreWithinGroupLimit names → named ≡ (flags.unicode || nat_lt 0 (btree_map_len numbers)) → AreGroupsKnownIn S flags count named numbers names
 groups-known-in d flags count named numbers names h few e =
@@ -136,7 +136,7 @@ groups-known-in d flags count named numbers names h few e =
     positive [] none = absurd (none refl)
     positive (c ∷ cs) none = omega arith
 
--- nothing is read
+-- A parser that knows the groups and has read nothing has read the pattern up to its start.
 pub begun : (pattern : RemainingCodePoints) (names : List RemainingCodePoints) (p : Parser) → FindsGroups (spec_syntax_of p.leaves.syntax) pattern names → KnowsGroups p.leaves names → p.leaves.references ≡ 0 → p.groups ≡ 0 → p.around.items ≡ []
     → disjunction_of p.level ≡ empty_disjunction false → HasReadPatternUpTo pattern names pattern p
 begun pattern names p found known references groups around level = record {
@@ -145,22 +145,22 @@ begun pattern names p found known references groups around level = record {
   stands = rw (references, groups, around, level) (stands-begin (readable p.leaves.syntax) found);
 }
 
--- all is read
+-- A parser that has read on to an empty rest has read the whole pattern.
 pub read-whole : (pattern : RemainingCodePoints) (names : List RemainingCodePoints) (old new : Parser) → HasReadPatternUpTo pattern names pattern old
     → ((whole : RemainingCodePoints) (all : List RemainingCodePoints) → HasReadPatternUpTo whole all pattern old → HasReadPatternUpTo whole all new.leaves.reader.rest.now new) → new.leaves.reader.rest.now ≡ []
     → HasReadPatternUpTo pattern names [] new
 read-whole pattern names old new h text e = subst (λ x. HasReadPatternUpTo pattern names x new) e (text pattern names h)
 
--- a parenthesis is open at the end
+-- A pattern at whose end a parenthesis is open has no tree.
 pub ends-open : {S : PatternDialect} (d : IsReadable S) {flags : tree.Flags} {pattern : RemainingCodePoints} {names : List RemainingCodePoints} {references groups : ℕ} {level : grammar.PartialDisjunction} (os : List OpenGroup) → 0 < length os
-    → IsParserInvariant S flags pattern names references groups (around_from [] os) level [] → HasNoTreeIn S flags pattern
-ends-open {S} d {flags} {pattern} {names} {references} {groups} {level} os some s = by (around_from [] os) refl
+    → IsParserInvariant S flags pattern names references groups (grammar_open_groups_from [] os) level [] → HasNoTreeIn S flags pattern
+ends-open {S} d {flags} {pattern} {names} {references} {groups} {level} os some s = by (grammar_open_groups_from [] os) refl
   where
-    by : (x : List grammar.OpenGroup) → around_from [] os ≡ x → HasNoTreeIn S flags pattern
+    by : (x : List grammar.OpenGroup) → grammar_open_groups_from [] os ≡ x → HasNoTreeIn S flags pattern
     by [] e = absurd (around-some [] os (omega (arith, some)) e)
     by (o ∷ around) e = still-open d (subst (λ x. IsParserInvariant S flags pattern names references groups x level []) e s)
 
--- what `err` keeps of a result: why there is none, or nothing where there is one
+-- If `result_err` gives an error, `N` holds, and if it gives none, some value satisfies `P`.
 pub told : {A B D : Type 0} (of : A → B) (P : B → Type 0) (N : Type 0) (r : Result A D) (o : Option D) → o ≡ result_err r → IfOk r (λ a. P (of a)) → IfErr r (λ d. N)
     → IfSome o (λ d. N) × (o ≡ None → (b : B) × P b)
 told {A} {B} {D} of P N r o e h g = subst (λ x. IfSome x (λ d. N) × (x ≡ None → (b : B) × P b)) (sym e) (by r h g)
@@ -193,7 +193,7 @@ module _ {S : PatternDialect} (d : IsReadable S) {flags : tree.Flags} {pattern :
   pub term-repeated : (is_atom : Bool)
       → Ahead false here mid × (new ≤ length names → IsAtomOrIn S is_atom (spec_pattern_context flags names) here mid t)
       × (length names < new → (length names < old) ⊎ NoTermIn S (spec_pattern_context flags names) here)
-      → (n : Node) (there : RemainingCodePoints) → IsTermWithOptionalQuantifierRead is_atom mid groups groups t (Ok n) there → IsParserInvariant S flags pattern names new groups around (push_term (node_of n) level) there
+      → (n : Node) (there : RemainingCodePoints) → IsTermWithOptionalQuantifierRead is_atom mid groups groups t (Ok n) there → IsParserInvariant S flags pattern names new groups around (push_term (spec_node_of n) level) there
   term-repeated true leaf n there k = stands-atom d s new mid t leaf.0 grows more leaf.2 leaf.1 k
   term-repeated false leaf n there k =
       rw (k.0, k.1) (stands-assertion d s new mid t leaf.0 grows more leaf.2 leaf.1 k.2)
@@ -204,13 +204,13 @@ eq-some : (o : Option ℕ) (n : ℕ) → option_eq nat_eq o (Some n) ≡ true �
 eq-some None n e = absurd (true≢false (sym e))
 eq-some (Some m) n e = ap Some (eqb-true m n e)
 
--- the name that was read has the number of this group
+-- A name whose number is that of the opened group is read as the name of the group.
 pub name-found : {R : Type 0} {S : PatternDialect} (d : IsReadable S) (numbers : RemainingCodePoints → Option ℕ) (groups n : ℕ) (opening : GroupKind) (here there : RemainingCodePoints) (name : String R) (o : Option ℕ) → opening ≡ Named
     → S.group_name here there (string_bytes name) → o ≡ numbers (string_bytes name) → n ≡ groups → option_eq nat_eq o (Some (n + 1)) ≡ true
     → IsOptionalGroupNameRead S numbers groups (is_named_group opening) here (Ok (Some name)) there
 name-found d numbers groups n opening here there name o f is e g h = rw f (is, sym e ∙ eq-some o (n + 1) h ∙ ap (λ x. Some (x + 1)) g)
 
--- it has another
+-- A name whose number is not that of the opened group is refused.
 pub name-other : {R : Type 0} {S : PatternDialect} (d : IsReadable S) (numbers : RemainingCodePoints → Option ℕ) (groups n : ℕ) (opening : GroupKind) (here there : RemainingCodePoints) (name : String R) (o : Option ℕ) (x : ParseStopReason) → opening ≡ Named
     → S.group_name here there (string_bytes name) → o ≡ numbers (string_bytes name) → n ≡ groups → option_eq nat_eq o (Some (n + 1)) ≡ false
     → IsOptionalGroupNameRead {R = R} S numbers groups (is_named_group opening) here (Err x) there
@@ -257,7 +257,7 @@ module _ {S : PatternDialect} (d : IsReadable S) {flags : tree.Flags} {pattern :
       rw k.0 (subst (λ g. IsParserInvariant S flags pattern names references g (record { outer = level; opened = grammar.looks negate backwards groups; start = groups } ∷ around) (empty_disjunction backwards) mid) (omega arith)
       (stands-look d negate backwards (subst (λ x. IsParserInvariant S flags pattern names references groups around level x) o s)))
 
-shape-is : (opening : GroupKind) (name : RemainingCodePoints) (start end : ℕ) (c : tree.Node) (p : ParseState) → groups_at p ≡ end
+shape-is : (opening : GroupKind) (name : RemainingCodePoints) (start end : ℕ) (c : tree.Node) (p : ParseState) → number_of_opened_groups p ≡ end
     → shape (group_kind_of opening name start) c p ≡ group_node_around opening name start end c
 shape-is Capture name start end c p e = refl
 shape-is Named name start end c p e = refl
@@ -278,11 +278,11 @@ module _ {S : PatternDialect} (d : IsReadable S) {flags : tree.Flags} {pattern :
 
   pub left : (is_atom : Bool) → is_atom ≡ takes_quantifier S flags opening → (n : Node) (there : RemainingCodePoints)
       → IsTermWithOptionalQuantifierRead is_atom here start groups (group_node_around opening name start groups (contents_of level)) (Ok n) there
-      → IsParserInvariant S flags pattern names references groups around (push_term (node_of n) outer) there
+      → IsParserInvariant S flags pattern names references groups around (push_term (spec_node_of n) outer) there
   left true f n there k =
-      stands-leave d s there (node_of n) (ahead_term (k s.opened s.count))
+      stands-leave d s there (spec_node_of n) (ahead_term (k s.opened s.count))
       (of_term (may-be S flags opening name start ∙ sym f)
-      (subst (λ x. IsTerm start x (parse_state here s.opened) (parse_state there s.opened) (node_of n)) (sym (shape-is opening name start groups (contents_of level) (parse_state here s.opened) s.count)) (k s.opened s.count)))
+      (subst (λ x. IsTerm start x (parse_state here s.opened) (parse_state there s.opened) (spec_node_of n)) (sym (shape-is opening name start groups (contents_of level) (parse_state here s.opened) s.count)) (k s.opened s.count)))
   left false f n there k =
       rw (k.0, k.1 ∙ sym (shape-is opening name start groups (contents_of level) (parse_state here s.opened) s.count))
       (stands-leave d s here (shape (group_kind_of opening name start) (contents_of level) (parse_state here s.opened)) refl (of_alone k.2))

@@ -9,7 +9,7 @@ use Rattle.std.proofs.lemmas.List.{get_or_append_left}
 use Rattle.std.proofs.Math.Seq.{get_or-append_seam}
 use lib.Pointwise.{pointwise}
 use Rattle.regex_meaning.specs.Tree.{Node, Tree, Flags, Quantifier, goal, cat, end_of_cat, lookaround, loop, capture_group}
-use Rattle.regex_meaning.specs.ReadingStatesAndDigits.{RemainingCodePoints, ParseState, PatternContext, groups_at, state_with_text_left, begins_with_characters}
+use Rattle.regex_meaning.specs.ReadingStatesAndDigits.{RemainingCodePoints, ParseState, PatternContext, number_of_opened_groups, state_with_text_left, begins_with_characters}
 use Rattle.regex_meaning.specs.ReadingStatesAndDigits.{group_number_of, arm}
 use Rattle.regex_meaning.specs.EscapesNamesQuantifiers.{BeginsQuantifier, ValidQuantifier}
 use Rattle.regex_meaning.specs.Grammar.{PatternDialect, Disjunction, Term, Assertion, Atom, assertion, repeated_assertion, atom, quantified, start, end, boundary, look}
@@ -17,7 +17,7 @@ use Rattle.regex_meaning.specs.Grammar.{leaf}
 use Rattle.regex_meaning.specs.Grammar.{group, named_group}
 use Rattle.regex_meaning.specs.Grammar.{plain_group, ParsesBy, pattern_is, AreDistinct, lookaround_opener, no_terms}
 use Rattle.regex_meaning.specs.GroupOpeningScanWithoutParsing.{texts_after_parentheses, no_parenthesis}
-use Rattle.regex_parser.specs.ParseStack.{PartialDisjunction, empty_disjunction, push_term, end_alternative, nest_alternatives, Completes, last_arm, OpenGroup}
+use Rattle.regex_parser.specs.ParseStack.{PartialDisjunction, empty_disjunction, push_term, end_alternative, nest_alternatives, CompletesDisjunction, last_arm, OpenGroup}
 use Rattle.regex_parser.specs.ParseStack.{OpenGroupKind, captures, plain, looks, IsTerm}
 use Rattle.regex_parser.specs.ParseStack.{once, repeated, ClosesGroup, looked, looked_repeatedly, captured, enclosed}
 use Rattle.regex_parser.specs.ParserInvariants.{HasNoTreeIn, spec_pattern_context, parse_state, FindsGroups, CompletesTo, ParsesTo, AreOpenedNamesNumbered, IsParserInvariant}
@@ -39,11 +39,11 @@ either a b = grind arith
 none-numbered : (names : List RemainingCodePoints) → AreOpenedNamesNumbered [] names
 none-numbered names i d less = absurd (omega (arith, less))
 
--- no group opens between two places
+-- No group opens between two texts with the same groups ahead.
 pub no-groups : {S : PatternDialect} (opened : List RemainingCodePoints) {here there : RemainingCodePoints} → Ahead false here there → Opens S (parse_state here opened) (parse_state there opened)
 no-groups opened e = record { texts = []; added = []; opened = sym (append-nil opened); found = e; are = no_parenthesis }
 
--- ---- What a parenthesis makes of its contents
+-- ---- Terms that parentheses make of their contents
 
 one_term : {start : ℕ} {n m k : Node} {p q r : ParseState} → IsTerm start n p q m → IsTerm start n p r k → (q ≡ r) × (m ≡ k)
 one_term (once h) (once g) = (refl, refl)
@@ -55,9 +55,9 @@ one_term (repeated {there = a} {quantifier = x} k) (repeated {there = b} {quanti
 abbrev pub shape : OpenGroupKind → Node → ParseState → Node
 shape (captures id name) c p = capture_group id name c
 shape plain c p = c
-shape (looks negate backwards from) c p = lookaround (record { negate = negate; backwards = backwards; start_group = from; end_group = groups_at p }) c
+shape (looks negate backwards from) c p = lookaround (record { negate = negate; backwards = backwards; start_group = from; end_group = number_of_opened_groups p }) c
 
--- whether it may have a quantifier
+-- `may_have_quantifier` tells whether a group of this kind may have a quantifier.
 abbrev pub may_have_quantifier : PatternDialect → Flags → OpenGroupKind → Bool
 may_have_quantifier S flags (captures id name) = true
 may_have_quantifier S flags plain = true
@@ -71,7 +71,7 @@ module _ {S : PatternDialect} {w : PatternContext} {o : OpenGroup} {c : Node} {p
   to_term (looked negate backwards from f alone) =
       subst (λ x. IsTerm o.start (shape x c p) p p (shape (looks negate backwards from) c p)) (sym f) (once alone)
   to_term (looked_repeatedly {there = there} {quantifier = k} negate backwards from f may h) =
-      subst (λ x. IsTerm o.start (shape x c p) p (state_with_text_left there p) (loop k o.start (groups_at p) (shape (looks negate backwards from) c p))) (sym f) (repeated h)
+      subst (λ x. IsTerm o.start (shape x c p) p (state_with_text_left there p) (loop k o.start (number_of_opened_groups p) (shape (looks negate backwards from) c p))) (sym f) (repeated h)
   to_term {q} {n} (captured f k) = subst (λ x. IsTerm o.start (shape x c p) p q n) (sym f) k
   to_term {q} {n} (enclosed f k) = subst (λ x. IsTerm o.start (shape x c p) p q n) (sym f) k
 
@@ -168,7 +168,7 @@ module _ {S : PatternDialect} (d : IsReadable S) {flags : Flags} {pattern : Rema
       subst (λ g. Disjunction S (spec_pattern_context flags g) false (parse_state pattern []) (parse_state [] g) n) same e in
       (subst AreDistinct same distinct, n, (begin S d.one (spec_pattern_context flags names) false (parse_state pattern []) _ n).0 all)
 
-  -- nothing completes what is read, so there is no tree
+  -- If nothing completes what is read, the pattern has no tree.
   pub refused : {references groups : ℕ} {around : List OpenGroup} {level : PartialDisjunction} {here : RemainingCodePoints}
       → (s : IsParserInvariant S flags pattern names references groups around level here)
       → (references ≤ length names → AreDistinct names → (n : Node) → CompletesTo S flags names around level (parse_state here s.opened) n → ⊥)
@@ -194,7 +194,7 @@ module _ {S : PatternDialect} (d : IsReadable S) {flags : Flags} {pattern : Rema
       }
 
   module _ {old groups : ℕ} {around : List OpenGroup} {level : PartialDisjunction} {here : RemainingCodePoints} (s : IsParserInvariant S flags pattern names old groups around level here) where
-    -- the groups that are found behind those that open
+    -- The groups found behind a place are those that remain after the groups that open before it.
     behind : (there : RemainingCodePoints) (opened : List RemainingCodePoints) → Opens S (parse_state here s.opened) (parse_state there opened)
         → (back : List RemainingCodePoints) × (names ≡ opened ++ back) × FindsGroups S there back
     behind there opened o =
@@ -227,14 +227,14 @@ module _ {S : PatternDialect} (d : IsReadable S) {flags : Flags} {pattern : Rema
         by k n h =
             ⊎_elim (λ less. k n ((s.same less n).0 h)) (λ past. s.none past n h) (either old (length names))
 
-    -- a step behind which the same groups have opened, and no reference was read
+    -- A step that keeps the opened groups, the references and what completes keeps the invariant.
     pub stays : (inner : List OpenGroup) (next : PartialDisjunction) (there : RemainingCodePoints) → Opens S (parse_state here s.opened) (parse_state there s.opened)
         → ((n : Node) → CompletesTo S flags names inner next (parse_state there s.opened) n ↔ CompletesTo S flags names around level (parse_state here s.opened) n)
         → IsParserInvariant S flags pattern names old groups inner next there
     stays inner next there o goes =
         step old groups inner next there s.opened o s.count s.numbered (omega arith) (λ less n. goes n) (λ past. inl past)
 
-    -- a term without groups
+    -- A term without groups that is added to the level keeps the invariant.
     pub stands-term : (new : ℕ) (there : RemainingCodePoints) (t : Node)
         → Ahead false here there
         → old ≤ new
@@ -246,7 +246,7 @@ module _ {S : PatternDialect} (d : IsReadable S) {flags : Flags} {pattern : Rema
         (λ less n. (λ h. pushed_all S d.one (spec_pattern_context flags names) names around level n (is less) h, λ h. unpushed_all S d.one (spec_pattern_context flags names) names around level n (is less) h))
         none
 
-    -- a place where no term begins
+    -- A pattern has no tree if no term begins at a place where no alternative ends.
     pub no-term : ends_here here ≡ false → ((q : ParseState) (m : Node) → Term S (spec_pattern_context flags names) level.in_lookbehind (parse_state here s.opened) q m → ⊥) → HasNoTreeIn S flags pattern
     no-term more none = refused s (λ l distinct n h. no_term_here S d.one (spec_pattern_context flags names) names around level n more none h)
 
@@ -255,7 +255,7 @@ module _ {S : PatternDialect} (d : IsReadable S) {flags : Flags} {pattern : Rema
   stands-bar {around = around} {level = level} {there = there} s =
       stays s around (end_alternative level) there (no-groups s.opened (past false 124 there refl)) (λ n. bar_all S d.one (spec_pattern_context flags names) names around level n refl)
 
-  -- ---- A parenthesis that closes
+  -- ---- Closing parentheses
 
   pub stands-leave : {references groups : ℕ} {o : OpenGroup} {around : List OpenGroup} {level : PartialDisjunction} {here : RemainingCodePoints}
       → (s : IsParserInvariant S flags pattern names references groups (o ∷ around) level (41 ∷ here)) → (there : RemainingCodePoints) (t : Node)
@@ -276,7 +276,7 @@ module _ {S : PatternDialect} (d : IsReadable S) {flags : Flags} {pattern : Rema
           let e = one_closes k.2 closes in
           subst (λ x. CompletesTo S flags names around (push_term t o.outer) x n) e.0 (subst (λ m. CompletesTo S flags names around (push_term m o.outer) k.0 n) e.1 k.3)
 
-  -- a parenthesis closes, and none is open
+  -- A pattern in which a parenthesis closes while none is open has no tree.
   pub none-opened : {references groups : ℕ} {level : PartialDisjunction} {here : RemainingCodePoints} → IsParserInvariant S flags pattern names references groups [] level (41 ∷ here) → HasNoTreeIn S flags pattern
   none-opened {level = level} {here = here} s =
       refused s (λ l distinct n h. unopened S d.one (spec_pattern_context flags names) names level n {p = parse_state (41 ∷ here) s.opened} {r = parse_state here s.opened} refl h)
@@ -286,7 +286,7 @@ module _ {S : PatternDialect} (d : IsReadable S) {flags : Flags} {pattern : Rema
         → (q : ParseState) × (m : Node) × ClosesGroup S (spec_pattern_context flags names) o (contents_of level) (parse_state here s.opened) q m × CompletesTo S flags names around (push_term m o.outer) q n
     closing n h = (leave S d.one (spec_pattern_context flags names) level {p = parse_state (41 ∷ here) s.opened} {r = parse_state here s.opened} refl names o around n).0 h
 
-    -- a quantifier out of order behind a group
+    -- A pattern with an invalid quantifier behind a group has no tree.
     pub group-repeated : BeginsQuantifier here → ((end : RemainingCodePoints) (x : Quantifier) → ValidQuantifier here end x → ⊥) → HasNoTreeIn S flags pattern
     group-repeated is none = refused s (λ l distinct n h. let k = closing n h in wrong (to_term k.2))
       where
@@ -294,11 +294,11 @@ module _ {S : PatternDialect} (d : IsReadable S) {flags : Flags} {pattern : Rema
         wrong (once h) = h is
         wrong (repeated {there = after} {quantifier = x} h) = none after x h
 
-    -- a quantifier behind a group that may have none
+    -- A pattern with a quantifier behind a group that may have none has no tree.
     pub not-repeated : may_have_quantifier S flags o.opened ≡ false → BeginsQuantifier here → HasNoTreeIn S flags pattern
     not-repeated e is = refused s (λ l distinct n h. let k = closing n h in closes-alone e k.2 is)
 
-  -- ---- A parenthesis that opens
+  -- ---- Opening parentheses
 
   pub stands-group : {references groups : ℕ} {around : List OpenGroup} {level : PartialDisjunction} {here : RemainingCodePoints}
       → IsParserInvariant S flags pattern names references groups around level (40 ∷ here) → begins_with_characters "?" here ≡ false
@@ -349,7 +349,7 @@ module _ {S : PatternDialect} (d : IsReadable S) {flags : Flags} {pattern : Rema
       ↔ CompletesTo S flags names around level (parse_state (codes (lookaround_opener negate backwards) ++ here) s.opened) n) s.count
       (enter_look S d.one (spec_pattern_context flags names) names level around n negate backwards {p = parse_state (codes (lookaround_opener negate backwards) ++ here) s.opened} {q = parse_state here s.opened} refl))
 
-  -- behind `(?` stands none of the signs that may
+  -- A pattern in which none of `:`, `<`, `!` and `=` follows `(?` has no tree.
   pub no-opening : {references groups : ℕ} {around : List OpenGroup} {level : PartialDisjunction} {rest : RemainingCodePoints}
       → IsParserInvariant S flags pattern names references groups around level (40 ∷ 63 ∷ rest)
       → ((x : RemainingCodePoints) → rest ≡ 58 ∷ x → ⊥) → ((x : RemainingCodePoints) → rest ≡ 60 ∷ x → ⊥) → ((x : RemainingCodePoints) → rest ≡ 33 ∷ x → ⊥) → ((x : RemainingCodePoints) → rest ≡ 61 ∷ x → ⊥)
@@ -382,7 +382,7 @@ module _ {S : PatternDialect} (d : IsReadable S) {flags : Flags} {pattern : Rema
       no_term (atom a k) = no_atom a
       no_term (quantified a k) = no_atom a
 
-  -- behind `(?<` stands neither a sign nor a name
+  -- A pattern in which neither `!`, `=` nor the name of a group follows `(?<` has no tree.
   pub no-name : {references groups : ℕ} {around : List OpenGroup} {level : PartialDisjunction} {rest : RemainingCodePoints}
       → IsParserInvariant S flags pattern names references groups around level (40 ∷ 63 ∷ 60 ∷ rest)
       → ((x : RemainingCodePoints) → rest ≡ 33 ∷ x → ⊥) → ((x : RemainingCodePoints) → rest ≡ 61 ∷ x → ⊥) → (AreDistinct names → (there name : RemainingCodePoints) → S.group_name rest there name → ⊥)
@@ -415,7 +415,7 @@ module _ {S : PatternDialect} (d : IsReadable S) {flags : Flags} {pattern : Rema
       no_term none (atom a k) = no_atom none a
       no_term none (quantified a k) = no_atom none a
 
-  -- nor a name whose number is that of this group
+  -- A pattern in which a name behind `(?<` does not have the number of its group has no tree.
   pub wrong-name : {references groups : ℕ} {around : List OpenGroup} {level : PartialDisjunction} {rest : RemainingCodePoints}
       → IsParserInvariant S flags pattern names references groups around level (40 ∷ 63 ∷ 60 ∷ rest)
       → ((x : RemainingCodePoints) → rest ≡ 33 ∷ x → ⊥) → ((x : RemainingCodePoints) → rest ≡ 61 ∷ x → ⊥)
@@ -430,7 +430,7 @@ module _ {S : PatternDialect} (d : IsReadable S) {flags : Flags} {pattern : Rema
           let k = behind s there (s.opened ++ name ∷ []) (past_named S d.passed {p = parse_state (40 ∷ 63 ∷ 60 ∷ rest) s.opened} {q = parse_state rest s.opened} refl is) in
           distinct-number names s.opened k.0 name (k.1 ∙ append_assoc s.opened (name ∷ []) k.0) (d.some_name rest there name is) distinct
 
-  -- ---- The end
+  -- ---- The end of the pattern
 
   pub all-opened : {references groups : ℕ} {around : List OpenGroup} {level : PartialDisjunction} → (s : IsParserInvariant S flags pattern names references groups around level []) → names ≡ s.opened
   unfolding texts_after_parentheses
@@ -443,25 +443,25 @@ module _ {S : PatternDialect} (d : IsReadable S) {flags : Flags} {pattern : Rema
       → ParsesBy S flags pattern (record { root = cat (contents_of level) (cat goal end_of_cat); flags = flags })
   stands-end {references} {groups} {level} s within =
       let many : length names ≡ groups = ap length (all-opened s) ∙ s.count in
-      let complete : Completes S (spec_pattern_context flags names) level (parse_state [] s.opened) (parse_state [] s.opened) (contents_of level) =
-      subst (λ x. Completes S (spec_pattern_context flags names) level (parse_state [] s.opened) (parse_state [] s.opened) (nest_alternatives level.arms (arm level.in_lookbehind x))) (append-nil level.terms) (last_arm no_terms) in
+      let complete : CompletesDisjunction S (spec_pattern_context flags names) level (parse_state [] s.opened) (parse_state [] s.opened) (contents_of level) =
+      subst (λ x. CompletesDisjunction S (spec_pattern_context flags names) level (parse_state [] s.opened) (parse_state [] s.opened) (nest_alternatives level.arms (arm level.in_lookbehind x))) (append-nil level.terms) (last_arm no_terms) in
       let ended : CompletesTo S flags names [] level (parse_state [] s.opened) (contents_of level) =
-      subst (λ x. Completes S (spec_pattern_context flags names) level (parse_state [] s.opened) (parse_state [] x) (contents_of level)) (sym (all-opened s)) complete in
+      subst (λ x. CompletesDisjunction S (spec_pattern_context flags names) level (parse_state [] s.opened) (parse_state [] x) (contents_of level)) (sym (all-opened s)) complete in
       let makes : ParsesTo S flags pattern names (contents_of level) = (s.same (omega (arith, many, within)) (contents_of level)).1 ended in
       begin_all S d.one flags pattern names (contents_of level) makes (numbered-distinct names (subst (λ x. AreOpenedNamesNumbered x names) (sym (all-opened s)) s.numbered))
 
-  -- a parenthesis is open at the end
+  -- A pattern at whose end a parenthesis is open has no tree.
   pub still-open : {references groups : ℕ} {o : OpenGroup} {around : List OpenGroup} {level : PartialDisjunction} → IsParserInvariant S flags pattern names references groups (o ∷ around) level [] → HasNoTreeIn S flags pattern
   still-open {o = o} {around = around} {level = level} s =
       refused s (λ l distinct n h. none_open S d.one (spec_pattern_context flags names) names level {p = parse_state [] s.opened} refl o around n h)
 
-  -- a reference is past all groups
+  -- A pattern with a reference past all groups has no tree.
   pub past-groups : {references groups : ℕ} {around : List OpenGroup} {level : PartialDisjunction} → IsParserInvariant S flags pattern names references groups around level [] → groups < references → HasNoTreeIn S flags pattern
   past-groups {references} {groups} s past =
       let many : length names ≡ groups = ap length (all-opened s) ∙ s.count in
       refused s (λ l distinct n h. omega (arith, l, many, past))
 
-  -- more groups have opened than there are
+  -- A pattern in which more groups have opened than the scan found has no tree.
   pub past-most : {references groups : ℕ} {around : List OpenGroup} {level : PartialDisjunction} {here : RemainingCodePoints} → IsParserInvariant S flags pattern names references groups around level here → length names < groups → HasNoTreeIn S flags pattern
   past-most {groups = groups} s many =
       let l : length names ≡ length s.opened + length s.rest = ap length s.found ∙ length-append s.opened s.rest in

@@ -6,12 +6,12 @@ use Rattle.regex_meaning.specs.ReadingStatesAndDigits as grammar
 use Rattle.regex_parser.specs.ParseStack.{nest_alternatives}
 use Rattle.regex_pattern_front.specs.declared.ir.Node.{Node}
 use Rattle.regex_pattern_front.specs.declared.ir.Node.TheVariants.{Empty}
-use Rattle.regex_pattern_front.specs.AstToSpecTree.{node_of, cat_of}
+use Rattle.regex_pattern_front.specs.AstToSpecTree.{spec_node_of, spec_cat_of_children}
 use Rattle.regex_parser.specs.PartialDisjunctionModel.{nest_all_alternatives}
 
-pub cat_is : (nodes : List Node) → cat_of nodes ≡ grammar.sequence_node (map node_of nodes)
+pub cat_is : (nodes : List Node) → spec_cat_of_children nodes ≡ grammar.sequence_node (map spec_node_of nodes)
 cat_is [] = refl
-cat_is (n ∷ ns) = ap (λ t. tree.cat (node_of n) t) (cat_is ns)
+cat_is (n ∷ ns) = ap (λ t. tree.cat (spec_node_of n) t) (cat_is ns)
 
 pub join-step : (ns : List tree.Node) (left last : tree.Node) → nest_all_alternatives (ns ++ left ∷ last ∷ []) ≡ nest_all_alternatives (ns ++ tree.alt left last ∷ [])
 join-step [] left last = refl
@@ -23,17 +23,17 @@ join-is [] last = refl
 join-is (n ∷ []) last = refl
 join-is (n ∷ m ∷ ns) last = ap (λ t. tree.alt n t) (join-is (m ∷ ns) last)
 
--- an alternative before what is joined
-pub join-popped : (items new : List Node) (left joined : Node) (n : tree.Node) → items ≡ new ++ left ∷ [] → n ≡ tree.alt (node_of left) (node_of joined)
-    → nest_all_alternatives (map node_of new ++ n ∷ []) ≡ nest_all_alternatives (map node_of items ++ node_of joined ∷ [])
+-- Joining the last alternative with the joined node keeps the nested disjunction.
+pub join-popped : (items new : List Node) (left joined : Node) (n : tree.Node) → items ≡ new ++ left ∷ [] → n ≡ tree.alt (spec_node_of left) (spec_node_of joined)
+    → nest_all_alternatives (map spec_node_of new ++ n ∷ []) ≡ nest_all_alternatives (map spec_node_of items ++ spec_node_of joined ∷ [])
 join-popped items new left joined n e f =
-    ap (λ x. nest_all_alternatives (map node_of new ++ x ∷ [])) f ∙ sym (join-step (map node_of new) (node_of left) (node_of joined))
-    ∙ ap nest_all_alternatives (sym (ap (λ x. map node_of x ++ node_of joined ∷ []) e ∙ ap (λ x. x ++ node_of joined ∷ []) (map-append node_of new (left ∷ []))
-    ∙ append_assoc (map node_of new) (node_of left ∷ []) (node_of joined ∷ [])))
+    ap (λ x. nest_all_alternatives (map spec_node_of new ++ x ∷ [])) f ∙ sym (join-step (map spec_node_of new) (spec_node_of left) (spec_node_of joined))
+    ∙ ap nest_all_alternatives (sym (ap (λ x. map spec_node_of x ++ spec_node_of joined ∷ []) e ∙ ap (λ x. x ++ spec_node_of joined ∷ []) (map-append spec_node_of new (left ∷ []))
+    ∙ append_assoc (map spec_node_of new) (spec_node_of left ∷ []) (spec_node_of joined ∷ [])))
 
-pub join-one_more : (items new : List Node) (last : Node) → items ≡ new ++ last ∷ [] → nest_all_alternatives (map node_of new ++ node_of last ∷ []) ≡ nest_all_alternatives (map node_of items)
-join-one_more items new last e = ap nest_all_alternatives (sym (ap (map node_of) e ∙ map-append node_of new (last ∷ [])))
+pub join-one_more : (items new : List Node) (last : Node) → items ≡ new ++ last ∷ [] → nest_all_alternatives (map spec_node_of new ++ spec_node_of last ∷ []) ≡ nest_all_alternatives (map spec_node_of items)
+join-one_more items new last e = ap nest_all_alternatives (sym (ap (map spec_node_of) e ∙ map-append spec_node_of new (last ∷ [])))
 
-pub node_of-Empty : node_of Empty ≡ tree.empty
-unfolding node_of
-node_of-Empty = refl
+pub spec_node_of-Empty : spec_node_of Empty ≡ tree.empty
+unfolding spec_node_of
+spec_node_of-Empty = refl

@@ -20,7 +20,7 @@ pub record StandsBehind (text rest : List ℕ) (count : ℕ) : Type 0 where
 pub behind-none : (text : List ℕ) → IsUtf8 text → StandsBehind text text 0
 behind-none text u = record { before = []; past = []; whole = refl; spelled = refl; counted = refl; utf8 = u }
 
--- what is left behind the first character
+-- The text `t` is what remains of `s` behind its first character `c`.
 record IsBehindFirst (s t : List ℕ) (c : ℕ) : Type 0 where
   spelled : chars s ≡ c ∷ chars t
   utf8 : IsUtf8 t
@@ -61,7 +61,7 @@ behind-rest text [] n at b (inr h) =
     chars-nil ∙ sym (drop_all at (chars text) few)
 behind-rest text (c ∷ rest) n at b (inr h) = absurd (omega (arith, h.0))
 
--- where the rest begins
+-- The rest of a text begins at the difference of the lengths.
 pub rest-begins : (text rest : List ℕ) (n : ℕ) → StandsBehind text rest n → drop (length text - length rest) text ≡ rest
 rest-begins text rest n b =
     let sum : length text ≡ length b.before + length rest = ap length b.whole ∙ length-append b.before rest in
@@ -71,7 +71,7 @@ rest-begins text rest n b =
 pub rest-fits : (text rest : List ℕ) (n : ℕ) → StandsBehind text rest n → length rest ≤ length text
 rest-fits text rest n b = omega (arith, ap length b.whole, length-append b.before rest)
 
--- no character is left where none came
+-- No character is left, and `Same` holds, if no character came.
 pub nothing-behind : (s : List ℕ) (r : Option ℕ) (Same : Type 0) (Q : ℕ → Type 0) → is_some r ≡ false → MatchOption r ((length s ≡ 0) × Same) Q → (length s ≡ 0) × Same
 nothing-behind s None Same Q none steps = steps
 nothing-behind s (Some c) Same Q none steps = absurd (cc)

@@ -37,14 +37,14 @@ letter-case w c t e = rw e refl
 blank-case : (w : List ℕ) (c : ℕ) (t : List ℕ) → nat_eq c 32 ≡ true → words_from w (c ∷ t) ≡ w ∷ words_from [] t
 blank-case w c t e = rw e refl
 
--- one more character of a word
+-- At a character other than a blank, the scan of words adds the character to the current word.
 words-letter : (words : List ℕ) (start end : ℕ) → start ≤ end → end < length words → nat_eq (slice_index words end) 32 ≡ false
     → words_from (slice_range words start end) (drop end words) ≡ words_from (slice_range words start (end + 1)) (drop (end + 1) words)
 words-letter words start end le h e =
     ap (λ x. words_from (slice_range words start end) x) (drop_more words end 0 h) ∙ letter-case (slice_range words start end) (slice_index words end) (drop (end + 1) words) e
     ∙ ap (λ x. words_from x (drop (end + 1) words)) (sym (slice-more words start end le h))
 
--- a word that ends
+-- At a blank, the scan of words ends the current word and begins an empty one.
 words-blank : (words : List ℕ) (start end : ℕ) → end < length words → nat_eq (slice_index words end) 32 ≡ true
     → words_from (slice_range words start end) (drop end words) ≡ slice_range words start end ∷ words_from (slice_range words (end + 1) (end + 1)) (drop (end + 1) words)
 words-blank words start end h e =
@@ -54,7 +54,7 @@ words-blank words start end h e =
 abbrev is_name : List ℕ → List ℕ → Bool
 is_name name word = pointwise nat_eq word name
 
--- what the scan of words keeps
+-- A step of the scan of words keeps whether the list contains the name.
 pub listed-next : (words name : List ℕ) (start end new : ℕ) → start ≤ end → end < length words
     → list_any (is_name name) (words_of words) ≡ list_any (is_name name) (words_from (slice_range words start end) (drop end words))
     → ((slice_index words end ≡ 32) × (pointwise nat_eq (slice_range words start end) name ≡ false) × (new ≡ end + 1)) ⊎ ((slice_index words end ≢ 32) × (new ≡ start))
@@ -86,7 +86,7 @@ listed-end words name start end h i = i ∙ ap (λ x. list_any (is_name name) (w
 
 -- ---- Characters
 
--- bytes are characters
+-- Bytes are scalar values.
 pub bytes-scalar : (xs : List ℕ) → ((i : ℕ) → Fits w8 (get_or xs i 0)) → list_all is_scalar xs ≡ true
 bytes-scalar [] h = refl
 bytes-scalar (x ∷ xs) h = ap₂ ◌&&◌ (byte-scalar x (h 0)) (bytes-scalar xs (λ i. h (suc i)))
@@ -94,7 +94,7 @@ bytes-scalar (x ∷ xs) h = ap₂ ◌&&◌ (byte-scalar x (h 0)) (bytes-scalar x
     byte-scalar : (x : ℕ) → Fits w8 x → is_scalar x ≡ true
     byte-scalar x h = grind (arith, nat_tests)
 
--- so are those of the words in them
+-- A value in a list of words of scalar values has only scalar values.
 pub listed-scalar : (word text value : List ℕ) → list_all is_scalar word ≡ true → list_all is_scalar text ≡ true → list_any (is_name value) (words_from word text) ≡ true → list_all is_scalar value ≡ true
 listed-scalar word [] value h k e = absurd (true≢false (sym e))
 listed-scalar word (c ∷ text) value h k e =
@@ -109,7 +109,7 @@ listed-scalar word (c ∷ text) value h k e =
         (or_cases (pointwise nat_eq word value) (list_any (is_name value) (words_from [] text)) (sym (ap (list_any (is_name value)) (blank-case word c text f)) ∙ e))
     go false f a b = b (sym (ap (list_any (is_name value)) (letter-case word c text f)) ∙ e)
 
--- ---- What is found
+-- ---- Properties that are found
 
 pub listed-none : (words : List (List ℕ)) (property value : List ℕ) → list_any (is_name value) words ≡ false → None ≡ listed_value words property value
 listed-none words property value e = sym (ap (λ b. if b then option_map in_database (by_value property (normalize value)) else None) e)

@@ -10,11 +10,11 @@ use Rattle.regex_meaning.proofs.EscapesAndNamesLemmas.{behind}
 use Rattle.regex_meaning.proofs.EcmaEscapesAndNamesLemmas.{lone-good, property-good, value-good}
 use Rattle.regex_parser.specs.PropertyReaderContracts.{is_name_character, AreNameCharactersRead, IsPropertyNamed}
 
--- a sign that no name has
+-- A character of names differs from a character that no name has.
 sign-apart : {A : Type 0} (c d : ℕ) → is_name_character c ≡ true → is_name_character d ≡ false → c ≡ d → A
 sign-apart c d e f g = absurd (true≢false (sym e ∙ ap is_name_character g ∙ f))
 
--- names of which one is read as far as it goes
+-- A name that is read as far as possible is every name in the same text that another sign ends.
 longest : (n m a b : RemainingCodePoints) (d : ℕ) → list_all is_name_character n ≡ true → ((c : ℕ) (rest : RemainingCodePoints) → a ≡ c ∷ rest → is_name_character c ≡ false)
     → list_all is_name_character m ≡ true → is_name_character d ≡ false → n ++ a ≡ m ++ d ∷ b → (n ≡ m) × (a ≡ d ∷ b)
 longest [] [] a b d g ends h x e = (refl, e)
@@ -24,7 +24,7 @@ longest (z ∷ n) (v ∷ m) a b d g ends h x e =
     let k = longest n m a b d (and_parts (is_name_character z) _ g).1 ends (and_parts (is_name_character v) _ h).1 x (ap rest_of e) in
     (ap₂ (λ s t. s ∷ t) (ap first e) k.0, k.1)
 
--- `property=value` is read
+-- If a name, `=` and a value are read, the property that they name is named here.
 pub named-with_value : {here a b there name value : RemainingCodePoints} (found : Option SpecProperty) → AreNameCharactersRead here name a → a ≡ 61 ∷ b → AreNameCharactersRead b value there
     → found ≡ property_with_value name value → IsPropertyNamed here found there
 named-with_value {here} {a} {b} {there} {name} {value} found n e v f = record { on = on; back = back }
@@ -44,7 +44,7 @@ named-with_value {here} {a} {b} {there} {name} {value} found n e v f = record { 
         let s = longest name m a end 125 n.all n.ends (lone-good m h) refl (sym n.is ∙ behind refl g) in
         absurd (unlike 61 125 refl (ap first (sym e ∙ s.1)))
 
--- a name alone is read
+-- If a name is read that no `=` follows, the property that it names is named here.
 pub named-alone : {here there name : RemainingCodePoints} (found : Option SpecProperty) → AreNameCharactersRead here name there → ((rest : RemainingCodePoints) → there ≡ 61 ∷ rest → ⊥)
     → found ≡ property_named name → IsPropertyNamed here found there
 named-alone {here} {there} {name} found n no_sign f = record { on = on; back = back }
@@ -58,7 +58,7 @@ named-alone {here} {there} {name} found n no_sign f = record { on = on; back = b
     back end p (alone m g h) =
         let s = longest name m there end 125 n.all n.ends (lone-good m h) refl (sym n.is ∙ behind refl g) in (f ∙ ap property_named s.0 ∙ h, s.1)
 
--- another character than a `{` begins no expression
+-- A text that does not begin with `{` begins no property expression.
 pub no-expression : {here : RemainingCodePoints} → ((rest : RemainingCodePoints) → here ≡ 123 ∷ rest → ⊥) → (end : RemainingCodePoints) (p : SpecProperty) → PropertyExpression here end p → ⊥
 no-expression k end p (with_value m w g h) = k _ g
 no-expression k end p (alone m g h) = k _ g

@@ -11,7 +11,7 @@ use Rattle.regex_meaning.specs.UnicodeProperties.{has_property, in_database}
 use Rattle.regex_pattern_front.specs.Intervals.{interval_of}
 use Rattle.regex_pattern_front.specs.declared.codepointset.Interval.{Interval}
 
--- the part of a range up to U+10FFFF
+-- `clamped` cuts a range at U+10FFFF.
 abbrev pub clamped : ℕ × ℕ → Interval
 clamped r = record { first = r.0; last = min r.1 0x10_FFFF }
 
@@ -47,7 +47,7 @@ database-set rs s h c = ⊎_elim past within (cases_lt 0x10_FFFF c)
     within : c ≤ 0x10_FFFF → member rs c ≡ (nat_le c 0x10_FFFF && in_set s c)
     within k = clamped-within rs c k ∙ h c k ∙ sym (ap (λ b. b && in_set s c) (le-leb c 0x10_FFFF k))
 
--- all ranges are clamped
+-- The clamped ranges of a set contain exactly the code points with the property.
 pub database-all : (items all : List (ℕ × ℕ)) (n : ℕ) (s : Set) → length items ≤ n → items ≡ all → HasExactly all (in_set s) → (c : ℕ)
     → in_intervals (map interval_of (map clamped (take n items))) c ≡ has_property (in_database s) c
 database-all items all n s h e exact c = ap (λ x. member x c) (take_all n items h ∙ e) ∙ database-set all s exact c

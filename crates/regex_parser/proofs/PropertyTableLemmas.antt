@@ -20,7 +20,7 @@ use Rattle.regex_parser.specs.declared.unicode_properties.TheConstants.{CATEGORY
 
 -- ---- Rows whose names stay apart in the form in which the database compares them
 
--- a text as a number
+-- `number-from` reads a text as the digits in base 256 that follow the number `n`.
 abbrev number-from : ℕ → List ℕ → ℕ
 number-from n [] = n
 number-from n (c ∷ cs) = number-from (256 * n + c) cs
@@ -46,7 +46,7 @@ not-true false e = refl
 no-value : {V : Type 0} {Q : Type 0} {v : V} → None ≡ Some v → Q
 no-value e = absurd (true≢false (sym (ap is_some e)))
 
--- the text is the name of the row
+-- A value that is the word of a row is the text of the name of the row.
 same-word : {V : Type 0} (row : String × V) (value : List ℕ) → is_word row.0 value ≡ true → codes row.0 ≡ value
 same-word row value e = (bytes_decides (codes row.0) value).0 e
 
@@ -62,7 +62,7 @@ other-number (row ∷ rows) value v n e d = go (is_word row.0 value) refl (λ k.
     go true g k = subst (λ x. nat_eq n (loose-number x) ≡ false) (same-word row value g) (not-true _ parts.0)
     go false g k = k (sym (ap (λ b. if b then Some row.1 else value_named rows value) g) ∙ e)
 
--- the database finds what the rows have
+-- The database finds the values that the rows find, if the numbers of the rows differ.
 loose-finds : {V : Type 0} (rows : List (String × V)) (value : List ℕ) (v : V) → all-differ (numbers rows) ≡ true → value_named rows value ≡ Some v
     → loose.value_named (loosely rows) (normalize value) ≡ Some v
 unfolding loose.value_named
@@ -90,12 +90,12 @@ loose-finds {V} (row ∷ rows) value v d e = go (is_word row.0 value) refl (λ k
         let h : value_named rows value ≡ Some v = sym (ap (λ b. if b then Some row.1 else value_named rows value) g) ∙ e in
         ap choose (apart (bytes_eq (normalize (codes row.0)) (normalize value)) refl h) ∙ k h
 
--- ---- Words beside rows
+-- ---- Lists of words that belong to rows
 
 abbrev is_name : List ℕ → List ℕ → Bool
 is_name name word = pointwise nat_eq word name
 
--- the rows but for those whose names are left out
+-- `kept out rows` gives the rows whose names `out` does not leave out.
 abbrev kept : {V : Type 0} → (out : List ℕ → Bool) → List (String × V) → List (String × V)
 kept out rows = filter (λ row. not (out (codes row.0))) rows
 
@@ -136,7 +136,7 @@ kept-named {V} out (row ∷ rows) value = go (out (codes row.0)) refl (is_word r
     go false f false g k =
         ap left f ∙ ap (λ b. if b then Some row.1 else value_named (kept out rows) value) g ∙ k ∙ sym (ap (λ b. right (out value) b) g)
 
--- a list of words finds what the rows have, but for what is left out
+-- A list of the kept words finds what the rows have, except for what is left out.
 listed-is : {V W : Type 0} (f : V → W) (rows : List (String × V)) (by : List ℕ → Option W) (out : List ℕ → Bool) (words : List (List ℕ)) (value : List ℕ)
     → ((v : V) → value_named rows value ≡ Some v → by (normalize value) ≡ Some (f v)) → words ≡ names-of (kept out rows)
     → (if list_any (is_name value) words then by (normalize value) else None) ≡ (if out value then None else option_map f (value_named rows value))
@@ -161,7 +161,7 @@ listed-is {V} {W} f rows by out words value found e = go (out value) refl (value
 
 -- ---- The three tables
 
--- the names of the database that are no values of General_Category
+-- `is_no_category` accepts the names in the database that are no values of General_Category.
 abbrev is_no_category : List ℕ → Bool
 is_no_category name = is_word "Any" name || is_word "ASCII" name || is_word "Assigned" name
 
@@ -208,7 +208,7 @@ extension-listed name =
     listed-is (λ s. in_database (set.ScriptExtension s)) script_names (λ n. option_map in_database (by_value (codes "scx") n)) (λ w. false) (words_of SCRIPT_NAMES.now) name
     (λ v h. extension-found (normalize name) v (loose-finds script_names name v scripts-differ h)) script-words
 
--- the database has the names of binary properties, among others
+-- `all-found` lists what the database finds for the names of the rows.
 abbrev all-found : List (String × BinaryProperty) → List (Option BinaryProperty)
 all-found [] = []
 all-found (row ∷ rows) = loose.value_named (loosely binary_names) (normalize (codes row.0)) ∷ all-found rows
@@ -253,7 +253,7 @@ binary-listed name =
     listed-is (λ p. in_database (set.Binary p)) binary_property_names (λ n. option_map in_database (by_name n)) (λ w. false) (words_of BINARY_NAMES.now) name
     (λ v h. binary-found (normalize name) v (binary-finds binary_property_names name v binaries-agree h)) binary-words
 
--- ---- In the order of the definitions
+-- ---- Properties in the order of their definitions
 
 if-true : {A : Type 0} (b : Bool) (x y : A) → b ≡ true → (if b then x else y) ≡ x
 if-true true x y e = refl

@@ -13,7 +13,7 @@ use Rattle.regex_parser.proofs.DialectRequirementLemmas.{IsReadable}
 use Rattle.regex_parser.proofs.SyntaxErrorLemmas.{no_term_here, no_quantified, no_repeated}
 use Rattle.regex_parser.proofs.ParserInvariantsLemmas.{refused, stands-term}
 
--- an atom with its quantifier
+-- A simple atom with its quantifier, if it has one, is a term.
 term_of : {S : PatternDialect} {w : PatternContext} {in_lookbehind : Bool} {here mid : RemainingCodePoints} {opened : List RemainingCodePoints} {start : ℕ} {t n : Node} {q : ParseState}
     → S.simple_atom w here mid t → start ≡ length opened → IsTerm start t (parse_state mid opened) q n → Term S w in_lookbehind (parse_state here opened) q n
 term_of a e (once h) = atom (leaf a) h
@@ -33,7 +33,7 @@ module _ {S : PatternDialect} (d : IsReadable S) {flags : Flags} {pattern : Rema
       ⊎_elim (λ k. inl k)
       (λ k. inr (λ n h. no_term_here S d.one (spec_pattern_context flags names) names around level n more (λ q m. k level.in_lookbehind s.opened q m) h)) (none past)
 
-  -- where no term is but for references past all groups
+  -- If no term is here without a reference past all groups, the pattern has no tree.
   vain-refused : (new ≤ length names → (q : ParseState) (m : Node) → Term S (spec_pattern_context flags names) level.in_lookbehind (parse_state here s.opened) q m → ⊥) → HasNoTreeIn S flags pattern
   vain-refused lacks =
       refused d s (λ less distinct n h.

@@ -1,22 +1,19 @@
 -- The quantifier reader reads the quantifiers that the grammar specifies.
-use Rattle.std.proofs.Common.{◌≡◌, ℕ, ◌-◌, ◌^◌, ◌<◌, inl, inr, Bool, true, false, [], ◌∷◌, length, true≢false, refl, sym, ap, ap₂, subst, ◌∙◌, arith}
+use Rattle.std.proofs.Common.{◌≡◌, ℕ, ◌-◌, ◌^◌, inl, inr, Bool, true, false, ◌∷◌, true≢false, refl, sym, ap, ap₂, subst, ◌∙◌}
 use Rattle.std.proofs.Common.{Some, None}
 use Rattle.std.specs.Prelude.{Option, not}
 use Rattle.regex_meaning.specs.Tree.{Quantifier}
 use Rattle.regex_meaning.specs.WellFormedTrees.{is_min_at_most_max}
-use Rattle.regex_meaning.specs.ReadingStatesAndDigits.{RemainingCodePoints, Digits, digits_from, leading_digits}
+use Rattle.regex_meaning.specs.ReadingStatesAndDigits.{RemainingCodePoints, Digits}
 use Rattle.regex_meaning.specs.EscapesNamesQuantifiers.{saturated_count, QuantifierPrefix, star, plus, question, exactly, at_least, between, BeginsQuantifier}
 use Rattle.regex_meaning.specs.EscapesNamesQuantifiers.{ValidQuantifier}
 use Rattle.regex_meaning.specs.EscapesNamesQuantifiers.{greedy, lazy}
 use Rattle.regex_meaning.proofs.DisjunctionReadingLemmas.{unlike}
 use Rattle.regex_meaning.proofs.EscapesAndNamesLemmas.{behind, firsts, digits_on, one_prefix, no_digit}
 use Rattle.regex_parser.specs.CodePointReaderContracts.{IsEaten, IsNumberRead, IsQuantifierMaximumRead}
-use Rattle.regex_parser.proofs.NumberReaderLemmas.{no_sign}
+use Rattle.regex_parser.proofs.NumberReaderLemmas.{no_sign, no-number}
 
-no_digits_here : {here there : RemainingCodePoints} {n : ℕ} → Digits 10 here there n → leading_digits 10 here ≡ [] → ⊥
-no_digits_here (digits_from h) e = let k : 0 < length (leading_digits 10 []) = subst (λ x. 0 < length x) e h in omega arith
-
--- the counts that were read make one of three
+-- A minimum, a maximum and a closing brace behind `{` make a quantifier prefix.
 pub counts-all : {here middle t there : RemainingCodePoints} {least : ℕ} {most : Option ℕ} → IsNumberRead 10 (2 ^ 64 - 1) here (Some least) middle
     → IsQuantifierMaximumRead least middle most t → t ≡ 125 ∷ there → QuantifierPrefix (123 ∷ here) there least most
 counts-all {here} {middle} {t} {there} {least} {most} n (inl m) e =
@@ -29,7 +26,7 @@ counts-all {here} {there = there} {most = Some k} n (inr m) e =
     let q : QuantifierPrefix (123 ∷ here) there (saturated_count n.0) (Some (saturated_count m.2.0)) = between refl n.1 m.1 m.2.1 e in
     rw (n.2, m.2.2) q
 
--- where they do not end with a brace there are none
+-- Counts that no closing brace follows begin no quantifier.
 pub counts-none : {here middle t : RemainingCodePoints} {least : ℕ} {most : Option ℕ} → IsNumberRead 10 (2 ^ 64 - 1) here (Some least) middle
     → IsQuantifierMaximumRead least middle most t → ((rest : RemainingCodePoints) → t ≡ 125 ∷ rest → ⊥) → ¬ (BeginsQuantifier (123 ∷ here))
 counts-none {here} {middle} {t} {least} {most} n m none q = by refl q.3 m
@@ -38,7 +35,7 @@ counts-none {here} {middle} {t} {least} {most} n m none q = by refl q.3 m
     from_comma {rest = rest} d e r = go most r
       where
         go : (most : Option ℕ) → IsNumberRead 10 (2 ^ 64 - 1) rest most t → ⊥
-        go None r = no_digits_here d r.1
+        go None r = no-number d r.1
         go (Some k) r = none _ (sym (digits_on refl d r.1).0 ∙ e)
 
     by : {p there : RemainingCodePoints} {a : ℕ} {b : Option ℕ} → p ≡ 123 ∷ here → QuantifierPrefix p there a b → IsQuantifierMaximumRead least middle most t → ⊥
@@ -58,7 +55,7 @@ counts-none {here} {middle} {t} {least} {most} n m none q = by refl q.3 m
         let same = behind (sym (digits_on (behind e s) d n.1).0 ∙ f) m.1 in
         from_comma (subst (λ y. Digits 10 y x k) same g) i m.2
 
--- counts out of order make no quantifier
+-- A prefix whose minimum is above its maximum makes no valid quantifier.
 pub no_order : {here a end : RemainingCodePoints} {least : ℕ} {most : Option ℕ} {q : Quantifier} → QuantifierPrefix here a least most
     → is_min_at_most_max (record { min = least; max = most; greedy = false }) ≡ false → ValidQuantifier here end q → ⊥
 no_order p e (greedy h f o) = let s = one_prefix p h in true≢false (sym o ∙ sym (ap₂ (λ x y. is_min_at_most_max (record { min = x; max = y; greedy = false })) s.1 s.2) ∙ e)

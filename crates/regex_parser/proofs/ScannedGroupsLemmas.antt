@@ -26,7 +26,7 @@ use Rattle.regex_parser.proofs.GroupScanLemmas.{not-begun}
 no-question : {A : Type 0} {text here : RemainingCodePoints} → begins_with_characters "?" text ≡ false → text ≡ 63 ∷ here → A
 no-question o e = absurd (true≢false (subst (λ x. begins_with_characters "?" x ≡ false) e o))
 
--- two texts differ in their second character
+-- Texts with different second characters are not equal.
 no-second : {A : Type 0} {text here there : RemainingCodePoints} (c d : ℕ) → nat_eq c d ≡ false → text ≡ 63 ∷ c ∷ here → text ≡ 63 ∷ d ∷ there → A
 no-second c d n e f = absurd (unlike c d n (ap second (sym e ∙ f)))
 
@@ -49,7 +49,7 @@ begins-not (c ∷ cs) e = by (nat_eq 33 c) refl
     by true f = (cs, ap (λ x. x ∷ cs) (sym (eqb-true 33 c f)))
     by false f = absurd (true≢false (sym e ∙ rw f refl))
 
--- what a lookaround opens with
+-- A question mark follows the parenthesis that opens a lookaround.
 look-question : (negate backwards : Bool) {text : RemainingCodePoints} (here : RemainingCodePoints) → 40 ∷ text ≡ codes (lookaround_opener negate backwards) ++ here → (rest : RemainingCodePoints) × (text ≡ 63 ∷ rest)
 look-question false false here e = (_, ap rest_of e)
 look-question true false here e = (_, ap rest_of e)
@@ -61,7 +61,7 @@ module _ (S : PatternDialect) (one : IsReadInOneWay S) where
   no-sign-name {there = there} {name = name} {rest = rest} g (inl e) = one.no_sign 61 there name rest refl (subst (λ x. S.group_name x there name) e g)
   no-sign-name {there = there} {name = name} {rest = rest} g (inr e) = one.no_sign 33 there name rest refl (subst (λ x. S.group_name x there name) e g)
 
-  -- a lookaround opens no group with a name
+  -- A lookaround opens no group with a name.
   no-look-name : (negate backwards : Bool) {text there after name : RemainingCodePoints} (here : RemainingCodePoints) → 40 ∷ text ≡ codes (lookaround_opener negate backwards) ++ here → text ≡ 63 ∷ 60 ∷ there → S.group_name there after name → ⊥
   no-look-name false false here e f g = no-second 61 60 refl (ap rest_of e) f
   no-look-name true false here e f g = no-second 33 60 refl (ap rest_of e) f
@@ -84,7 +84,7 @@ module _ (S : PatternDialect) (one : IsReadInOneWay S) where
       by (inr (inl k)) = let h = begins-equals here k in no-sign-name g (inl h.1)
       by (inr (inr k)) = let h = begins-not here k in no-sign-name g (inr h.1)
 
-  -- the groups that open are those that the scan finds
+  -- The groups that open in texts are those that the scan finds in them.
   pub scanned-opened : {texts a b : List RemainingCodePoints} → OpensGroups S texts a → ScansGroups S texts b → a ≡ b
   scanned-opened no_parenthesis scans_nothing = refl
   scanned-opened (opens_plain_group here e g) (scans_group o h) = no-question o e
@@ -167,7 +167,7 @@ module _ (S : PatternDialect) (one : IsReadInOneWay S) {A : Type 0} (of : Remain
         map-append of own names ∙ ap₂ (λ x y. x ++ y) f g ∙ sym (map-append of at (flat_map name_of_opened_group texts))
         ∙ ap (λ x. map of (x ++ flat_map name_of_opened_group texts)) (sym e)
 
-    -- the names are those that the other scan finds, as far as `of` tells them apart
+    -- The names that both scans find are the same as far as `of` tells names apart.
     scanned-as : {texts names : List RemainingCodePoints} → ScansGroups S texts names → map of names ≡ map of (flat_map name_of_opened_group texts)
     scanned-as scans_nothing = refl
     scanned-as (scans_group {text = text} {texts = texts} {names = names} o h) = joined text texts names ([] ∷ []) ([] ∷ []) (unnamed-at text o) refl (scanned-as h)
@@ -179,7 +179,7 @@ module _ (S : PatternDialect) (one : IsReadInOneWay S) {A : Type 0} (of : Remain
         joined text texts names (group_name_at here ∷ []) ([] ∷ []) (ap name_of_opened_group e ∙ named-at here x y) (ap (λ x. x ∷ []) (wrong here none)) (scanned-as h)
     scanned-as (scans_other {text = text} {texts = texts} {names = names} here e w h) = joined text texts names [] [] (ap name_of_opened_group e ∙ other-at here w) refl (scanned-as h)
 
--- as many groups are found
+-- Both scans find the same number of groups.
 pub names-counted : (S : PatternDialect) → IsReadInOneWay S → (pattern : RemainingCodePoints) (names : List RemainingCodePoints) → ScansGroups S (texts_after_parentheses false pattern) names → length names ≡ length (scanned_names_per_capturing_group false pattern)
 names-counted S one pattern names h =
     let at = flat_map name_of_opened_group (texts_after_parentheses false pattern) in
@@ -189,7 +189,7 @@ names-counted S one pattern names h =
     same : RemainingCodePoints → ℕ
     same name = 0
 
--- and in the profile their names are the same
+-- In the profile, both scans find the same names.
 names-in-profile : (pattern : RemainingCodePoints) (names : List RemainingCodePoints) → ScansGroups profile (texts_after_parentheses false pattern) names → names ≡ scanned_names_per_capturing_group false pattern
 names-in-profile pattern names h =
     sym (map-id names)

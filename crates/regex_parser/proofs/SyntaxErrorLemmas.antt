@@ -5,7 +5,7 @@ use Rattle.regex_meaning.specs.ReadingStatesAndDigits.{RemainingCodePoints, Pars
 use Rattle.regex_meaning.specs.EscapesNamesQuantifiers.{BeginsQuantifier, ValidQuantifier}
 use Rattle.regex_meaning.specs.Grammar.{PatternDialect, Term, Assertion, assertion, repeated_assertion, atom, quantified, start, end}
 use Rattle.regex_meaning.specs.Grammar.{boundary, look, leaf, group, named_group, plain_group}
-use Rattle.regex_parser.specs.ParseStack.{PartialDisjunction, OpenGroup, CompletesAll}
+use Rattle.regex_parser.specs.ParseStack.{PartialDisjunction, OpenGroup, CompletesAllDisjunctions}
 use Rattle.regex_meaning.proofs.DisjunctionReadingLemmas.{IsReadInOneWay, leaf_begins, ends_here, one_assertion, assertion_or_atom, first, unlike}
 use Rattle.regex_meaning.proofs.EscapesAndNamesLemmas.{one_quantifier}
 use Rattle.regex_parser.proofs.GroupOpeningAndClosing.{is_done, next_term}
@@ -15,18 +15,18 @@ is_lookaround (lookaround l n) = true
 is_lookaround _ = false
 
 module _ (S : PatternDialect) (one : IsReadInOneWay S) where
-  -- a parenthesis that closes, where none is open
-  pub unopened : (w : PatternContext) (gs : List RemainingCodePoints) (l : PartialDisjunction) (t : Node) {p r : ParseState} → p ≡ ")" ▸ r → CompletesAll S w gs [] l p t → ⊥
+  -- Nothing completes the pattern at a closing parenthesis if none is open.
+  pub unopened : (w : PatternContext) (gs : List RemainingCodePoints) (l : PartialDisjunction) (t : Node) {p r : ParseState} → p ≡ ")" ▸ r → CompletesAllDisjunctions S w gs [] l p t → ⊥
   unopened w gs l t {p} {r} close h =
       let k = is_done S one w l close h in
       let over : 41 ∷ r.text ≡ [] = sym (ap (λ x. x.text) close) ∙ ap (λ x. x.text) k.0 in cc
 
-  -- a place where no term begins
+  -- Nothing completes the pattern at a place where no alternative ends and no term begins.
   pub no_term_here : (w : PatternContext) (gs : List RemainingCodePoints) (around : List OpenGroup) (l : PartialDisjunction) (t : Node) {p : ParseState} → ends_here p.text ≡ false
-      → ((q : ParseState) (n : Node) → Term S w l.in_lookbehind p q n → ⊥) → CompletesAll S w gs around l p t → ⊥
+      → ((q : ParseState) (n : Node) → Term S w l.in_lookbehind p q n → ⊥) → CompletesAllDisjunctions S w gs around l p t → ⊥
   no_term_here w gs around l t more none h = let k = next_term S one w more gs around l t h in none k.0 k.1 k.2
 
-  -- an assertion that begins with no parenthesis is no lookaround
+  -- An assertion that does not begin with a parenthesis is no lookaround.
   no_lookaround : {w : PatternContext} {p q : ParseState} {n : Node} → nat_eq (first p.text) 40 ≡ false → Assertion S w p q n → is_lookaround n ≡ false
   unfolding is_lookaround
   no_lookaround o (start e) = refl
@@ -37,7 +37,7 @@ module _ (S : PatternDialect) (one : IsReadInOneWay S) where
   no_lookaround {p = p} o (look false true e d g) = absurd (unlike (first p.text) 40 o (ap (λ x. first x.text) e))
   no_lookaround {p = p} o (look true true e d g) = absurd (unlike (first p.text) 40 o (ap (λ x. first x.text) e))
 
-  -- a quantifier behind an assertion that is no lookaround
+  -- No term begins with an assertion without a parenthesis that a quantifier follows.
   pub no_repeated : (w : PatternContext) {in_lookbehind : Bool} {p r q : ParseState} {n m : Node} → nat_eq (first p.text) 40 ≡ false → Assertion S w p r n → BeginsQuantifier r.text → Term S w in_lookbehind p q m → ⊥
   unfolding is_lookaround
   no_repeated w o a k (assertion b none) = none (subst (λ x. BeginsQuantifier x.text) (one_assertion S one one_quantifier w a b).0 k)
@@ -45,7 +45,7 @@ module _ (S : PatternDialect) (one : IsReadInOneWay S) where
   no_repeated w o a k (atom b l) = assertion_or_atom S one one_quantifier w a b
   no_repeated w o a k (quantified b l) = assertion_or_atom S one one_quantifier w a b
 
-  -- a quantifier out of order behind an atom without a group
+  -- No term begins with a simple atom that an invalid quantifier follows.
   pub no_quantified : (w : PatternContext) {in_lookbehind : Bool} {p q : ParseState} {there : RemainingCodePoints} {n m : Node} → S.simple_atom w p.text there n → BeginsQuantifier there
       → ((end : RemainingCodePoints) (x : Quantifier) → ValidQuantifier there end x → ⊥) → Term S w in_lookbehind p q m → ⊥
   no_quantified w {p = p} {there = there} {n = n} a k none t = by t

@@ -39,13 +39,13 @@ MatchesSome unicode test d = (c : ℕ) × IsTrue (test c) × IsTrue (match_each_
 -- The new intervals contain the numbers of the old ones. Each number that was added matches one
 -- that passes the test. Each number that matches one that passes the test passes the test itself or
 -- is in the new intervals.
-pub record AddsMatching (unicode : Bool) (test : ℕ → Bool) (old new : List Interval) : Type 0 where
+pub record AddsMatchingCharacters (unicode : Bool) (test : ℕ → Bool) (old new : List Interval) : Type 0 where
   pub sound : (d : ℕ) → IsTrue (is_in_any_interval new d) → IsTrue (is_in_any_interval old d)
       ⊎ MatchesSome unicode test d
   pub kept : (d : ℕ) → IsTrue (is_in_any_interval old d) → IsTrue (is_in_any_interval new d)
   pub complete : (d : ℕ) → MatchesSome unicode test d → IsTrue (test d) ⊎ IsTrue (is_in_any_interval new d)
 
--- `AddsMatching`, except that the last part applies only to the numbers `inside`.
+-- `AddsMatchingCharacters`, except that the last part applies only to the numbers `inside`.
 pub record AddsMatchingWithin (unicode : Bool) (test inside : ℕ → Bool) (old new : List Interval) : Type 0 where
   pub sound : (d : ℕ) → IsTrue (is_in_any_interval new d) → IsTrue (is_in_any_interval old d)
       ⊎ MatchesSome unicode test d

@@ -37,9 +37,9 @@ class_member_of_atom (Character c) = character c
 class_member_of_atom (Escape e) = class_member_of_character_class_escape e
 
 -- The class escape of a letter, if there is one.
-abbrev pub escape_of : Option ℕ → Option ClassMember
-escape_of None = None
-escape_of (Some c) = class_escape c
+abbrev pub class_escape_of_letter : Option ℕ → Option ClassMember
+class_escape_of_letter None = None
+class_escape_of_letter (Some c) = class_escape c
 
 -- Whether the number is in one of these intervals.
 abbrev pub is_in_any_interval : List Interval → ℕ → Bool

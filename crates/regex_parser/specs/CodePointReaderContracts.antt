@@ -40,9 +40,9 @@ IsCodePointReadIfAny here None there = (here ≡ []) × (there ≡ here)
 IsCodePointReadIfAny here (Some c) there = here ≡ c ∷ there
 
 -- The first code point, if it is a `char`.
-abbrev pub peeked : RemainingCodePoints → Option ℕ
-peeked [] = None
-peeked (c ∷ cs) = if is_scalar c then Some c else None
+abbrev pub first_char_if_any : RemainingCodePoints → Option ℕ
+first_char_if_any [] = None
+first_char_if_any (c ∷ cs) = if is_scalar c then Some c else None
 
 -- This code point is read, or the text does not begin with it.
 abbrev pub IsEaten : (c : ℕ) → (here : RemainingCodePoints) → Bool → (there : RemainingCodePoints) → Type 0

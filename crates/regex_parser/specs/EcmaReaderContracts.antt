@@ -22,13 +22,13 @@ IsControlLetterRead here None there =
 -- ---- Names
 
 -- Whether the character may be the first character of a name, or a later one.
-abbrev pub passes_in_name : (is_first : Bool) → ℕ → Bool
-passes_in_name true c = is_identifier_start c
-passes_in_name false c = is_identifier_part c
+abbrev pub is_allowed_as_name_character : (is_first : Bool) → ℕ → Bool
+is_allowed_as_name_character true c = is_identifier_start c
+is_allowed_as_name_character false c = is_identifier_part c
 
 -- A character of a name from `here` to `there`: the first one or a later one.
 abbrev pub NameCharacterAt : (is_first : Bool) → (here there : RemainingCodePoints) → ℕ → Type 0
-NameCharacterAt is_first here there c = NameCharacter (passes_in_name is_first) here there c
+NameCharacterAt is_first here there c = NameCharacter (is_allowed_as_name_character is_first) here there c
 
 -- The text does not begin with a character of a name.
 abbrev pub NoNameCharacter : (is_first : Bool) → (here : RemainingCodePoints) → Type 0
@@ -47,5 +47,5 @@ abbrev pub IsNameCodePointRead : (is_first : Bool) → (here : RemainingCodePoin
     → (there : RemainingCodePoints) → Type 0
 IsNameCodePointRead is_first here None there = NoNameCharacter is_first here
 IsNameCodePointRead is_first here (Some c) there =
-    (passes_in_name is_first c ≡ true → NameCharacterAt is_first here there c)
-    × (passes_in_name is_first c ≡ false → NoNameCharacter is_first here)
+    (is_allowed_as_name_character is_first c ≡ true → NameCharacterAt is_first here there c)
+    × (is_allowed_as_name_character is_first c ≡ false → NoNameCharacter is_first here)

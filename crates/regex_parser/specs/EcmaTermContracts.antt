@@ -15,7 +15,7 @@ use Rattle.regex_parser.specs.declared.parser_error.ParseStopReason.{ParseStopRe
 use Rattle.regex_pattern_front.specs.declared.types.BracketContents.{BracketContents}
 use Rattle.regex_parser.specs.GrouplessTermContracts.{pattern_context, NoTermIn, IsAtomOrIn}
 use Rattle.regex_parser.specs.CodePointReaderContracts.{is_syntax_error}
-use Rattle.regex_pattern_front.specs.AstToSpecTree.{node_of, class_as_spec}
+use Rattle.regex_pattern_front.specs.AstToSpecTree.{spec_node_of, class_as_spec}
 
 -- What the reader knows about the groups of the pattern: how many there are, whether one has a
 -- name, and the number of each name that can be read.
@@ -40,13 +40,13 @@ IsEcmaAtomOr = IsAtomOrIn ecmascript
 -- about an allocation failure.
 abbrev pub IsEcmaTermRead : PatternContext → (here : RemainingCodePoints) → Result GrouplessTerm ParseStopReason
     → (there : RemainingCodePoints) → Type 0
-IsEcmaTermRead w here (Ok l) there = IsEcmaAtomOr l.is_atom w here there (node_of l.node)
+IsEcmaTermRead w here (Ok l) there = IsEcmaAtomOr l.is_atom w here there (spec_node_of l.node)
 IsEcmaTermRead w here (Err e) there = IsTrue (is_syntax_error e) → NoEcmaTerm w here
 
 -- The term of `^`, `$` or `.`, or `None` if the code point is another one.
 abbrev pub IsEcmaAnchorOrDotIfAny : PatternContext → (c : ℕ) → (there : RemainingCodePoints) → Option GrouplessTerm
     → Type 0
-IsEcmaAnchorOrDotIfAny w c there (Some l) = IsEcmaAtomOr l.is_atom w (c ∷ there) there (node_of l.node)
+IsEcmaAnchorOrDotIfAny w c there (Some l) = IsEcmaAtomOr l.is_atom w (c ∷ there) there (spec_node_of l.node)
 IsEcmaAnchorOrDotIfAny w c there None = c ∈ "^$." ≡ false
 
 -- The node of a character, given by its case variants.
@@ -64,7 +64,7 @@ NoAtomEscape w here = (end : RemainingCodePoints) (n : tree.Node) → AtomEscape
 -- failure.
 abbrev pub IsAtomEscapeRead : PatternContext → (here : RemainingCodePoints) → Result GrouplessTerm ParseStopReason
     → (there : RemainingCodePoints) → Type 0
-IsAtomEscapeRead w here (Ok l) there = (l.is_atom ≡ true) × AtomEscape w here there (node_of l.node)
+IsAtomEscapeRead w here (Ok l) there = (l.is_atom ≡ true) × AtomEscape w here there (spec_node_of l.node)
 IsAtomEscapeRead w here (Err e) there = IsTrue (is_syntax_error e) → NoAtomEscape w here
 
 -- A class is read, or no class escape begins here. After a syntax error, no atom begins here.

@@ -17,8 +17,8 @@ captures_opened_by_group_kind Plain = 0
 captures_opened_by_group_kind (Look negate backwards) = 0
 
 -- The nodes of a disjunction that have been read.
-abbrev pub nodes_at : PartialDisjunction → List Node
-nodes_at level = level.arms.items ++ level.terms.items
+abbrev pub nodes_read_in_disjunction : PartialDisjunction → List Node
+nodes_read_in_disjunction level = level.arms.items ++ level.terms.items
 
 -- The open groups from group id `first` on, the outermost first, up to the beginning of the current
 -- disjunction. Each disjunction contains the groups that opened between its own parenthesis and the
@@ -26,11 +26,11 @@ nodes_at level = level.arms.items ++ level.terms.items
 abbrev pub AreOpenGroupsSound : (greatest first : ℕ) → List OpenGroup → (inner : ℕ) → Type 0
 AreOpenGroupsSound greatest first [] inner = first ≡ inner
 AreOpenGroupsSound greatest first (o ∷ os) inner =
-    AreSoundSubtrees first o.start greatest (nodes_at o.outer)
+    AreSoundSubtrees first o.start greatest (nodes_read_in_disjunction o.outer)
     × AreOpenGroupsSound greatest (o.start + captures_opened_by_group_kind o.opening) os inner
 
 -- The open disjunctions together contain all groups that have opened.
 pub record OpenDisjunctionsHaveAllGroups (p : Parser) : Type 0 where
   pub inner : ℕ
   pub around : AreOpenGroupsSound p.leaves.references 0 p.around.items inner
-  pub level : AreSoundSubtrees inner p.groups p.leaves.references (nodes_at p.level)
+  pub level : AreSoundSubtrees inner p.groups p.leaves.references (nodes_read_in_disjunction p.level)

@@ -17,8 +17,9 @@ use Rattle.regex_pattern_front.specs.declared.ir.AnchorType.TheVariants.{StartOf
 use Rattle.regex_parser.specs.declared.groupless_terms.GrouplessTerm.{GrouplessTerm}
 use Rattle.regex_parser.specs.declared.groupless_terms.GrouplessTermReader.{GrouplessTermReader}
 use Rattle.regex_parser.specs.GroupReaderContracts.{MapsNamesToGroupNumbers}
+use Rattle.regex_parser.specs.ParserInvariants.{parse_state}
 use Rattle.regex_parser.specs.CodePointReaderContracts.{is_syntax_error}
-use Rattle.regex_pattern_front.specs.AstToSpecTree.{node_of, spec_flags_of}
+use Rattle.regex_pattern_front.specs.AstToSpecTree.{spec_node_of, spec_flags_of}
 
 -- Both readers are for the same pattern.
 abbrev pub IsReaderOfSame : (new old : GrouplessTermReader) → Type 0
@@ -33,10 +34,6 @@ pattern_context flags groups = record { flags = spec_flags_of flags; groups = gr
 abbrev pub NamesAreNumberedWithinGroupLimit : {R : Type 0} → BTreeMap (String R) ℕ → List RemainingCodePoints → Type 0
 NamesAreNumberedWithinGroupLimit numbers groups = MapsNamesToGroupNumbers numbers groups × (length groups ≤ 65535)
 
--- The state with this text left and these groups opened.
-abbrev pub parse_state_at : RemainingCodePoints → List RemainingCodePoints → ParseState
-parse_state_at here opened = record { text = here; opened = opened }
-
 -- The text does not begin with an atom without groups.
 abbrev pub NoSimpleAtom : PatternContext → (here : RemainingCodePoints) → Type 0
 NoSimpleAtom w here = (end : RemainingCodePoints) (n : tree.Node) → AtomLeaf w here end n → ⊥
@@ -45,7 +42,7 @@ NoSimpleAtom w here = (end : RemainingCodePoints) (n : tree.Node) → AtomLeaf w
 abbrev pub NoTermIn : PatternDialect → PatternContext → (here : RemainingCodePoints) → Type 0
 NoTermIn s w here =
     (in_lookbehind : Bool) (opened : List RemainingCodePoints) (q : ParseState) (n : tree.Node)
-    → Term s w in_lookbehind (parse_state_at here opened) q n → ⊥
+    → Term s w in_lookbehind (parse_state here opened) q n → ⊥
 
 -- The text does not begin with a term.
 abbrev pub NoTerm : PatternContext → (here : RemainingCodePoints) → Type 0
@@ -54,14 +51,14 @@ NoTerm = NoTermIn profile
 -- An assertion without groups, from `here` to `there`.
 abbrev pub IsAssertion : PatternContext → (here there : RemainingCodePoints) → tree.Node → Type 0
 IsAssertion w here there n = (opened : List RemainingCodePoints)
-    → Assertion profile w (parse_state_at here opened) (parse_state_at there opened) n
+    → Assertion profile w (parse_state here opened) (parse_state there opened) n
 
 -- An atom or an assertion of the dialect.
 abbrev pub IsAtomOrIn : PatternDialect → (is_atom : Bool) → PatternContext → (here there : RemainingCodePoints)
     → tree.Node → Type 0
 IsAtomOrIn s true w here there n = s.simple_atom w here there n
 IsAtomOrIn s false w here there n = (opened : List RemainingCodePoints)
-    → Assertion s w (parse_state_at here opened) (parse_state_at there opened) n
+    → Assertion s w (parse_state here opened) (parse_state there opened) n
 
 -- An atom or an assertion.
 abbrev pub IsAtomOr : (is_atom : Bool) → PatternContext → (here there : RemainingCodePoints) → tree.Node → Type 0
@@ -70,7 +67,7 @@ IsAtomOr = IsAtomOrIn profile
 -- A term without groups, from `here` to `there`.
 abbrev pub TextBetweenIsGrouplessTerm : PatternContext → (here : RemainingCodePoints) → GrouplessTerm
     → (there : RemainingCodePoints) → Type 0
-TextBetweenIsGrouplessTerm w here l there = IsAtomOr l.is_atom w here there (node_of l.node)
+TextBetweenIsGrouplessTerm w here l there = IsAtomOr l.is_atom w here there (spec_node_of l.node)
 
 -- The term is read. If a reference that has been read is greater than the number of groups, then an
 -- earlier one was, or `none` holds. `none` also holds after a syntax error. Nothing is stated about
@@ -104,7 +101,8 @@ abbrev pub IsTermReadIn :
     PatternDialect → PatternContext → (here : RemainingCodePoints) → Result GrouplessTerm ParseStopReason
     → (old new : ℕ) → (there : RemainingCodePoints) → Type 0
 IsTermReadIn s w here (Ok l) old new there =
-    TextBetweenOpensNoGroup here there × (new ≤ length w.groups → IsAtomOrIn s l.is_atom w here there (node_of l.node))
+    TextBetweenOpensNoGroup here there × (new ≤ length w.groups
+    → IsAtomOrIn s l.is_atom w here there (spec_node_of l.node))
     × (length w.groups < new → (length w.groups < old) ⊎ NoTermIn s w here)
 IsTermReadIn s w here (Err e) old new there = IsTrue (is_syntax_error e) → NoTermIn s w here
 

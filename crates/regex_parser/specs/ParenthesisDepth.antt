@@ -13,8 +13,8 @@ depth_scan_after_opening_parenthesis r = record r { depth = r.depth + 1; deepest
 
 -- The state after a code point that is not escaped. Parentheses in classes do not count. `[` is 91,
 -- `(` is 40, and `)` is 41.
-abbrev pub after_unescaped : ParenthesisDepthScan → (c : ℕ) → ParenthesisDepthScan
-after_unescaped r c = if c == 91 then record r { in_class = true }
+abbrev pub depth_scan_after_unescaped : ParenthesisDepthScan → (c : ℕ) → ParenthesisDepthScan
+depth_scan_after_unescaped r c = if c == 91 then record r { in_class = true }
     else if c == 40 then depth_scan_after_opening_parenthesis r
     else if c == 41 then record r { depth = r.depth - 1 }
     else r
@@ -26,7 +26,7 @@ depth_scan_after_code_point r c = if r.escaped then record r { escaped = false }
     else if c == 92 then record r { escaped = true }
     else if c == 93 then record r { in_class = false }
     else if r.in_class then r
-    else after_unescaped r c
+    else depth_scan_after_unescaped r c
 
 -- The greatest number of parentheses that are open at once.
 abbrev pub greatest_parenthesis_depth_in : (pattern : List ℕ) → ℕ

@@ -2,7 +2,7 @@
 -- can complete it. These definitions are not part of the grammar.
 use Rattle.std.specs.Prelude.{◌≡◌, ℕ, Bool, List, [], ◌∷◌, ◌++◌, IsTrue}
 use Rattle.regex_meaning.specs.Tree.{Node, Lookaround, Quantifier, alt, loop, lookaround, capture_group}
-use Rattle.regex_meaning.specs.ReadingStatesAndDigits.{RemainingCodePoints, ParseState, PatternContext, groups_at, ◌▸◌, state_with_text_left, arm}
+use Rattle.regex_meaning.specs.ReadingStatesAndDigits.{RemainingCodePoints, ParseState, PatternContext, number_of_opened_groups, ◌▸◌, state_with_text_left, arm}
 use Rattle.regex_meaning.specs.EscapesNamesQuantifiers.{BeginsQuantifier, ValidQuantifier}
 use Rattle.regex_meaning.specs.Grammar.{PatternDialect, Disjunction, Alternative}
 
@@ -31,14 +31,14 @@ nest_alternatives [] last = last
 nest_alternatives (n ∷ ns) last = alt n (nest_alternatives ns last)
 
 -- Reading from p to q completes the partial disjunction, and the result is this node.
-pub data Completes (s : PatternDialect) (w : PatternContext) (l : PartialDisjunction)
+pub data CompletesDisjunction (s : PatternDialect) (w : PatternContext) (l : PartialDisjunction)
     (p : ParseState) : (q : ParseState) → Node → Type 0 where
   last_arm : {q : ParseState} {ns : List Node}
       → Alternative s w l.in_lookbehind p q ns
-      → Completes s w l p q (nest_alternatives l.arms (arm l.in_lookbehind (l.terms ++ ns)))
+      → CompletesDisjunction s w l p q (nest_alternatives l.arms (arm l.in_lookbehind (l.terms ++ ns)))
   further_arms : {q r t : ParseState} {ns : List Node} {right : Node}
       → Alternative s w l.in_lookbehind p q ns → q ≡ "|" ▸ r → Disjunction s w l.in_lookbehind r t right
-      → Completes s w l p t (nest_alternatives l.arms (alt (arm l.in_lookbehind (l.terms ++ ns)) right))
+      → CompletesDisjunction s w l p t (nest_alternatives l.arms (alt (arm l.in_lookbehind (l.terms ++ ns)) right))
 
 -- The kind of an open group. It decides which node is made of the contents.
 pub data OpenGroupKind : Type 0 where
@@ -58,12 +58,12 @@ pub data IsTerm (start : ℕ) (n : Node) (p : ParseState) : (q : ParseState) →
   once : ¬ (BeginsQuantifier p.text) → IsTerm start n p p n
   repeated : {there : RemainingCodePoints} {quantifier : Quantifier}
       → ValidQuantifier p.text there quantifier
-      → IsTerm start n p (state_with_text_left there p) (loop quantifier start (groups_at p) n)
+      → IsTerm start n p (state_with_text_left there p) (loop quantifier start (number_of_opened_groups p) n)
 
 -- The lookaround of an open group that ends at this state.
 abbrev pub lookaround_up_to : (negate backwards : Bool) (start_group : ℕ) → ParseState → Lookaround
 lookaround_up_to negate backwards start p =
-    record { negate = negate; backwards = backwards; start_group = start; end_group = groups_at p }
+    record { negate = negate; backwards = backwards; start_group = start; end_group = number_of_opened_groups p }
 
 -- The term that a group becomes after its `)`, with its quantifier if it has one.
 pub data ClosesGroup (s : PatternDialect) (w : PatternContext) (o : OpenGroup) (contents : Node)
@@ -75,7 +75,8 @@ pub data ClosesGroup (s : PatternDialect) (w : PatternContext) (o : OpenGroup) (
       → o.opened ≡ looks negate backwards start → IsTrue (s.may_repeat w.flags backwards)
       → ValidQuantifier p.text there quantifier
       → ClosesGroup s w o contents p (state_with_text_left there p)
-      (loop quantifier o.start (groups_at p) (lookaround (lookaround_up_to negate backwards start p) contents))
+      (loop quantifier o.start (number_of_opened_groups p)
+      (lookaround (lookaround_up_to negate backwards start p) contents))
   captured : {id : ℕ} {name : RemainingCodePoints} {q : ParseState} {n : Node}
       → o.opened ≡ captures id name → IsTerm o.start (capture_group id name contents) p q n
       → ClosesGroup s w o contents p q n
@@ -85,10 +86,11 @@ pub data ClosesGroup (s : PatternDialect) (w : PatternContext) (o : OpenGroup) (
 
 -- Reading the rest of the pattern completes all disjunctions, the innermost first. At the end,
 -- exactly these groups have opened.
-abbrev pub CompletesAll : PatternDialect → PatternContext → (groups : List RemainingCodePoints) → List OpenGroup
+abbrev pub CompletesAllDisjunctions : PatternDialect → PatternContext → (groups : List RemainingCodePoints)
+    → List OpenGroup
     → PartialDisjunction → ParseState → Node → Type 0
-CompletesAll s w groups [] l p t = Completes s w l p (record { text = []; opened = groups }) t
-CompletesAll s w groups (o ∷ around) l p t =
-    (q r end : ParseState) × (contents n : Node) × Completes s w l p q contents × (q ≡ ")" ▸ r)
+CompletesAllDisjunctions s w groups [] l p t = CompletesDisjunction s w l p (record { text = []; opened = groups }) t
+CompletesAllDisjunctions s w groups (o ∷ around) l p t =
+    (q r end : ParseState) × (contents n : Node) × CompletesDisjunction s w l p q contents × (q ≡ ")" ▸ r)
     × ClosesGroup s w o contents r end n
-    × CompletesAll s w groups around (push_term n o.outer) end t
+    × CompletesAllDisjunctions s w groups around (push_term n o.outer) end t

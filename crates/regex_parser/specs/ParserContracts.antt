@@ -18,7 +18,7 @@ use Rattle.regex_parser.specs.declared.parse.Refusal.{Refusal}
 use Rattle.regex_parser.specs.declared.parse.Refusal.TheVariants.{Syntax, TooManyGroups, Memory}
 use Rattle.regex_parser.specs.PartialDisjunctionModel.{disjunction_of}
 use Rattle.regex_parser.specs.CodePointReaderContracts.{is_syntax_error}
-use Rattle.regex_pattern_front.specs.AstToSpecTree.{node_of, group_name_bytes, spec_flags_of}
+use Rattle.regex_pattern_front.specs.AstToSpecTree.{spec_node_of, group_name_bytes, spec_flags_of}
 
 -- ---- Open groups
 
@@ -39,9 +39,9 @@ open_group_of o = record {
 }
 
 -- The open groups in the order of the definitions, which have the innermost first.
-abbrev pub around_from : List grammar.OpenGroup → List OpenGroup → List grammar.OpenGroup
-around_from inner [] = inner
-around_from inner (o ∷ os) = around_from (open_group_of o ∷ inner) os
+abbrev pub grammar_open_groups_from : List grammar.OpenGroup → List OpenGroup → List grammar.OpenGroup
+grammar_open_groups_from inner [] = inner
+grammar_open_groups_from inner (o ∷ os) = grammar_open_groups_from (open_group_of o ∷ inner) os
 
 -- The node of a group with these contents.
 abbrev pub group_node_around : GroupKind → (name : RemainingCodePoints) → (start end : ℕ) → tree.Node → tree.Node
@@ -61,8 +61,8 @@ abbrev pub IsTermWithOptionalQuantifierRead :
     → (there : RemainingCodePoints) → Type 0
 IsTermWithOptionalQuantifierRead true here start end term (Ok n) there =
     (opened : List RemainingCodePoints) → length opened ≡ end
-    → grammar.IsTerm start term (parse_state here opened) (parse_state there opened) (node_of n)
-IsTermWithOptionalQuantifierRead false here start end term (Ok n) there = (there ≡ here) × (node_of n ≡ term)
+    → grammar.IsTerm start term (parse_state here opened) (parse_state there opened) (spec_node_of n)
+IsTermWithOptionalQuantifierRead false here start end term (Ok n) there = (there ≡ here) × (spec_node_of n ≡ term)
     × ¬ (BeginsQuantifier here)
 IsTermWithOptionalQuantifierRead true here start end term (Err e) there =
     IsTrue (is_syntax_error e) → BeginsQuantifier here
@@ -102,7 +102,7 @@ pub record HasReadPatternUpTo (pattern : RemainingCodePoints) (names : List Rema
   pub known : KnowsGroups p.leaves names
   pub few : p.groups ≤ 65535
   pub stands :
-      let around = around_from [] p.around.items in
+      let around = grammar_open_groups_from [] p.around.items in
       let s = spec_syntax_of p.leaves.syntax in
       IsParserInvariant s (spec_flags_of p.leaves.flags) pattern names p.leaves.references p.groups around
       (disjunction_of p.level) here
@@ -152,4 +152,4 @@ IsTextRefused = IsTextRefusedIn profile
 
 -- The tree with this root and these flags.
 abbrev pub tree_of_root_and_flags : tree.Flags → Node → tree.Tree
-tree_of_root_and_flags flags n = record { root = node_of n; flags = flags }
+tree_of_root_and_flags flags n = record { root = spec_node_of n; flags = flags }

@@ -5,7 +5,7 @@ use Rattle.regex_meaning.specs.ReadingStatesAndDigits.{RemainingCodePoints, Pars
 use Rattle.regex_meaning.specs.Grammar.{PatternDialect, ParsesBy, profile}
 use Rattle.regex_meaning.specs.GroupNameScan.{scanned_names_per_capturing_group}
 use Rattle.regex_meaning.specs.GroupOpeningScanWithoutParsing.{texts_after_parentheses}
-use Rattle.regex_parser.specs.ParseStack.{PartialDisjunction, empty_disjunction, OpenGroup, CompletesAll}
+use Rattle.regex_parser.specs.ParseStack.{PartialDisjunction, empty_disjunction, OpenGroup, CompletesAllDisjunctions}
 use Rattle.regex_parser.specs.ScannedGroups.{ScansGroups}
 
 -- The pattern has no tree in this dialect.
@@ -45,7 +45,7 @@ FindsGroups s here names = ScansGroups s (texts_after_parentheses false here) na
 abbrev pub CompletesTo : PatternDialect → Flags → (names : List RemainingCodePoints) → List OpenGroup
     → PartialDisjunction → ParseState → Node → Type 0
 CompletesTo s flags names around level here n =
-    CompletesAll s (spec_pattern_context flags names) names around level here n
+    CompletesAllDisjunctions s (spec_pattern_context flags names) names around level here n
 
 -- The whole pattern has this node.
 abbrev pub ParsesTo : PatternDialect → Flags → (pattern : RemainingCodePoints) → (names : List RemainingCodePoints)

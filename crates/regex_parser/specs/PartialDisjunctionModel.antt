@@ -3,12 +3,17 @@ use Rattle.std.specs.Prelude.{List, [], ◌∷◌, map}
 use Rattle.regex_meaning.specs.Tree as tree
 use Rattle.regex_parser.specs.ParseStack as grammar
 use Rattle.regex_parser.specs.declared.open_groups.PartialDisjunction.{PartialDisjunction}
-use Rattle.regex_pattern_front.specs.AstToSpecTree.{node_of}
+use Rattle.regex_pattern_front.specs.AstToSpecTree.{spec_node_of}
 
 -- The partial disjunction, as the definitions have it.
 abbrev pub disjunction_of : PartialDisjunction → grammar.PartialDisjunction
 disjunction_of l =
-    record { arms = map node_of l.arms.items; terms = map node_of l.terms.items; in_lookbehind = l.in_lookbehind }
+    record {
+      arms =
+          map spec_node_of l.arms.items;
+      terms = map spec_node_of l.terms.items;
+      in_lookbehind = l.in_lookbehind;
+    }
 
 -- Alternatives nested to the right. An empty list is the empty pattern.
 abbrev pub nest_all_alternatives : List tree.Node → tree.Node

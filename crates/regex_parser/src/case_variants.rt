@@ -6,7 +6,7 @@ ghost use Rattle.std.specs.List.Sorted.{IsNonDecreasingBy};
 ghost use Rattle.ucd_case.specs.CaseFolding.{fold_pairs};
 ghost use Rattle.regex_meaning.specs.Canonical.{AreCaseVariants};
 ghost use Rattle.regex_meaning.specs.Outcomes.{in_intervals};
-ghost use Rattle.regex_parser.specs.CaseVariantContracts.{AreOtherVariants, AddsMatching, AddsMatchingWithin, matching_seconds, firsts_that_match, is_between, is_on_side};
+ghost use Rattle.regex_parser.specs.CaseVariantContracts.{AreOtherVariants, AddsMatchingCharacters, AddsMatchingWithin, matching_seconds, firsts_that_match, is_between, is_on_side};
 
 use crate::character_class_parser::add_each;
 use regex_pattern_front::canonical::are_alike;
@@ -121,7 +121,7 @@ pub(crate) fn add_canonical_variants(
     set: &CodePointSet,
     unicode: bool,
 ) -> Result<(), AllocError>
-    ensures { OnOk result (AddsMatching unicode (in_intervals set.now) intervals.old.items intervals.new.items) }
+    ensures { OnOk result (AddsMatchingCharacters unicode (in_intervals set.now) intervals.old.items intervals.new.items) }
 {
     if begins_most_pairs(set) {
         add_nonmembers_that_match(intervals, set, unicode)
@@ -146,7 +146,7 @@ fn add_nonmembers_that_match(
     set: &CodePointSet,
     unicode: bool,
 ) -> Result<(), AllocError>
-    ensures { OnOk result (AddsMatching unicode (in_intervals set.now) intervals.old.items intervals.new.items) }
+    ensures { OnOk result (AddsMatchingCharacters unicode (in_intervals set.now) intervals.old.items intervals.new.items) }
 {
     let outside = set.inverted()?;
     for gap in outside.intervals() {
@@ -195,7 +195,7 @@ fn add_variants_of_members(
     set: &CodePointSet,
     unicode: bool,
 ) -> Result<(), AllocError>
-    ensures { OnOk result (AddsMatching unicode (in_intervals set.now) intervals.old.items intervals.new.items) }
+    ensures { OnOk result (AddsMatchingCharacters unicode (in_intervals set.now) intervals.old.items intervals.new.items) }
 {
     for interval in set.intervals() {
         add_variants_of_interval(intervals, *interval, unicode)?;
@@ -209,7 +209,7 @@ fn add_variants_of_interval(
     interval: Interval,
     unicode: bool,
 ) -> Result<(), AllocError>
-    ensures { OnOk result (AddsMatching unicode (is_between interval.first interval.last) intervals.old.items
+    ensures { OnOk result (AddsMatchingCharacters unicode (is_between interval.first interval.last) intervals.old.items
         intervals.new.items) }
 {
     let pairs = fold_pairs_between(interval.first, interval.last);

@@ -8,7 +8,7 @@ ghost use Rattle.regex_pattern_front.specs.Intervals.{interval_of};
 ghost use Rattle.regex_pattern_front.specs.AstToSpecTree.{class_as_spec, spec_flags_of};
 ghost use Rattle.regex_parser.specs.CodePointReaderContracts.{IsReadAndErrorMeansUnreadable, IsReadOrSyntaxError, class_end};
 ghost use Rattle.regex_parser.specs.ClassReaderContracts.{uninverted_digit_word_or_space_set, class_member_of_character_class_escape, class_member_of_atom};
-ghost use Rattle.regex_parser.specs.ClassReaderContracts.{escape_of};
+ghost use Rattle.regex_parser.specs.ClassReaderContracts.{class_escape_of_letter};
 ghost use Rattle.regex_parser.specs.ClassReaderContracts.{is_in_any_interval, IsCaseClosureOfTest, AddsMembers, IsRangeEndRead};
 ghost use Rattle.regex_parser.specs.ClassReaderContracts.{IsClassMemberRead, AreClassRangesRead, FailsExactlyOnSetOperation, AreRangeEndsIfBothCharacters};
 ghost use Rattle.regex_parser.specs.ClassReaderContracts.{begins_nested_class_or_operation, some_case_variant_passes, letter_case_variants_if_any_passes};
@@ -109,7 +109,7 @@ pub(crate) enum CharacterClassType {
 impl DigitWordOrSpaceEscape {
     /// Returns the class escape of this letter, or `None` if the letter has none.
     pub(crate) fn of(letter: Option<char>) -> Option<DigitWordOrSpaceEscape>
-        ensures { option_map class_member_of_character_class_escape result ≡ escape_of letter }
+        ensures { option_map class_member_of_character_class_escape result ≡ class_escape_of_letter letter }
     {
         let (base, invert) = match letter? {
             'd' => (CharacterClassType::Digits, false),
@@ -124,6 +124,8 @@ impl DigitWordOrSpaceEscape {
     }
 
     /// Returns the class of the escape.
+    ///
+    /// The set is that of the lowercase escape, and `invert` says whether the class is inverted.
     pub(crate) fn bracket_contents_of_escape(
         self,
         alloc: Global,
@@ -135,7 +137,7 @@ impl DigitWordOrSpaceEscape {
     {
         Ok(BracketContents {
             invert: self.invert,
-            cps: case_closed(self.base.intervals(alloc)?, flags)?,
+            cps: into_case_closed_set(self.base.intervals(alloc)?, flags)?,
         })
     }
 
@@ -222,7 +224,7 @@ fn ranges(
     let mut intervals = Vec::new(alloc);
     while let Some(c) = reader.next() {
         if c == ']' as u32 {
-            return Ok(case_closed(intervals, flags)?);
+            return Ok(into_case_closed_set(intervals, flags)?);
         }
         read_member(&mut intervals, reader, c, flags)?;
     }
@@ -354,6 +356,7 @@ fn read_atom(
     Ok(ClassAtomValue::Character(character_escape(reader, flags.unicode)?))
 }
 
+// Adds the members of an atom.
 fn add_class_atom(
     intervals: &mut Vec<Interval>,
     atom: ClassAtomValue,
@@ -371,7 +374,10 @@ fn add_class_atom(
 
 // Returns the set of these intervals. With `icase` it also contains all code points that fold as a
 // member does.
-fn case_closed(mut intervals: Vec<Interval>, flags: Flags) -> Result<CodePointSet, AllocError>
+fn into_case_closed_set(
+    mut intervals: Vec<Interval>,
+    flags: Flags,
+) -> Result<CodePointSet, AllocError>
     ensures { IfOk result (λ s. IsCaseClosureOfTest (spec_flags_of flags) (is_in_any_interval intervals.items) s) }
 {
     let alloc = *intervals.allocator();
@@ -395,13 +401,13 @@ fn add_case_variants(
         (in_intervals set.now) c) }
 {
     for upper in 'A' as u32..'Z' as u32 + 1 {
-        close_over(intervals, set, upper, unicode)?;
+        add_letter_fold_variants(intervals, set, upper, unicode)?;
     }
     Ok(())
 }
 
 // Adds all code points with the fold of this letter, if one of them is in the set.
-fn close_over(
+fn add_letter_fold_variants(
     intervals: &mut Vec<Interval>,
     set: &CodePointSet,
     upper: u32,
@@ -418,6 +424,7 @@ fn close_over(
     add_each(intervals, &letters)
 }
 
+// Checks whether any of these code points is in the set.
 fn has_any(set: &CodePointSet, members: &[u32]) -> bool
     ensures { result ≡ list_any (in_intervals set.now) members.now }
 {

@@ -4,7 +4,7 @@ ghost use Rattle.std.specs.Prelude.{◌≡◌, ◌<◌, ◌≤◌, ◌∷◌, �
 ghost use Rattle.std.specs.Option.{ForSome};
 ghost use Rattle.regex_meaning.specs.WellFormedTrees.{is_min_at_most_max};
 ghost use Rattle.regex_meaning.specs.EscapesNamesQuantifiers.{BeginsQuantifier};
-ghost use Rattle.regex_parser.specs.CodePointReaderContracts.{IsUnescapedRead, IsCodePointReadIfAny, peeked, IsEaten, IsDigitRead, IsNumberRead, IsHexRead, open_brace};
+ghost use Rattle.regex_parser.specs.CodePointReaderContracts.{IsUnescapedRead, IsCodePointReadIfAny, first_char_if_any, IsEaten, IsDigitRead, IsNumberRead, IsHexRead, open_brace};
 ghost use Rattle.regex_parser.specs.CodePointReaderContracts.{AreQuantifierCountsRead};
 ghost use Rattle.regex_parser.specs.CodePointReaderContracts.{IsQuantifierMaximumRead, IsOptionalBracesQuantifierRead};
 ghost use Rattle.regex_parser.specs.CodePointReaderContracts.{IsOptionalQuantifierPrefixRead};
@@ -28,6 +28,8 @@ impl PatternReader<'_> {
     }
 
     /// Returns the error for what begins here.
+    ///
+    /// It is a syntax error, not an allocation failure.
     pub(crate) fn error_here(&self, cause: Cause) -> ParseStopReason
         ensures { IsTrue (is_syntax_error result) }
     {
@@ -51,7 +53,7 @@ impl PatternReader<'_> {
     /// nothing is left.
     pub(crate) fn peek(&self) -> Option<char>
         ensures more { IsSome result → 0 < length self.now.rest.now }
-        ensures text { result ≡ peeked self.now.rest.now }
+        ensures text { result ≡ first_char_if_any self.now.rest.now }
     {
         char::from_u32(*self.rest.first()?)
     }

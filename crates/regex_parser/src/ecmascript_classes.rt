@@ -99,7 +99,7 @@ impl ClassReader {
         *reader = ahead;
         match range_or_cause(first, second, self.flags.unicode) {
             Ok(Some(range)) => Ok(intervals.push(range)?),
-            Ok(None) => Ok(add_apart(intervals, first, second, self.flags)?),
+            Ok(None) => Ok(add_atoms_and_dash(intervals, first, second, self.flags)?),
             Err(cause) => Err(start.error_at_last_read(cause)),
         }
     }
@@ -185,6 +185,7 @@ pub(crate) fn is_control_without_unicode(reader: &PatternReader, unicode: bool) 
 
 // Reads `b`, `-` (with `unicode`), or `c` and a `ClassControlLetter` (without `unicode`), and
 // returns the character that it denotes.
+// If none of them is next, returns `None` and reads nothing.
 fn read_simple_escape(reader: &mut PatternReader, flags: Flags) -> Option<u32>
     ensures moves { length reader.new.rest.now ≤ length reader.old.rest.now }
     ensures text { IsSimpleClassEscapeRead (spec_flags_of flags) reader.old.rest.now result reader.new.rest.now }
@@ -244,10 +245,10 @@ fn range_or_cause(
     ensures { IsRangeOrCause first second unicode result }
 {
     let AtomValue::Character(first) = first else {
-        return none_unless(unicode);
+        return no_range_or_unicode_error(unicode);
     };
     let AtomValue::Character(last) = second else {
-        return none_unless(unicode);
+        return no_range_or_unicode_error(unicode);
     };
     if first <= last {
         Ok(Some(Interval { first, last }))
@@ -256,7 +257,8 @@ fn range_or_cause(
     }
 }
 
-fn none_unless(unicode: bool) -> Result<Option<Interval>, Cause>
+// Returns no range or, with `unicode`, the error of a range that a class escape begins or ends.
+fn no_range_or_unicode_error(unicode: bool) -> Result<Option<Interval>, Cause>
     ensures { IsNoRangeOrUnicodeError unicode result }
 {
     if unicode {
@@ -267,7 +269,7 @@ fn none_unless(unicode: bool) -> Result<Option<Interval>, Cause>
 }
 
 // Adds two atoms and the `-` between them.
-fn add_apart(
+fn add_atoms_and_dash(
     intervals: &mut Vec<Interval>,
     first: AtomValue,
     second: AtomValue,
@@ -281,6 +283,7 @@ fn add_apart(
     add_atom(intervals, second, flags)
 }
 
+// Adds the members of an atom.
 fn add_atom(intervals: &mut Vec<Interval>, atom: AtomValue, flags: Flags) -> Result<(), AllocError>
     ensures { let f = spec_flags_of flags in
         OnOk result (AddsEcmaMembers intervals.old.items intervals.new.items (member_of_atom f atom ∷ [])) }
@@ -301,7 +304,7 @@ fn add_atom(intervals: &mut Vec<Interval>, atom: AtomValue, flags: Flags) -> Res
 
 /// Returns the class of an escape of one letter. Its set is closed: each character that matches a
 /// digit, a space or a word character is one itself.
-pub(crate) fn letter_contents(
+pub(crate) fn class_of_letter_escape(
     alloc: Global,
     escape: DigitWordOrSpaceEscape,
     flags: Flags,
@@ -328,7 +331,7 @@ fn letter_set(
     ensures { IfOk result (λ s. (c : ℕ) → in_intervals s c
         ≡ is_in_invertible_set (set_of_letter (spec_flags_of flags) escape.base, escape.invert) c) }
 {
-    let contents = letter_contents(alloc, escape, flags)?;
+    let contents = class_of_letter_escape(alloc, escape, flags)?;
     if contents.invert {
         contents.cps.inverted()
     } else {

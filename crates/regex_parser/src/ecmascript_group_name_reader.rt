@@ -4,7 +4,7 @@ ghost use Rattle.std.specs.Prelude.{◌≡◌, ◌<◌, ◌≤◌, ◌∷◌, le
 ghost use Rattle.regex_meaning.specs.EcmaEscapesAndNames.{GroupName};
 ghost use Rattle.regex_meaning.specs.EscapesNamesQuantifiers.{is_high_surrogate};
 ghost use Rattle.regex_parser.specs.CodePointReaderContracts.{IsReadOrSyntaxError, is_syntax_error, backslash};
-ghost use Rattle.regex_parser.specs.EcmaReaderContracts.{passes_in_name, IsNameCharacterRead, IsNameCodePointRead};
+ghost use Rattle.regex_parser.specs.EcmaReaderContracts.{is_allowed_as_name_character, IsNameCharacterRead, IsNameCodePointRead};
 
 use crate::code_point_reader::PatternReader;
 use crate::diagnosis::Cause;
@@ -108,7 +108,7 @@ fn read_surrogate_pair(reader: &mut PatternReader, lead: u32) -> Option<u32>
 
 // Checks whether the character may be the first character of a name, or a later one.
 fn is_allowed_in_name(c: char, is_first: bool) -> bool
-    ensures { result ≡ passes_in_name is_first c }
+    ensures { result ≡ is_allowed_as_name_character is_first c }
 {
     if is_first {
         is_id_start(c) || c == '_' || c == '$'

@@ -5,7 +5,7 @@ ghost use Rattle.std.specs.BTreeMap.{get_by_text};
 ghost use Rattle.regex_meaning.specs.Tree.{back_ref, by_canonical_case};
 ghost use Rattle.regex_meaning.specs.{ReadingStatesAndDigits.{RemainingCodePoints}, EcmaClasses.{IsSetOf, class as class_of, is_in_invertible_set}};
 ghost use Rattle.regex_meaning.specs.UnicodeProperties.{has_property};
-ghost use Rattle.regex_pattern_front.specs.AstToSpecTree.{node_of, spec_flags_of};
+ghost use Rattle.regex_pattern_front.specs.AstToSpecTree.{spec_node_of, spec_flags_of};
 ghost use Rattle.regex_pattern_front.specs.SubtreeListInvariants.{IsWellFormedGrouplessSubtree};
 ghost use Rattle.regex_parser.specs.CodePointReaderContracts.{is_syntax_error, backslash};
 ghost use Rattle.regex_parser.specs.PropertyReaderContracts.{spec_property_of};
@@ -18,7 +18,7 @@ use crate::character_class_parser::DigitWordOrSpaceEscape;
 use crate::code_point_reader::PatternReader;
 use crate::diagnosis::Cause;
 use crate::ecmascript_classes::{
-    ClassReader, canonical_closure, is_control_without_unicode, letter_contents,
+    ClassReader, canonical_closure, class_of_letter_escape, is_control_without_unicode,
     read_property_letter,
 };
 use crate::ecmascript_escapes::{GrammarParameters, read_character_escape};
@@ -47,13 +47,19 @@ pub(crate) struct PatternGroups {
 impl GrouplessTermReader<'_> {
     /// Reads the term of the whole language that begins with this code point, which is not a
     /// parenthesis.
+    ///
+    /// The clause `text` says which term is read if `groups` and the reader's numbers are those of
+    /// the pattern's groups. The clauses `leaf`, `references` and `bounded` say that the node is
+    /// well formed without groups, and bound the greatest reference. The clauses `moves` and `same`
+    /// say that the rest of the text does not grow, and that the reader is still one of the same
+    /// pattern.
     pub(crate) fn read_ecmascript_term(
         &mut self,
         c: u32,
         groups: PatternGroups,
     ) -> Result<GrouplessTerm, ParseStopReason>
         ensures moves { length self.new.reader.rest.now ≤ length self.old.reader.rest.now }
-        ensures leaf { IfOk result (λ l. IsWellFormedGrouplessSubtree self.new.references (node_of l.node)) }
+        ensures leaf { IfOk result (λ l. IsWellFormedGrouplessSubtree self.new.references (spec_node_of l.node)) }
         ensures references { self.old.references ≤ self.new.references }
         ensures same { IsReaderOfSame self.new self.old }
         ensures bounded { (names : List RemainingCodePoints)
@@ -78,7 +84,7 @@ impl GrouplessTermReader<'_> {
         if let Some(leaf) = self.sign(c) {
             return Ok(leaf);
         }
-        if let Some(cause) = self.wrong_alone(c) {
+        if let Some(cause) = self.cause_if_wrong_alone(c) {
             return Err(self.reader.error_at_last_read(cause));
         }
         if is_brace_or_closing_bracket(c) {
@@ -89,12 +95,13 @@ impl GrouplessTermReader<'_> {
 
     // Reads a term after its backslash. Without `unicode`, a backslash before a `c` that begins no
     // escape denotes itself (B.1.4).
+    // The contract is that of `read_ecmascript_term` for a term that begins with a backslash.
     fn read_ecmascript_escape(
         &mut self,
         groups: PatternGroups,
     ) -> Result<GrouplessTerm, ParseStopReason>
         ensures moves { length self.new.reader.rest.now ≤ length self.old.reader.rest.now }
-        ensures leaf { IfOk result (λ l. IsWellFormedGrouplessSubtree self.new.references (node_of l.node)) }
+        ensures leaf { IfOk result (λ l. IsWellFormedGrouplessSubtree self.new.references (spec_node_of l.node)) }
         ensures references { self.old.references ≤ self.new.references }
         ensures same { IsReaderOfSame self.new self.old }
         ensures bounded { (names : List RemainingCodePoints)
@@ -126,12 +133,14 @@ impl GrouplessTermReader<'_> {
     }
 
     // Reads an atom after its backslash (ECMA-262, `AtomEscape` of B.1.4).
+    // The contract is that of `read_ecmascript_term`, except that `text` is about the escape after
+    // the backslash.
     fn read_ecmascript_atom_escape(
         &mut self,
         groups: PatternGroups,
     ) -> Result<GrouplessTerm, ParseStopReason>
         ensures moves { length self.new.reader.rest.now ≤ length self.old.reader.rest.now }
-        ensures leaf { IfOk result (λ l. IsWellFormedGrouplessSubtree self.new.references (node_of l.node)) }
+        ensures leaf { IfOk result (λ l. IsWellFormedGrouplessSubtree self.new.references (spec_node_of l.node)) }
         ensures references { self.old.references ≤ self.new.references }
         ensures same { IsReaderOfSame self.new self.old }
         ensures bounded { (names : List RemainingCodePoints)
@@ -163,14 +172,17 @@ impl GrouplessTermReader<'_> {
 
     // Returns a reference to a group. `left` code points are left from the reference on. The
     // reference differs from one of the profile only if case is ignored.
+    // Contract: `node`, `atom` and `leaf` say that the term is a well-formed backreference to
+    // `group`, and an atom. `references` says that the greatest reference becomes `group` if that
+    // is greater. `moves` and `same` say that the reader stays where it is.
     fn ecmascript_reference(&mut self, group: u32, left: usize) -> GrouplessTerm
         requires { 0 < group }
-        ensures leaf { IsWellFormedGrouplessSubtree self.new.references (node_of result.node) }
+        ensures leaf { IsWellFormedGrouplessSubtree self.new.references (spec_node_of result.node) }
         ensures moves { self.new.reader ≡ self.old.reader }
         ensures references { self.new.references ≡ max self.old.references group }
         ensures same { IsReaderOfSame self.new self.old }
         ensures atom { result.is_atom ≡ true }
-        ensures node { node_of result.node ≡ back_ref group
+        ensures node { spec_node_of result.node ≡ back_ref group
             (by_canonical_case self.old.flags.icase self.old.flags.unicode) }
     {
         let in_profile = self.reference(group, left);
@@ -243,16 +255,20 @@ fn read_group_number(
 {
     let mut ahead = *reader;
     let Some(group) = decimal(&mut ahead) else {
-        return no_group_unless(*reader, unicode);
+        return no_reference_or_unicode_error(*reader, unicode);
     };
     if group == 0 || group > groups {
-        return no_group_unless(*reader, unicode);
+        return no_reference_or_unicode_error(*reader, unicode);
     }
     *reader = ahead;
     Ok(Some(group))
 }
 
-fn no_group_unless(reader: PatternReader, unicode: bool) -> Result<Option<u32>, ParseStopReason>
+// Returns no reference or, with `unicode`, the error that no group has the number.
+fn no_reference_or_unicode_error(
+    reader: PatternReader,
+    unicode: bool,
+) -> Result<Option<u32>, ParseStopReason>
     ensures { IsNoReferenceOrUnicodeError unicode result }
 {
     if unicode {
@@ -293,7 +309,7 @@ fn read_class_escape(
 {
     if let Some(escape) = DigitWordOrSpaceEscape::of(reader.peek()) {
         let _ = reader.next();
-        return Ok(Some(letter_contents(alloc, escape, flags)?));
+        return Ok(Some(class_of_letter_escape(alloc, escape, flags)?));
     }
     let start = *reader;
     let Some(invert) = read_property_letter(reader, flags.unicode) else {
@@ -329,9 +345,9 @@ fn ecmascript_character(
     flags: Flags,
     c: u32,
 ) -> Result<GrouplessTerm, ParseStopReason>
-    ensures leaf { IfOk result (λ l. (greatest : ℕ) → IsWellFormedGrouplessSubtree greatest (node_of l.node)) }
+    ensures leaf { IfOk result (λ l. (greatest : ℕ) → IsWellFormedGrouplessSubtree greatest (spec_node_of l.node)) }
     ensures atom { IfOk result (λ l. l.is_atom ≡ true) }
-    ensures node { IfOk result (λ l. IsEcmaCharacterNode (spec_flags_of flags) c (node_of l.node)) }
+    ensures node { IfOk result (λ l. IsEcmaCharacterNode (spec_flags_of flags) c (spec_node_of l.node)) }
     ensures memory { IfErr result (λ e. is_syntax_error e ≡ false) }
 {
     let members = case_variants(alloc, c, flags.icase, flags.unicode)?;

@@ -29,14 +29,14 @@ pub(crate) fn character_escape(
     let Some(c) = reader.next() else {
         return Err(start.error_at_last_read(Cause::NothingToEscape));
     };
-    match character_of_escape(reader, c, unicode) {
+    match read_escaped_character(reader, c, unicode) {
         Ok(c) => Ok(c),
         Err(cause) => Err(start.error_at_last_read(cause)),
     }
 }
 
 // Returns the character of an escape that begins with this code point.
-fn character_of_escape(reader: &mut PatternReader, c: u32, unicode: bool) -> Result<u32, Cause>
+fn read_escaped_character(reader: &mut PatternReader, c: u32, unicode: bool) -> Result<u32, Cause>
     ensures moves { length reader.new.rest.now ≤ length reader.old.rest.now }
     ensures text { IsReadOrNothingCanBeRead (CharacterEscape unicode (c ∷ reader.old.rest.now)) result
         reader.new.rest.now }
@@ -89,6 +89,8 @@ fn null(reader: &PatternReader) -> Result<u32, Cause>
 }
 
 /// Reads two hexadecimal digits.
+///
+/// An error means that two hexadecimal digits are not next.
 pub(crate) fn read_two_hex_digits(reader: &mut PatternReader) -> Result<u32, Cause>
     ensures moves { length reader.new.rest.now ≤ length reader.old.rest.now }
     ensures text { IsReadOrNothingCanBeRead (FixedHexDigits 2 reader.old.rest.now) result reader.new.rest.now }
@@ -103,17 +105,17 @@ pub(crate) fn unicode_escape(reader: &mut PatternReader, unicode: bool) -> Resul
     ensures text { IsReadOrNothingCanBeRead (UnicodeEscape unicode reader.old.rest.now) result reader.new.rest.now }
 {
     if !unicode {
-        return code_unit(reader);
+        return read_four_hex_digits(reader);
     }
     if reader.eat('{') {
         return code_point(reader);
     }
-    let c = code_unit(reader)?;
-    Ok(paired(reader, c))
+    let c = read_four_hex_digits(reader)?;
+    Ok(read_trail_surrogate_if_any(reader, c))
 }
 
 // Reads four hexadecimal digits.
-fn code_unit(reader: &mut PatternReader) -> Result<u32, Cause>
+fn read_four_hex_digits(reader: &mut PatternReader) -> Result<u32, Cause>
     ensures moves { length reader.new.rest.now ≤ length reader.old.rest.now }
     ensures text { IsReadOrNothingCanBeRead (FixedHexDigits 4 reader.old.rest.now) result reader.new.rest.now }
 {
@@ -122,7 +124,7 @@ fn code_unit(reader: &mut PatternReader) -> Result<u32, Cause>
 
 // Returns the code point of this number, or that of a surrogate pair if an escape of a low
 // surrogate follows it.
-fn paired(reader: &mut PatternReader, c: u32) -> u32
+fn read_trail_surrogate_if_any(reader: &mut PatternReader, c: u32) -> u32
     ensures moves { length reader.new.rest.now ≤ length reader.old.rest.now }
     ensures text { PairsWithTrailSurrogateIfAny c reader.old.rest.now result reader.new.rest.now }
 {
@@ -130,7 +132,7 @@ fn paired(reader: &mut PatternReader, c: u32) -> u32
         return c;
     }
     let mut ahead = *reader;
-    let Some(low) = low_surrogate(&mut ahead) else {
+    let Some(low) = read_low_surrogate_escape(&mut ahead) else {
         return c;
     };
     *reader = ahead;
@@ -166,7 +168,7 @@ fn code_point(reader: &mut PatternReader) -> Result<u32, Cause>
 }
 
 // Reads an escape of a low surrogate.
-fn low_surrogate(reader: &mut PatternReader) -> Option<u32>
+fn read_low_surrogate_escape(reader: &mut PatternReader) -> Option<u32>
     ensures moves { length reader.new.rest.now ≤ length reader.old.rest.now }
     ensures range { IfSome result (λ c. (0xDC00 ≤ c) × (c ≤ 0xDFFF)) }
     ensures text { IsOptionalTrailSurrogateEscapeRead reader.old.rest.now result reader.new.rest.now }

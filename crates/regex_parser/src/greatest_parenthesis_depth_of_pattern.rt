@@ -16,7 +16,7 @@ struct ParenthesisDepthScan {
 
 impl ParenthesisDepthScan {
     // The state before anything is read.
-    const BEGUN: ParenthesisDepthScan = ParenthesisDepthScan {
+    const INITIAL_DEPTH_SCAN: ParenthesisDepthScan = ParenthesisDepthScan {
         depth: 0,
         deepest: 0,
         in_class: false,
@@ -83,7 +83,7 @@ impl ParenthesisDepthScan {
 pub fn nesting(pattern: &[u32]) -> usize
     ensures { result ≡ greatest_parenthesis_depth_in pattern.now }
 {
-    let mut reading = ParenthesisDepthScan::BEGUN;
+    let mut reading = ParenthesisDepthScan::INITIAL_DEPTH_SCAN;
     for c in pattern {
         reading = reading.depth_scan_after_code_point(*c);
     }

@@ -4,7 +4,7 @@ ghost use Rattle.std.specs.Prelude.{◌≡◌, ℕ, ◌<◌, ◌≤◌, max, len
 ghost use Rattle.std.specs.BTreeMap.{get_by_text};
 ghost use Rattle.regex_meaning.specs.Tree.{bracket as bracket_of, back_ref, by_case};
 ghost use Rattle.regex_meaning.specs.{ReadingStatesAndDigits.{RemainingCodePoints}, Grammar.{character_node}};
-ghost use Rattle.regex_pattern_front.specs.AstToSpecTree.{node_of, spec_flags_of, class_as_spec};
+ghost use Rattle.regex_pattern_front.specs.AstToSpecTree.{spec_node_of, spec_flags_of, class_as_spec};
 ghost use Rattle.regex_pattern_front.specs.SubtreeListInvariants.{IsWellFormedGrouplessSubtree};
 ghost use Rattle.regex_parser.specs.CodePointReaderContracts.{is_syntax_error, backslash};
 ghost use Rattle.regex_parser.specs.GrouplessTermContracts.{pattern_context, NamesAreNumberedWithinGroupLimit, TextBetweenIsGrouplessTerm};
@@ -60,7 +60,7 @@ impl GrouplessTermReader<'_> {
         c: u32,
     ) -> Result<GrouplessTerm, ParseStopReason>
         ensures moves { length self.new.reader.rest.now ≤ length self.old.reader.rest.now }
-        ensures leaf { IfOk result (λ l. IsWellFormedGrouplessSubtree self.new.references (node_of l.node)) }
+        ensures leaf { IfOk result (λ l. IsWellFormedGrouplessSubtree self.new.references (spec_node_of l.node)) }
         ensures references { self.old.references ≤ self.new.references }
         ensures same { IsReaderOfSame self.new self.old }
         ensures text { let s = spec_syntax_of self.old.syntax in is_paren_or_bar c ≡ false
@@ -76,9 +76,13 @@ impl GrouplessTermReader<'_> {
     }
 
     // Reads a term of the profile.
+    // Contract: unless `c` is a parenthesis or `|`, `text` and `passed` say that a term without
+    // groups is read, or that none begins here. `leaf` and `references` say that its node is well
+    // formed, and that the greatest reference does not decrease. `moves` and `same` say that the
+    // rest of the text does not grow, and that the reader is still one of the same pattern.
     fn read_profile_term(&mut self, c: u32) -> Result<GrouplessTerm, ParseStopReason>
         ensures moves { length self.new.reader.rest.now ≤ length self.old.reader.rest.now }
-        ensures leaf { IfOk result (λ l. IsWellFormedGrouplessSubtree self.new.references (node_of l.node)) }
+        ensures leaf { IfOk result (λ l. IsWellFormedGrouplessSubtree self.new.references (spec_node_of l.node)) }
         ensures references { self.old.references ≤ self.new.references }
         ensures same { IsReaderOfSame self.new self.old }
         ensures passed { is_paren_or_bar c ≡ false
@@ -98,7 +102,7 @@ impl GrouplessTermReader<'_> {
         if let Some(leaf) = self.sign(c) {
             return Ok(leaf);
         }
-        if let Some(cause) = self.wrong_alone(c) {
+        if let Some(cause) = self.cause_if_wrong_alone(c) {
             return Err(self.reader.error_at_last_read(cause));
         }
         self.character(c)
@@ -106,7 +110,7 @@ impl GrouplessTermReader<'_> {
 
     // Returns the term of `^`, `$` or `.`, or `None` for any other code point.
     pub(crate) fn sign(&self, c: u32) -> Option<GrouplessTerm>
-        ensures leaf { IfSome result (λ l. (greatest : ℕ) → IsWellFormedGrouplessSubtree greatest (node_of l.node)) }
+        ensures leaf { IfSome result (λ l. (greatest : ℕ) → IsWellFormedGrouplessSubtree greatest (spec_node_of l.node)) }
         ensures text { (groups : List RemainingCodePoints) (there : RemainingCodePoints)
             → AnchorOrDotReadIfPresent (pattern_context self.now.flags groups) c there result }
         ensures ecma { (groups : List RemainingCodePoints) (there : RemainingCodePoints)
@@ -124,7 +128,7 @@ impl GrouplessTermReader<'_> {
     }
 
     // Returns the error if this code point, the last one that was read, is not a term by itself.
-    pub(crate) fn wrong_alone(&self, c: u32) -> Option<Cause>
+    pub(crate) fn cause_if_wrong_alone(&self, c: u32) -> Option<Cause>
         ensures { RefusesCodePointThatIsNoTerm self.now.flags.unicode c self.now.reader.rest.now result }
     {
         if is_star_plus_or_question(c) {
@@ -144,13 +148,13 @@ impl GrouplessTermReader<'_> {
     }
 
     fn anchor(&self, anchor_type: AnchorType) -> GrouplessTerm
-        ensures leaf { (greatest : ℕ) → IsWellFormedGrouplessSubtree greatest (node_of result.node) }
+        ensures leaf { (greatest : ℕ) → IsWellFormedGrouplessSubtree greatest (spec_node_of result.node) }
         ensures text { (groups : List RemainingCodePoints) (there : RemainingCodePoints)
             → TextBetweenIsGrouplessTerm (pattern_context self.now.flags groups) (anchor_sign anchor_type ∷ there)
             result there }
         ensures ecma { (groups : List RemainingCodePoints) (there : RemainingCodePoints)
             → IsEcmaAtomOr result.is_atom (pattern_context self.now.flags groups) (anchor_sign anchor_type ∷ there)
-            there (node_of result.node) }
+            there (spec_node_of result.node) }
     {
         GrouplessTerm {
             node: Node::Anchor {
@@ -162,12 +166,12 @@ impl GrouplessTermReader<'_> {
     }
 
     fn dot(&self) -> GrouplessTerm
-        ensures leaf { (greatest : ℕ) → IsWellFormedGrouplessSubtree greatest (node_of result.node) }
+        ensures leaf { (greatest : ℕ) → IsWellFormedGrouplessSubtree greatest (spec_node_of result.node) }
         ensures text { (groups : List RemainingCodePoints) (there : RemainingCodePoints)
             → TextBetweenIsGrouplessTerm (pattern_context self.now.flags groups) (46 ∷ there) result there }
         ensures ecma { (groups : List RemainingCodePoints) (there : RemainingCodePoints)
             → IsEcmaAtomOr result.is_atom (pattern_context self.now.flags groups) (46 ∷ there) there
-            (node_of result.node) }
+            (spec_node_of result.node) }
     {
         if self.flags.dot_all {
             atom(Node::MatchAny)
@@ -179,9 +183,9 @@ impl GrouplessTermReader<'_> {
     // Returns the term of a character. With `icase`, if several code points have its fold, it is
     // their set.
     fn character(&self, c: u32) -> Result<GrouplessTerm, ParseStopReason>
-        ensures leaf { IfOk result (λ l. (greatest : ℕ) → IsWellFormedGrouplessSubtree greatest (node_of l.node)) }
+        ensures leaf { IfOk result (λ l. (greatest : ℕ) → IsWellFormedGrouplessSubtree greatest (spec_node_of l.node)) }
         ensures atom { IfOk result (λ l. l.is_atom ≡ true) }
-        ensures node { IfOk result (λ l. node_of l.node ≡ character_node (spec_flags_of self.now.flags) c) }
+        ensures node { IfOk result (λ l. spec_node_of l.node ≡ character_node (spec_flags_of self.now.flags) c) }
         ensures memory { IfErr result (λ e. is_syntax_error e ≡ false) }
     {
         let members = expand_code_point(self.alloc, c, self.flags.icase, self.flags.unicode)?;
@@ -193,16 +197,18 @@ impl GrouplessTermReader<'_> {
     }
 
     // Reads a term after its backslash.
+    // The contract is that of `read_profile_term` for a term that begins with a backslash.
     fn escape(&mut self) -> Result<GrouplessTerm, ParseStopReason>
         ensures moves { length self.new.reader.rest.now ≤ length self.old.reader.rest.now }
-        ensures leaf { IfOk result (λ l. IsWellFormedGrouplessSubtree self.new.references (node_of l.node)) }
+        ensures leaf { IfOk result (λ l. IsWellFormedGrouplessSubtree self.new.references (spec_node_of l.node)) }
         ensures references { self.old.references ≤ self.new.references }
         ensures same { IsReaderOfSame self.new self.old }
         ensures passed { IfOk result (λ l. TextBetweenOpensNoGroup (backslash ∷ self.old.reader.rest.now)
             self.new.reader.rest.now) }
         ensures text { (groups : List RemainingCodePoints) → NamesAreNumberedWithinGroupLimit self.old.numbers groups
-            → IsGrouplessTermReadIfPresent (pattern_context self.old.flags groups) (backslash ∷ self.old.reader.rest.now)
-            result self.old.references self.new.references self.new.reader.rest.now }
+            → IsGrouplessTermReadIfPresent (pattern_context self.old.flags groups)
+            (backslash ∷ self.old.reader.rest.now) result self.old.references self.new.references
+            self.new.reader.rest.now }
     {
         if self.reader.eat('b') {
             return Ok(self.boundary(false));
@@ -214,9 +220,10 @@ impl GrouplessTermReader<'_> {
     }
 
     // Reads an atom after its backslash (ECMA-262, 21.2.1 `AtomEscape`).
+    // The contract is that of `escape`, except that `text` is about an atom.
     fn atom_escape(&mut self) -> Result<GrouplessTerm, ParseStopReason>
         ensures moves { length self.new.reader.rest.now ≤ length self.old.reader.rest.now }
-        ensures leaf { IfOk result (λ l. IsWellFormedGrouplessSubtree self.new.references (node_of l.node)) }
+        ensures leaf { IfOk result (λ l. IsWellFormedGrouplessSubtree self.new.references (spec_node_of l.node)) }
         ensures references { self.old.references ≤ self.new.references }
         ensures same { IsReaderOfSame self.new self.old }
         ensures passed { IfOk result (λ l. TextBetweenOpensNoGroup (backslash ∷ self.old.reader.rest.now)
@@ -241,13 +248,13 @@ impl GrouplessTermReader<'_> {
     }
 
     pub(crate) fn boundary(&self, invert: bool) -> GrouplessTerm
-        ensures leaf { (greatest : ℕ) → IsWellFormedGrouplessSubtree greatest (node_of result.node) }
+        ensures leaf { (greatest : ℕ) → IsWellFormedGrouplessSubtree greatest (spec_node_of result.node) }
         ensures text { (groups : List RemainingCodePoints) (there : RemainingCodePoints)
-            → TextBetweenIsGrouplessTerm (pattern_context self.now.flags groups) (backslash ∷ boundary_letter invert ∷ there)
-            result there }
+            → TextBetweenIsGrouplessTerm (pattern_context self.now.flags groups)
+            (backslash ∷ boundary_letter invert ∷ there) result there }
         ensures ecma { (groups : List RemainingCodePoints) (there : RemainingCodePoints)
-            → IsEcmaAtomOr result.is_atom (pattern_context self.now.flags groups) (backslash ∷ boundary_letter invert ∷ there)
-            there (node_of result.node) }
+            → IsEcmaAtomOr result.is_atom (pattern_context self.now.flags groups)
+            (backslash ∷ boundary_letter invert ∷ there) there (spec_node_of result.node) }
     {
         GrouplessTerm {
             node: Node::WordBoundary {
@@ -259,14 +266,17 @@ impl GrouplessTermReader<'_> {
     }
 
     // Returns a reference to a group. `left` code points are left from the reference on.
+    // Contract: `node`, `atom` and `leaf` say that the term is a well-formed backreference to
+    // `group`, and an atom. `references` says that the greatest reference becomes `group` if that
+    // is greater. `moves` and `same` say that the reader stays where it is.
     pub(crate) fn reference(&mut self, group: u32, left: usize) -> GrouplessTerm
         requires { 0 < group }
-        ensures leaf { IsWellFormedGrouplessSubtree self.new.references (node_of result.node) }
+        ensures leaf { IsWellFormedGrouplessSubtree self.new.references (spec_node_of result.node) }
         ensures moves { self.new.reader ≡ self.old.reader }
         ensures references { self.new.references ≡ max self.old.references group }
         ensures same { IsReaderOfSame self.new self.old }
         ensures atom { result.is_atom ≡ true }
-        ensures node { node_of result.node ≡ back_ref group (by_case self.old.flags.icase) }
+        ensures node { spec_node_of result.node ≡ back_ref group (by_case self.old.flags.icase) }
     {
         let is_greatest = self.references < group;
         self.reference_left = if is_greatest {
@@ -326,9 +336,9 @@ pub(crate) fn atom(node: Node) -> GrouplessTerm
 }
 
 pub(crate) fn bracket(contents: BracketContents) -> GrouplessTerm
-    ensures leaf { (greatest : ℕ) → IsWellFormedGrouplessSubtree greatest (node_of result.node) }
+    ensures leaf { (greatest : ℕ) → IsWellFormedGrouplessSubtree greatest (spec_node_of result.node) }
     ensures atom { result.is_atom ≡ true }
-    ensures node { node_of result.node ≡ bracket_of (class_as_spec contents) }
+    ensures node { spec_node_of result.node ≡ bracket_of (class_as_spec contents) }
 {
     atom(Node::Bracket(contents))
 }

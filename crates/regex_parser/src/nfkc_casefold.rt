@@ -65,11 +65,11 @@ fn is_mapped_to_itself(c: char) -> bool
     ensures { IsTrue result → nfkc (full_fold c) ≡ c ∷ [] }
 {
     let mut room = [c; 3];
-    full_folding(c).is_empty() && is_only(decomposition(c, Form::Nfkc, &mut room), c)
+    full_folding(c).is_empty() && is_single_char(decomposition(c, Form::Nfkc, &mut room), c)
 }
 
 // Checks whether the text is this one character.
-fn is_only(text: &[char], c: char) -> bool
+fn is_single_char(text: &[char], c: char) -> bool
     ensures { IsTrue result → text.now ≡ c ∷ [] }
 {
     matches!(text, [only] if *only == c)

@@ -2,9 +2,9 @@
 //! open groups around it.
 
 ghost use Rattle.std.specs.Prelude.{◌≡◌, IfOk, OnOk, [], ◌∷◌, ◌++◌, map};
-ghost use Rattle.regex_pattern_front.specs.AstToSpecTree.{node_of};
+ghost use Rattle.regex_pattern_front.specs.AstToSpecTree.{spec_node_of};
 ghost use Rattle.regex_pattern_front.specs.SubtreeListInvariants.{CombinesGroupsAndGoalsOfNodes, SoundSubtreesMakeSoundNode, KeepsSubtreeInvariant};
-ghost use Rattle.regex_parser.specs.GroupIdInvariant.{nodes_at};
+ghost use Rattle.regex_parser.specs.GroupIdInvariant.{nodes_read_in_disjunction};
 ghost use Rattle.regex_parser.specs.PartialDisjunctionModel.{disjunction_of, nest_all_alternatives};
 ghost use Rattle.regex_parser.specs.ParseStack.{empty_disjunction, push_term, end_alternative, nest_alternatives};
 ghost use Rattle.regex_meaning.specs.ReadingStatesAndDigits.{arm};
@@ -41,7 +41,7 @@ pub(crate) struct OpenGroup {
 impl PartialDisjunction {
     /// Returns a disjunction of which nothing has been read.
     pub(crate) fn new(alloc: Global, in_lookbehind: bool) -> PartialDisjunction
-        ensures parts { nodes_at result ≡ [] }
+        ensures parts { nodes_read_in_disjunction result ≡ [] }
         ensures level { disjunction_of result ≡ empty_disjunction in_lookbehind }
     {
         PartialDisjunction {
@@ -60,8 +60,8 @@ impl PartialDisjunction {
 
     /// Adds a term to the current alternative.
     pub(crate) fn push(&mut self, term: Node) -> Result<(), AllocError>
-        ensures parts { OnOk result (nodes_at self.new ≡ nodes_at self.old ++ term ∷ []) }
-        ensures level { OnOk result (disjunction_of self.new ≡ push_term (node_of term) (disjunction_of self.old)) }
+        ensures parts { OnOk result (nodes_read_in_disjunction self.new ≡ nodes_read_in_disjunction self.old ++ term ∷ []) }
+        ensures level { OnOk result (disjunction_of self.new ≡ push_term (spec_node_of term) (disjunction_of self.old)) }
     {
         self.terms.push(term)?;
         Ok(())
@@ -69,7 +69,7 @@ impl PartialDisjunction {
 
     /// Ends the current alternative.
     pub(crate) fn end_alternative(&mut self) -> Result<(), AllocError>
-        ensures parts { OnOk result (KeepsSubtreeInvariant (nodes_at self.old) (nodes_at self.new)) }
+        ensures parts { OnOk result (KeepsSubtreeInvariant (nodes_read_in_disjunction self.old) (nodes_read_in_disjunction self.new)) }
         ensures ended { OnOk result (self.new.terms.items ≡ []) }
         ensures level { OnOk result (disjunction_of self.new ≡ end_alternative (disjunction_of self.old)) }
     {
@@ -81,8 +81,8 @@ impl PartialDisjunction {
 
     /// Returns the node of the disjunction: its alternatives, nested to the right.
     pub(crate) fn into_alternation_node(mut self) -> Result<Node, AllocError>
-        ensures parts { IfOk result (λ n. SoundSubtreesMakeSoundNode (nodes_at self) (node_of n)) }
-        ensures node { let l = disjunction_of self in IfOk result (λ n. node_of n ≡ nest_alternatives l.arms
+        ensures parts { IfOk result (λ n. SoundSubtreesMakeSoundNode (nodes_read_in_disjunction self) (spec_node_of n)) }
+        ensures node { let l = disjunction_of self in IfOk result (λ n. spec_node_of n ≡ nest_alternatives l.arms
             (arm l.in_lookbehind l.terms)) }
     {
         self.end_alternative()?;
@@ -92,8 +92,8 @@ impl PartialDisjunction {
 
 // Returns the sequence of the terms.
 fn cat(mut terms: Vec<Node>, in_lookbehind: bool) -> Node
-    ensures parts { CombinesGroupsAndGoalsOfNodes terms.items (node_of result) }
-    ensures arm { node_of result ≡ arm in_lookbehind (map node_of terms.items) }
+    ensures parts { CombinesGroupsAndGoalsOfNodes terms.items (spec_node_of result) }
+    ensures arm { spec_node_of result ≡ arm in_lookbehind (map spec_node_of terms.items) }
 {
     if in_lookbehind {
         terms.reverse();
@@ -103,8 +103,8 @@ fn cat(mut terms: Vec<Node>, in_lookbehind: bool) -> Node
 
 // Nests the alternatives to the right. An empty list is the empty pattern.
 fn nest_alternatives(mut alternatives: Vec<Node>) -> Result<Node, AllocError>
-    ensures parts { IfOk result (λ n. SoundSubtreesMakeSoundNode alternatives.items (node_of n)) }
-    ensures node { IfOk result (λ n. node_of n ≡ nest_all_alternatives (map node_of alternatives.items)) }
+    ensures parts { IfOk result (λ n. SoundSubtreesMakeSoundNode alternatives.items (spec_node_of n)) }
+    ensures node { IfOk result (λ n. spec_node_of n ≡ nest_all_alternatives (map spec_node_of alternatives.items)) }
 {
     let alloc = *alternatives.allocator();
     let Some(mut joined) = alternatives.pop() else {

@@ -3,7 +3,7 @@
 ghost use Rattle.regex_parser.specs.CodePointReaderContracts.{open_parenthesis, close_parenthesis};
 ghost use Rattle.std.specs.Prelude.{◌≡◌, ℕ, ◌+◌, ◌≤◌, ◌∷◌, ◌||◌, nat_lt, List, [], false, length, IfOk, IfErr, IfSome, OnOk, IsTrue, None};
 ghost use Rattle.regex_meaning.specs.{CompilationRelation.{tree_contains_byte_nodes}, Tree.{Tree}, WellFormedTrees.{is_well_formed}};
-ghost use Rattle.regex_pattern_front.specs.AstToSpecTree.{node_of, tree_of, spec_flags_of, group_name_bytes};
+ghost use Rattle.regex_pattern_front.specs.AstToSpecTree.{spec_node_of, tree_of, spec_flags_of, group_name_bytes};
 ghost use Rattle.regex_pattern_front.specs.OptimizedTrees.{has_no_char_loops};
 ghost use Rattle.regex_pattern_front.specs.SubtreeListInvariants.{IsSoundSubtreeWithGroupIds};
 ghost use Rattle.regex_parser.specs.GroupIdInvariant.{OpenDisjunctionsHaveAllGroups, captures_opened_by_group_kind};
@@ -68,6 +68,10 @@ enum Refusal {
 /// Open groups are stored on the heap, so neither many alternatives nor deeply nested groups take
 /// stack.
 ///
+/// The clauses `tree` and `flags` say which tree is returned. The clauses `well_formed`,
+/// `characters`, `plain` and `within` say that it is well formed, and has no byte nodes, no char
+/// loops and at most 65,535 groups. The clause `refused` says what an error means.
+///
 /// # Errors
 ///
 /// - `TooManyGroups` if the text opens more than 65,535 groups, whatever else is wrong with it.
@@ -89,6 +93,8 @@ pub fn try_parse(alloc: Global, pattern: &[u32], flags: Flags) -> Result<Regex, 
 }
 
 /// Parses a pattern of this language, as `try_parse` parses one of the profile.
+///
+/// The contract is that of `try_parse`, with the grammar of this language.
 ///
 /// # Errors
 ///
@@ -159,6 +165,10 @@ pub fn diagnose_in(
 /// unclosed groups it reports the innermost one, and for references to missing groups the one with
 /// the greatest number.
 ///
+/// The clause `tree` says which tree is returned, and that a text with a diagnosis has no tree or
+/// opens too many groups. The clause `place` says that a diagnosis is within the text or at its
+/// end. The other clauses are those of `try_parse`.
+///
 /// # Errors
 ///
 /// Returns an error on allocation failure.
@@ -179,6 +189,8 @@ pub fn parse_or_diagnose(
 }
 
 /// Parses a pattern of this language, or diagnoses it, as `parse_or_diagnose` does for the profile.
+///
+/// The contract is that of `parse_or_diagnose`, with the grammar of this language.
 ///
 /// # Errors
 ///
@@ -207,6 +219,9 @@ pub fn parse_or_diagnose_in(
 }
 
 // Parses a pattern after a scan for its groups, or returns why it is refused.
+// Contract: the clauses about the tree are those of `try_parse_in`. `refused` and `place` say that
+// a refused text has no tree or opens too many groups, and that its error is within the text or at
+// its end.
 fn scan_groups_and_parse(
     alloc: Global,
     pattern: &[u32],
@@ -352,7 +367,8 @@ impl Parser<'_> {
         ensures reading { OnOk result (OpenDisjunctionsHaveAllGroups self.new) }
         ensures moves { length self.new.leaves.reader.rest.now ≤ length self.old.leaves.reader.rest.now }
         ensures same { IsReaderOfSame self.new.leaves self.old.leaves }
-        ensures text { AdvancesOrHasNoTree (open_parenthesis ∷ self.old.leaves.reader.rest.now) self.old result self.new }
+        ensures text { AdvancesOrHasNoTree (open_parenthesis ∷ self.old.leaves.reader.rest.now) self.old result
+            self.new }
     {
         let alloc = self.leaves.alloc;
         let start = self.groups;
@@ -385,7 +401,8 @@ impl Parser<'_> {
         ensures reading { OnOk result (OpenDisjunctionsHaveAllGroups self.new) }
         ensures moves { length self.new.leaves.reader.rest.now ≤ length self.old.leaves.reader.rest.now }
         ensures same { IsReaderOfSame self.new.leaves self.old.leaves }
-        ensures text { AdvancesOrHasNoTree (close_parenthesis ∷ self.old.leaves.reader.rest.now) self.old result self.new }
+        ensures text { AdvancesOrHasNoTree (close_parenthesis ∷ self.old.leaves.reader.rest.now) self.old result
+            self.new }
     {
         let Some(
             OpenGroup {
@@ -419,9 +436,9 @@ impl Parser<'_> {
     // Returns the root of the tree, if no group is open and each reference has its group.
     fn finish(self) -> Result<Node, ParseStopReason>
         requires { OpenDisjunctionsHaveAllGroups self }
-        ensures well_formed { IfOk result (λ n. IsTrue (is_well_formed (node_of n))) }
-        ensures characters { IfOk result (λ n. tree_contains_byte_nodes (node_of n) ≡ false) }
-        ensures plain { IfOk result (λ n. IsTrue (has_no_char_loops (node_of n))) }
+        ensures well_formed { IfOk result (λ n. IsTrue (is_well_formed (spec_node_of n))) }
+        ensures characters { IfOk result (λ n. tree_contains_byte_nodes (spec_node_of n) ≡ false) }
+        ensures plain { IfOk result (λ n. IsTrue (has_no_char_loops (spec_node_of n))) }
         ensures tree { let flags = spec_flags_of self.entry.leaves.flags in
             (pattern : RemainingCodePoints) (names : List RemainingCodePoints)
             → HasReadPatternUpTo pattern names [] self.entry
@@ -453,10 +470,10 @@ fn enclosed(
 ) -> Result<Node, AllocError>
     ensures part { IfOk result (λ n. (greatest : ℕ)
         → IsSoundSubtreeWithGroupIds (groups.start + captures_opened_by_group_kind opening) groups.end greatest
-        (node_of contents)
-        → IsSoundSubtreeWithGroupIds groups.start groups.end greatest (node_of n)) }
-    ensures node { IfOk result (λ n. node_of n
-        ≡ group_node_around opening (group_name_bytes name) groups.start groups.end (node_of contents)) }
+        (spec_node_of contents)
+        → IsSoundSubtreeWithGroupIds groups.start groups.end greatest (spec_node_of n)) }
+    ensures node { IfOk result (λ n. spec_node_of n
+        ≡ group_node_around opening (group_name_bytes name) groups.start groups.end (spec_node_of contents)) }
 {
     match opening {
         GroupKind::Plain => Ok(contents),
@@ -486,11 +503,11 @@ fn quantified(
     ensures moves { length leaves.new.reader.rest.now ≤ length leaves.old.reader.rest.now }
     ensures references { leaves.new.references ≡ leaves.old.references }
     ensures part { IfOk result (λ n. (greatest : ℕ) → IsSoundSubtreeWithGroupIds groups.start groups.end greatest
-        (node_of term)
-        → IsSoundSubtreeWithGroupIds groups.start groups.end greatest (node_of n)) }
+        (spec_node_of term)
+        → IsSoundSubtreeWithGroupIds groups.start groups.end greatest (spec_node_of n)) }
     ensures same { IsReaderOfSame leaves.new leaves.old }
     ensures text { IsTermWithOptionalQuantifierRead is_atom leaves.old.reader.rest.now groups.start groups.end
-        (node_of term) result leaves.new.reader.rest.now }
+        (spec_node_of term) result leaves.new.reader.rest.now }
 {
     if !is_atom {
         return if leaves.reader.quantifier_begins_here() {

@@ -7,11 +7,11 @@ use Rattle.std.proofs.lemmas.Bool.{cases_eq, ne_eqb, eq-eqb, or_right}
 use Rattle.std.proofs.lemmas.Nat.Bits.{bit_at_set_same, bit_at_set_other, bit_at-zero}
 use Rattle.std.proofs.Math.Bool.{or-false}
 
--- the bit of a number
+-- This is whether the bit of a number is set.
 abbrev pub has_bit : (words : List ℕ) → ℕ → Bool
 has_bit words k = bit_at (get_or words (k / 64) 0) (k % 64) == 1
 
--- one bit more, in place of the word that there was
+-- This is the list of words with the bit of `n` set.
 abbrev pub with_bit : (words : List ℕ) → ℕ → List ℕ
 with_bit words n = set words (n / 64) (bit_or (get_or words (n / 64) 0) (1 * 2 ^ (n % 64) % 2 ^ 64))
 

@@ -8,11 +8,11 @@ use Rattle.regex_meaning.specs.StartPredicate.{bytes_that_pass}
 use Rattle.regex_pattern_front.proofs.ByteSetMemberLemmas.{contains-bytes_where, bytes_where-same}
 use Rattle.std.proofs.Math.Bool.{or-false}
 
--- the old bytes, and those below n that pass
+-- These are the old bytes and the bytes below `n` that pass the test.
 abbrev pub with_bytes_below : (old : List ℕ) (test : ℕ → Bool) (n : ℕ) → List ℕ
 with_bytes_below old test n = bytes_that_pass (λ b. contains old b || (nat_lt b n && test b))
 
--- none passes below the byte at which the loop begins
+-- If no byte below `n` passes, the loop begins at `n` with only the old bytes.
 pub with_bytes-from : (p test : ℕ → Bool) (n : ℕ) → ((b : ℕ) → b < n → test b ≡ false) → bytes_that_pass p ≡ with_bytes_below (bytes_that_pass p) test n
 with_bytes-from p test n fails = bytes_where-same _ _ (λ b h. rw (contains-bytes_where p b h) (at b (cases_lt b n)))
   where
@@ -62,7 +62,7 @@ with_bytes-same old now test n t e = e ∙ bytes_where-same _ _ (λ b h. at b)
               ]
         ]
 
--- none passes from the byte on at which the loop ends
+-- If no byte from `n` on passes, the loop ends at `n` with the old bytes and all that pass.
 pub with_bytes-to : (old : List ℕ) (test : ℕ → Bool) (n : ℕ) → ((b : ℕ) → n ≤ b → b < 256 → test b ≡ false)
     → with_bytes_below old test n ≡ bytes_that_pass (λ b. contains old b || test b)
 with_bytes-to old test n fails = bytes_where-same _ _ (λ b h. at b h (cases_lt b n))

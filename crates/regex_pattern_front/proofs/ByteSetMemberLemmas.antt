@@ -16,7 +16,7 @@ use Rattle.regex_meaning.specs.StartPredicate.{bytes_that_pass}
 
 -- ---- Membership
 
--- every number of the list is past b
+-- A number below a row of numbers is not in the row.
 contains-past : (b first count : ℕ) → b < first → contains (numbers_from first count) b ≡ false
 contains-past b first zero h = refl
 contains-past b first (suc count) h =
@@ -46,7 +46,7 @@ contains-filter test b first (suc count) =
     ∙ rw (contains-filter test b (first + 1) count)
     (one_more (test first) (nat_eq b first) (test b) (contains (numbers_from (first + 1) count) b) (λ e. ap test (eqb-true b first e)))
 
--- a byte is among those that pass the test exactly if it passes
+-- A byte is among the bytes that pass a test exactly if it passes.
 pub contains-bytes_where : (test : ℕ → Bool) (b : ℕ) → b < 256 → contains (bytes_that_pass test) b ≡ test b
 unfolding bytes_that_pass
 contains-bytes_where test b h =
@@ -56,13 +56,13 @@ contains-bytes_where test b h =
     with_true true = refl
     with_true false = refl
 
--- no number is in a row of lesser ones
+-- A number past a row of numbers is not in the row.
 contains-before : (b first count : ℕ) → first + count ≤ b → contains (numbers_from first count) b ≡ false
 contains-before b first zero h = refl
 contains-before b first (suc count) h =
     rw (ne_eqb b first (omega arith)) (contains-before b (first + 1) count (omega arith))
 
--- what is no byte is among none
+-- A number that is no byte is not among the bytes that pass a test.
 pub contains-beyond : (test : ℕ → Bool) (b : ℕ) → 256 ≤ b → contains (bytes_that_pass test) b ≡ false
 unfolding bytes_that_pass
 contains-beyond test b h = contains-filter test b 0 256 ∙ rw (contains-before b 0 256 (omega arith)) (with_false (test b))
@@ -71,7 +71,7 @@ contains-beyond test b h = contains-filter test b 0 256 ∙ rw (contains-before 
     with_false true = refl
     with_false false = refl
 
--- what is not of ASCII is in no set of bytes below 128
+-- A number beyond ASCII is in no set of ASCII bits.
 pub ascii-beyond : (bits : List ℕ) (b : ℕ) → 128 ≤ b → contains (bytes_that_pass (is_ascii_bit_set bits)) b ≡ false
 ascii-beyond bits b h =
     elim (cases_lt b 256) [
@@ -85,7 +85,7 @@ filter-same f g first zero h = refl
 filter-same f g first (suc count) h =
     rw (h first (omega arith) (omega arith), filter-same f g (first + 1) count (λ b p q. h b (omega arith) (omega arith)))
 
--- two tests that agree on bytes give one list
+-- Tests that agree on all bytes are passed by the same list of bytes.
 pub bytes_where-same : (f g : ℕ → Bool) → ((b : ℕ) → b < 256 → f b ≡ g b) → bytes_that_pass f ≡ bytes_that_pass g
 unfolding bytes_that_pass
 bytes_where-same f g h = filter-same f g 0 256 (λ b p q. h b (omega arith))
@@ -98,9 +98,9 @@ bytes_where-none test h = filter-same test (λ b. false) 0 256 (λ b p q. h b (o
     no_byte first zero = refl
     no_byte first (suc count) = no_byte (first + 1) count
 
--- ---- A byte more
+-- ---- Adding a byte
 
--- what is read at a place where one was written
+-- A read after a write gives the new value at the written place and the old value elsewhere.
 written : {A : Type 0} (xs : List A) (i j : ℕ) (v d : A) → i < length xs → ((j ≡ i) × (get_or (set xs i v) j d ≡ v)) ⊎ ((j ≡ i → ⊥) × (get_or (set xs i v) j d ≡ get_or xs j d))
 written xs i j v d h =
     elim (cases_eq j i) [
@@ -108,7 +108,7 @@ written xs i j v d h =
       | inr ne ↦ inr (ne, get_or-set_other xs i j v d ne)
     ]
 
--- a table with one more byte
+-- If a byte is set in a table, the bytes of the table are the old ones and that byte.
 pub table-set : (table : List Bool) (byte : ℕ) → length table ≡ 256 → byte < 256
     → bytes_that_pass (λ b. get_or (set table byte true) b false) ≡ bytes_that_pass (λ b. b == byte || contains (bytes_that_pass (λ c. get_or table c false)) b)
 table-set table byte sized h =
@@ -120,7 +120,7 @@ table-set table byte sized h =
       | inr w ↦ rw (w.1, ne_eqb b byte w.0)
     ]))
 
--- the bits of one byte
+-- Reading the bit of a byte tells whether the byte is in the set.
 pub is_set-read : (bits : List ℕ) (byte : ℕ) → byte < 128
     → not (eqb (bit_and (get_or bits (byte / 64) 0 / 2 ^ (byte % 64)) 1) 0) ≡ is_ascii_bit_set bits byte
 is_set-read bits byte h = rw (lt-ltb byte 128 h, shr_and_one (get_or bits (byte / 64) 0) (byte % 64)) (one_or_none _ (bit_at-lt _ _))
@@ -130,7 +130,7 @@ is_set-read bits byte h = rw (lt-ltb byte 128 h, shr_and_one (get_or bits (byte 
     one_or_none (suc zero) h = refl
     one_or_none (suc (suc b)) h = absurd (omega arith)
 
--- two words of bits with one more byte
+-- If the bit of a byte is set in two words, their bytes are the old ones and that byte.
 pub bits-set : (bits : List ℕ) (byte : ℕ) → length bits ≡ 2 → byte < 128
     → bytes_that_pass (is_ascii_bit_set (set bits (byte / 64) (bit_or (get_or bits (byte / 64) 0) (1 * 2 ^ (byte % 64) % 2 ^ 64))))
     ≡ bytes_that_pass (λ b. b == byte || contains (bytes_that_pass (is_ascii_bit_set bits)) b)

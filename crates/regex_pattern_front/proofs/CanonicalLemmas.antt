@@ -16,12 +16,12 @@ use Rattle.regex_meaning.specs.Text.{nonascii_folds_to_ascii_word_char}
 use Rattle.regex_meaning.proofs.CaseLawLemmas.{profile-folds}
 use Rattle.regex_meaning.specs.Canonical.{uppercase_or_itself, canonicalize}
 
--- ---- In ASCII
+-- ---- Characters of ASCII
 
 pub folds-in-ascii : (unicode : Bool) (c : ℕ) → c < 128 → fold_code_point unicode c ≡ canonicalize unicode c
 folds-in-ascii unicode c lt = sym (profile-folds unicode c (ap (λ b. b || nonascii_folds_to_ascii_word_char c) (lt-ltb c 128 lt)))
 
--- ---- Of a character
+-- ---- Characters
 
 pub folds-simply : (c : ℕ) → simple_fold c ≡ canonicalize true c
 unfolding canonicalize
@@ -54,9 +54,9 @@ pub one-form : (first second third : Option ℕ) (f c : ℕ) → first ≡ Some 
 one-form first second third f c e k n le forms =
     by-forms c (f ∷ []) le (sym (ap (λ x. chars_of x ++ (chars_of second ++ chars_of third)) e ∙ ap₂ (λ y z. f ∷ (chars_of y ++ chars_of z)) k n) ∙ forms)
 
--- ---- Of what is no character
+-- ---- Surrogates and numbers beyond the characters
 
--- no row has a number from here to there
+-- If no row has a number of a range, the table gives the default for each number of the range.
 pub outside : {V : Type 0} (default : V) (rows : List (ℕ × ℕ × V)) (low high c : ℕ) → list_all (λ r. nat_lt r.1 low || nat_lt high r.0) rows ≡ true → low ≤ c → c ≤ high
     → value_in default rows c ≡ default
 unfolding value_in
@@ -82,7 +82,7 @@ nothing-beyond-folds : (c : ℕ) → list_all (λ r. nat_lt r.1 0x11_0000 || nat
 unfolding simple_folding_rows
 nothing-beyond-folds c = refl
 
--- a run or a row of the uppercase forms does not either
+-- No run and no row of the uppercase forms has a surrogate.
 abbrev run_apart : Row → Bool
 run_apart r = nat_lt r.1 0xD800 || nat_lt 0xDFFF r.0
 

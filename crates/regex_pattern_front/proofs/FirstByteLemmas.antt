@@ -12,7 +12,7 @@ use Rattle.regex_meaning.proofs.BoolLemmas.{and-left, and-right}
 use Rattle.regex_meaning.proofs.FirstByteOfCharacter.{true-in_range}
 use Rattle.regex_meaning.proofs.OptionLemmas.{some-same}
 
--- by how many bytes there are
+-- The first byte of a code point depends on how many bytes encode the code point.
 abbrev IsFirstByte : (c b : ℕ) → Type 0
 IsFirstByte c b =
     ((c < 0x80) × (b ≡ c)) ⊎ (((0x80 ≤ c) × (c < 0x800) × (b ≡ 0xC0 + c / 0x40))
@@ -31,7 +31,7 @@ first_byte c b e = go (cases_lt c 128) (cases_lt c 2048) (cases_lt c 65536)
 rises : (c d x y : ℕ) → IsFirstByte c x → IsFirstByte d y → c ≤ d → x ≤ y
 rises c d x y first second h = grind arith
 
--- two intervals that meet
+-- If two intervals meet, each begins no later than the other ends.
 meets-one : (lo hi first last : ℕ) → intersects ((lo, hi) ∷ []) ((first, last) ∷ []) ≡ true → (first ≤ hi) × (lo ≤ last)
 meets-one lo hi first last e =
     let t : meets ≡ true = sym (or-false (meets || false) ∙ or-false meets) ∙ e in
@@ -43,12 +43,12 @@ meets-one lo hi first last e =
     meets : Bool
     meets = (holding && nat_le lo last) && nat_le first hi
 
--- the first bytes of the interval's ends, at most U+10FFFF
+-- The two bytes are the first bytes of the interval's ends, which count as at most U+10FFFF.
 record Ends (first last least greatest : ℕ) : Type 0 where
   from : IsFirstByte (min first 0x10_FFFF) least
   to : IsFirstByte (min last 0x10_FFFF) greatest
 
--- if these code points meet the interval, their byte stands between those of its ends
+-- If these code points meet the interval, the byte `b` is between the bytes of its ends.
 abbrev Between : (first last least greatest b : ℕ) → Intervals → Type 0
 Between first last least greatest b begun = intersects begun ((first, last) ∷ []) ≡ true → (least ≤ b) × (b ≤ greatest)
 
@@ -81,7 +81,7 @@ all-between first last least greatest b ends =
     (λ t. let h = eqb-true b 0xF4 t in of 0x10_0000 0x10_FFFF (omega arith) (inr (inr (inr (omega arith, omega arith)))) (inr (inr (inr (omega arith, omega arith)))))
     (λ t7 m. absurd (let k : false ≡ true = m in cc))))))))
 
--- no byte outside those of the ends begins a code point of the interval
+-- A byte outside those of the ends begins no code point of the interval.
 pub none-outside : (first last low high least greatest : ℕ) → low ≡ min first 0x10_FFFF → high ≡ min last 0x10_FFFF
     → slice_get (encode low) 0 ≡ Some least → slice_get (encode high) 0 ≡ Some greatest
     → (b : ℕ) → (b < least) ⊎ (greatest < b) → intersects (chars_with_first_byte b) ((first, last) ∷ []) ≡ false

@@ -15,24 +15,25 @@ use Rattle.regex_meaning.specs.CharacterClasses.{AreCanonicalIntervals}
 use Rattle.regex_pattern_front.specs.Intervals.{interval_of, IntervalsAreInOrder, is_interval_nonempty, merged_intervals, gaps_between_intervals}
 use Rattle.regex_pattern_front.specs.declared.codepointset.Interval.{Interval}
 
--- the number is in one of the intervals
+-- The number is in one of the intervals.
 abbrev pub member : List Interval → ℕ → Bool
 member xs c = in_intervals (map interval_of xs) c
 
--- each holds a number, and begins at n or so far behind the end of the one before
+-- No interval is empty, the first begins at `n` or later, and each other one begins at least `gap`
+-- after the end of the one before it.
 abbrev pub Spaced : (gap n : ℕ) → List Interval → Type 0
 Spaced gap n [] = Unit {0}
 Spaced gap n (i ∷ is) = (n ≤ i.first) × (i.first ≤ i.last) × Spaced gap (i.last + gap) is
 
--- each begins past the one before
+-- No interval is empty, and each begins past the one before it.
 abbrev pub Above : ℕ → List Interval → Type 0
 Above = Spaced 1
 
--- each begins past the number behind the one before
+-- No interval is empty, and between two of them a number is left out.
 abbrev pub Apart : ℕ → List Interval → Type 0
 Apart = Spaced 2
 
--- each holds a number, and begins at n or at or past the beginning of the one before
+-- No interval is empty, and each begins no earlier than the one before it or than `n`.
 abbrev pub Rises : ℕ → List Interval → Type 0
 Rises n [] = Unit {0}
 Rises n (i ∷ is) = (n ≤ i.first) × (i.first ≤ i.last) × Rises i.first is
@@ -59,7 +60,7 @@ Spaced-weaker : (gap m n : ℕ) (xs : List Interval) → m ≤ n → Spaced gap 
 Spaced-weaker gap m n [] h a = tt
 Spaced-weaker gap m n (i ∷ is) h a = let low : n ≤ i.first = a.0 in (omega arith, a.1, a.2)
 
--- no interval begins so low
+-- A number below `n` is in no interval if all of them begin at `n` or later.
 pub member-below : (n c : ℕ) (xs : List Interval) → Above n xs → c < n → member xs c ≡ false
 member-below n c [] h l = refl
 member-below n c (i ∷ is) h l =
@@ -84,7 +85,7 @@ member-merged_step : (t : Bool) (now next : Interval) (others : List Interval) (
 member-merged_step true now next others c h k = h refl
 member-merged_step false now next others c h k = k refl
 
--- joined intervals hold the same numbers
+-- Merged intervals have the same numbers as the intervals.
 pub member-merged : (now : Interval) (others : List Interval) (c : ℕ) → now.first ≤ now.last → Rises now.first others
     → member (merged_intervals now others) c ≡ member (now ∷ others) c
 member-merged now [] c h r = refl
@@ -106,7 +107,7 @@ spaced-merged_step : (t : Bool) (gap n : ℕ) (now next : Interval) (others : Li
 spaced-merged_step true gap n now next others h k = h refl
 spaced-merged_step false gap n now next others h k = k refl
 
--- joined intervals stand in order, and between them a number is left out
+-- If the gap is at most 2, the merged intervals are spaced by that gap.
 pub Spaced-merged : (gap n : ℕ) (now : Interval) (others : List Interval) → gap ≤ 2 → n ≤ now.first → now.first ≤ now.last → Rises now.first others
     → Spaced gap n (merged_intervals now others)
 Spaced-merged gap n now [] g l h r = (l, h, tt)
@@ -125,7 +126,7 @@ apart-from_Apart n [] h = tt
 apart-from_Apart n (i ∷ []) h = h.1
 apart-from_Apart n (i ∷ j ∷ xs) h = (h.1, omega (arith, h.2.0), apart-from_Apart (i.last + 2) (j ∷ xs) h.2)
 
--- ---- What stands between
+-- ---- Gaps between intervals
 
 gap-before : (n first c : ℕ) (rest : List Interval) → n ≤ 0x10_FFFF
     → member ((if nat_lt n first then record { first = n; last = min 0x10_FFFF (first - 1) } ∷ [] else []) ++ rest) c
@@ -184,7 +185,7 @@ Spaced-gaps gap m n (i ∷ is) g g' h k a =
       | inr past ↦ rw (le-leb 0x10_FFFF i.last past) (Spaced-before gap m n i.first [] g h k tt tt)
     ]
 
--- ---- By halves
+-- ---- Binary search
 
 Above-at : (n : ℕ) (xs : List Interval) (k : ℕ) (d : Interval) → Above n xs → k < length xs
     → (n ≤ (get_or xs k d).first) × ((get_or xs k d).first ≤ (get_or xs k d).last)
@@ -205,21 +206,21 @@ apart n (i ∷ is) zero (suc k) d a h l =
 apart n (i ∷ is) (suc j) (suc k) d a h l = apart (i.last + 1) is j k d a.2 (omega arith) (omega arith)
 apart n (i ∷ is) j zero d a h l = absurd (omega arith)
 
--- the intervals before an index end before the number
+-- Each interval before the index ends before the number.
 abbrev pub EndBefore : List Interval → (c index : ℕ) → Type 0
 EndBefore xs c index = (k : ℕ) (d : Interval) → k < index → (get_or xs k d).last < c
 
--- those from an index on begin after it
+-- Each interval from the index on begins after the number.
 abbrev pub BeginAfter : List Interval → (c index : ℕ) → Type 0
 BeginAfter xs c index = (k : ℕ) (d : Interval) → index ≤ k → k < length xs → c < (get_or xs k d).first
 
--- within a list the default does not count
+-- The element at an index of a list does not depend on the default.
 same_at : (xs : List Interval) (k : ℕ) (d e : Interval) → k < length xs → get_or xs k d ≡ get_or xs k e
 same_at [] k d e h = absurd (omega arith)
 same_at (i ∷ is) zero d e h = refl
 same_at (i ∷ is) (suc k) d e h = same_at is k d e (omega arith)
 
--- of two the later one begins and ends behind the other one
+-- A later interval begins later and ends later.
 rising : (xs : List Interval) (j k : ℕ) (d : Interval) → IntervalsAreInOrder (map interval_of xs) → j < k → k < length xs
     → ((get_or xs j d).first < (get_or xs k d).first) × ((get_or xs j d).last < (get_or xs k d).last)
 rising xs j k d o less within =
@@ -287,7 +288,7 @@ empty_range a b c m h =
     nothing true = refl
     nothing false = refl
 
--- an empty interval has no number
+-- The empty intervals of a list have no number.
 pub member-filter : (xs : List Interval) (c : ℕ) → member (filter is_interval_nonempty xs) c ≡ member xs c
 member-filter [] c = refl
 member-filter (i ∷ is) c =

@@ -7,12 +7,12 @@ use Rattle.regex_pattern_front.proofs.BoolLemmas.{left, right, and_from}
 use Rattle.regex_meaning.specs.NumberListHelpers.{contains, numbers_from}
 use Rattle.regex_meaning.specs.Tree.{Quantifier, Node, char, char_set, byte_set, byte_sequence, cat, alt, bracket, string_set, match_any}
 use Rattle.regex_meaning.specs.Tree.{match_any_except_line_terminator, capture_group, back_ref, lookaround, loop, loop_1_char_body, group_ids}
-use Rattle.regex_meaning.specs.Tree.{own_id, fold_nodes, every_node_passes}
-use Rattle.regex_meaning.specs.MatchGroupsByNumberAndName.{group_name_of_id, capturing_group_ids_and_names, group_names_by_id, own_name}
+use Rattle.regex_meaning.specs.Tree.{id_if_capture_group, fold_nodes, every_node_passes}
+use Rattle.regex_meaning.specs.MatchGroupsByNumberAndName.{group_name_of_id, capturing_group_ids_and_names, group_names_by_id, id_and_name_if_capture_group}
 use Rattle.regex_meaning.specs.Text.{Text, Direction}
 use Rattle.regex_meaning.specs.Outcomes.{Groups, Outcome, outcomes}
 use Rattle.regex_meaning.specs.CompilationRelation.{tree_contains_byte_nodes, is_byte_node}
-use Rattle.regex_meaning.specs.WellFormedTrees.{number_of_goal_nodes, own_goals, is_end_of_cat, ends_in_goal, encloses, has_exact_group_range, refers_to_a_group}
+use Rattle.regex_meaning.specs.WellFormedTrees.{number_of_goal_nodes, one_if_goal_node, is_end_of_cat, ends_in_goal, range_is_ids_of_enclosed_groups, has_exact_group_range, refers_to_a_group}
 use Rattle.regex_meaning.specs.WellFormedTrees.{has_order_in_quantifier, is_one_character, has_one_character_body, has_text_in_sequence}
 use Rattle.regex_meaning.specs.WellFormedTrees.{set_sizes_and_characters_fit_instructions}
 use Rattle.regex_meaning.proofs.WellFormedTreesLemmas.{clauses, by_clauses}
@@ -22,9 +22,9 @@ use Rattle.regex_pattern_front.proofs.SameOutcomesSameMatches.{answers-same}
 use Rattle.std.proofs.lemmas.Bool.{and_from}
 use Rattle.regex_meaning.proofs.BoolLemmas.{and-left, and-right}
 
--- ---- What is read off a tree
+-- ---- Values gathered from a tree
 
--- what is gathered of a tree is gathered of the optimized one, if of each node as much is
+-- A value gathered from a tree stays the same in the optimized tree if that of each node does.
 module _ {A : Type 0} (own : Node → A) where
   loop-keeps : (q : Quantifier) (s e : ℕ) (loopee : Node) → own (loop_1_char_body q loopee) ≡ own (loop q s e loopee)
       → own (loop q s e (optimized loopee)) ≡ own (loop q s e loopee) → own (optimized (loop q s e loopee)) ≡ own (loop q s e loopee)
@@ -53,25 +53,25 @@ module _ {A : Type 0} (own : Node → A) where
     gathered-optimized _ = refl
 
 own-optimized : (n : Node)
-    → (own_goals (optimized n) ≡ own_goals n) × (own_id (optimized n) ≡ own_id n) × (own_name (optimized n) ≡ own_name n)
+    → (one_if_goal_node (optimized n) ≡ one_if_goal_node n) × (id_if_capture_group (optimized n) ≡ id_if_capture_group n) × (id_and_name_if_capture_group (optimized n) ≡ id_and_name_if_capture_group n)
     × (is_byte_node (optimized n) ≡ is_byte_node n)
 unfolding optimized
 own-optimized (loop q s e loopee) = (
-  loop-keeps own_goals q s e loopee refl refl,
-  loop-keeps own_id q s e loopee refl refl,
-  loop-keeps own_name q s e loopee refl refl,
+  loop-keeps one_if_goal_node q s e loopee refl refl,
+  loop-keeps id_if_capture_group q s e loopee refl refl,
+  loop-keeps id_and_name_if_capture_group q s e loopee refl refl,
   loop-keeps is_byte_node q s e loopee refl refl,
 )
 own-optimized _ = (refl, refl, refl, refl)
 
 goal_count-optimized : (n : Node) → number_of_goal_nodes (optimized n) ≡ number_of_goal_nodes n
-goal_count-optimized = gathered-optimized own_goals ◌+◌ (λ n. (own-optimized n).0)
+goal_count-optimized = gathered-optimized one_if_goal_node ◌+◌ (λ n. (own-optimized n).0)
 
 pub group_ids-optimized : (n : Node) → group_ids (optimized n) ≡ group_ids n
-group_ids-optimized = gathered-optimized own_id ◌++◌ (λ n. (own-optimized n).1)
+group_ids-optimized = gathered-optimized id_if_capture_group ◌++◌ (λ n. (own-optimized n).1)
 
 pub named_ids-optimized : (n : Node) → capturing_group_ids_and_names (optimized n) ≡ capturing_group_ids_and_names n
-named_ids-optimized = gathered-optimized own_name ◌++◌ (λ n. (own-optimized n).2)
+named_ids-optimized = gathered-optimized id_and_name_if_capture_group ◌++◌ (λ n. (own-optimized n).2)
 
 pub reads_bytes-optimized : (n : Node) → tree_contains_byte_nodes (optimized n) ≡ tree_contains_byte_nodes n
 reads_bytes-optimized = gathered-optimized is_byte_node ◌||◌ (λ n. (own-optimized n).3)
@@ -114,7 +114,7 @@ is_one-reads _ h = grind arith
 
 -- ---- Tests of each node
 
--- a test that holds of the optimized node where it holds of the node holds of each one
+-- If optimizing a node keeps a test, optimizing a tree keeps the test of all nodes.
 module _ (test : Node → Bool) (keeps : (n : Node) → test n ≡ true → test (optimized n) ≡ true) where
   every-optimized : (n : Node) → every_node_passes test n ≡ true → every_node_passes test (optimized n) ≡ true
   unfolding optimized
@@ -142,7 +142,7 @@ module _ (test : Node → Bool) (keeps : (n : Node) → test n ≡ true → test
       and_from _ _ (keeps (loop_1_char_body q loopee) (and-left _ (every_node_passes test loopee) h)) (every-optimized loopee (and-right _ (every_node_passes test loopee) h))
   every-optimized _ h = h
 
--- a test that does not look at loops
+-- An optimized loop passes a test if both forms that it can take pass the test.
 of_loop : (test : Node → Bool) (q : Quantifier) (s e : ℕ) (loopee : Node) (r : Bool)
     → (r ≡ true → test (loop_1_char_body q loopee) ≡ true) → test (loop q s e (optimized loopee)) ≡ true
     → test (if r then loop_1_char_body q loopee else loop q s e (optimized loopee)) ≡ true
@@ -221,7 +221,7 @@ nothing_named : (first count : ℕ) → list_all (contains []) (numbers_from fir
 nothing_named first zero h = refl
 nothing_named first (suc count) h = grind arith
 
-encloses_none : (s e : ℕ) (n : Node) → group_ids n ≡ [] → encloses s e n ≡ true → e - s ≡ 0
+encloses_none : (s e : ℕ) (n : Node) → group_ids n ≡ [] → range_is_ids_of_enclosed_groups s e n ≡ true → e - s ≡ 0
 encloses_none s e n none h = nothing_named s (e - s) (and-right (nat_le s e && list_all (contains (numbers_from s (e - s))) []) _ (rw none at h))
 
 module _ (text : Text) where
@@ -242,7 +242,7 @@ module _ (text : Text) where
       go : (r : Bool) → reads_one_character loopee ≡ r → outcomes text (optimized loopee) ≡ outcomes text loopee
           → outcomes text (if r then loop_1_char_body q loopee else loop q s e (optimized loopee)) ≡ outcomes text (loop q s e loopee)
       go true k inside =
-          fun_ext3 _ _ (λ d p g. rw (encloses_none s e loopee (no_ids loopee k) (and-left (encloses s e loopee) (every_node_passes has_exact_group_range loopee) h)))
+          fun_ext3 _ _ (λ d p g. rw (encloses_none s e loopee (no_ids loopee k) (and-left (range_is_ids_of_enclosed_groups s e loopee) (every_node_passes has_exact_group_range loopee) h)))
       go false k inside = fun_ext3 _ _ (λ d p g. rw inside)
   same (loop_1_char_body q loopee) h = fun_ext3 _ _ (λ d p g. rw (same loopee h))
   same _ h = refl
@@ -254,7 +254,7 @@ pub answers-optimized : OptimizedHasSameAnswers
 answers-optimized root h text start =
     answers-same (optimized root) root text (same text root (clauses root h).enclosed) (group_ids-optimized root) (names_by_id-optimized root) start
 
--- ---- Optimizing what is optimized
+-- ---- Optimizing an optimized tree
 
 reads_one-optimized : (n : Node) → reads_one_character (optimized n) ≡ reads_one_character n
 unfolding optimized

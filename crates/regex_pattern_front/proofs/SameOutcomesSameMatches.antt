@@ -40,7 +40,7 @@ module _ (a b : Node) (text : Text) (outcomes_same : outcomes text a ≡ outcome
         names = names;
       }) named
 
-  -- the same answers, if the names are the same too
+  -- The answers are the same if the group names are the same too.
   pub answers-same : group_names_by_id a ≡ group_names_by_id b → (start : ℕ) → answers_from a text start ≡ answers_from b text start
   unfolding answers_from
   answers-same named start = go (place_at text start)

@@ -40,25 +40,26 @@ spec_sameness_of (Alike unicode) = tree.alike unicode
 
 -- A node, and a list of child nodes, as trees of the definitions.
 unfoldable mutual
-  pub node_of : Node → tree.Node
-  node_of Empty = tree.empty
-  node_of Goal = tree.goal
-  node_of (Char c) = tree.char c
-  node_of (CharSet members) = tree.char_set members.items
-  node_of (ByteSet members) = tree.byte_set members.items
-  node_of (ByteSequence bytes) = tree.byte_sequence bytes.items
-  node_of (Cat' shape children) = nodes_of children
-  node_of (Alt' p left q right) = tree.alt (node_of left) (node_of right)
-  node_of (Bracket contents) = tree.bracket (class_as_spec contents)
-  node_of (StringSet alternatives icase) = tree.string_set (map (λ s. s.items) alternatives.items) icase
-  node_of MatchAny = tree.match_any
-  node_of MatchAnyExceptLineTerminator = tree.match_any_except_line_terminator
-  node_of (Anchor type multiline) = tree.anchor (spec_anchor_of type) multiline
-  node_of (WordBoundary invert unicode_icase) = tree.word_boundary invert unicode_icase
-  node_of (CaptureGroup' id p contents name) = tree.capture_group id (group_name_bytes name) (node_of contents)
-  node_of (BackRef group icase) = tree.back_ref group (tree.by_case icase)
-  node_of (CanonicalBackRef group unicode) = tree.back_ref group (tree.alike unicode)
-  node_of (LookaroundAssertion' negate backwards start_group end_group p contents) =
+  pub spec_node_of : Node → tree.Node
+  spec_node_of Empty = tree.empty
+  spec_node_of Goal = tree.goal
+  spec_node_of (Char c) = tree.char c
+  spec_node_of (CharSet members) = tree.char_set members.items
+  spec_node_of (ByteSet members) = tree.byte_set members.items
+  spec_node_of (ByteSequence bytes) = tree.byte_sequence bytes.items
+  spec_node_of (Cat' shape children) = nodes_of children
+  spec_node_of (Alt' p left q right) = tree.alt (spec_node_of left) (spec_node_of right)
+  spec_node_of (Bracket contents) = tree.bracket (class_as_spec contents)
+  spec_node_of (StringSet alternatives icase) = tree.string_set (map (λ s. s.items) alternatives.items) icase
+  spec_node_of MatchAny = tree.match_any
+  spec_node_of MatchAnyExceptLineTerminator = tree.match_any_except_line_terminator
+  spec_node_of (Anchor type multiline) = tree.anchor (spec_anchor_of type) multiline
+  spec_node_of (WordBoundary invert unicode_icase) = tree.word_boundary invert unicode_icase
+  spec_node_of (CaptureGroup' id p contents name) =
+      tree.capture_group id (group_name_bytes name) (spec_node_of contents)
+  spec_node_of (BackRef group icase) = tree.back_ref group (tree.by_case icase)
+  spec_node_of (CanonicalBackRef group unicode) = tree.back_ref group (tree.alike unicode)
+  spec_node_of (LookaroundAssertion' negate backwards start_group end_group p contents) =
       tree.lookaround (record {
         negate =
             negate;
@@ -66,19 +67,19 @@ unfoldable mutual
         start_group = start_group;
         end_group = end_group;
       })
-      (node_of contents)
-  node_of (Loop' p loopee quant enclosed) =
-      tree.loop (spec_quantifier_of quant) enclosed.start enclosed.end (node_of loopee)
-  node_of (Loop1CharBody' p loopee quant) = tree.loop_1_char_body (spec_quantifier_of quant) (node_of loopee)
+      (spec_node_of contents)
+  spec_node_of (Loop' p loopee quant enclosed) =
+      tree.loop (spec_quantifier_of quant) enclosed.start enclosed.end (spec_node_of loopee)
+  spec_node_of (Loop1CharBody' p loopee quant) = tree.loop_1_char_body (spec_quantifier_of quant) (spec_node_of loopee)
 
   pub nodes_of : {m : _} → Row_of-Node m → tree.Node
   nodes_of end_of-Node = tree.end_of_cat
-  nodes_of (more_of-Node child rest) = tree.cat (node_of child) (nodes_of rest)
+  nodes_of (more_of-Node child rest) = tree.cat (spec_node_of child) (nodes_of rest)
 
 -- A sequence of nodes.
-abbrev pub cat_of : List Node → tree.Node
-cat_of [] = tree.end_of_cat
-cat_of (node ∷ nodes) = tree.cat (node_of node) (cat_of nodes)
+abbrev pub spec_cat_of_children : List Node → tree.Node
+spec_cat_of_children [] = tree.end_of_cat
+spec_cat_of_children (node ∷ nodes) = tree.cat (spec_node_of node) (spec_cat_of_children nodes)
 
 -- The flags, as the definitions have them.
 abbrev pub spec_flags_of : Flags → tree.Flags
@@ -93,4 +94,4 @@ spec_flags_of f = record {
 
 -- The tree of a pattern.
 abbrev pub tree_of : Regex → tree.Tree
-tree_of re = record { root = node_of re.node; flags = spec_flags_of re.flags }
+tree_of re = record { root = spec_node_of re.node; flags = spec_flags_of re.flags }

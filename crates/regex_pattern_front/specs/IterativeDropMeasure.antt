@@ -2,7 +2,7 @@
 use Rattle.std.specs.Prelude.{ℕ, ◌≡◌, ◌<◌, ◌+◌, ◌*◌, ⊤, Option, Some, None, IfSome, []}
 use Rattle.regex_meaning.specs.Tree as tree
 use Rattle.regex_meaning.specs.Tree.{cat, alt, capture_group, lookaround, loop, loop_1_char_body}
-use Rattle.regex_pattern_front.specs.AstToSpecTree.{node_of}
+use Rattle.regex_pattern_front.specs.AstToSpecTree.{spec_node_of}
 use Rattle.regex_pattern_front.specs.declared.ir.Node.{Node}
 use Rattle.regex_pattern_front.specs.declared.ir.NextNodeAndRestToDrop.{NextNodeAndRestToDrop}
 use Rattle.regex_pattern_front.specs.declared.ir.NextNodeAndRestToDrop.TheVariants.{Inside, Row, Nothing}
@@ -19,7 +19,7 @@ tree_size _ = 1
 
 -- The size of a node.
 abbrev pub node_size : Node → ℕ
-node_size n = tree_size (node_of n)
+node_size n = tree_size (spec_node_of n)
 
 -- The size of the rest, if there is one.
 abbrev pub rest_size : (rest : Option Node) → ℕ

@@ -47,6 +47,7 @@ pub fn canonicalize(c: u32, unicode: bool) -> u32
     }
 }
 
+// Returns what a code point from 128 on is canonicalized to.
 #[inline(never)]
 fn canonicalize_nonascii(c: u32, unicode: bool) -> u32
     requires { 0x80 ≤ c }
@@ -74,12 +75,12 @@ fn uppercase(character: char) -> u32
     };
     match forms.next() {
         Some(_) => c,
-        None => unit_beyond_ascii_or(c, u32::from(form)),
+        None => nonascii_uppercase_unit_or_self(c, u32::from(form)),
     }
 }
 
 // Returns the uppercase form if it is one code unit beyond ASCII. Otherwise returns the code point.
-fn unit_beyond_ascii_or(c: u32, form: u32) -> u32
+fn nonascii_uppercase_unit_or_self(c: u32, form: u32) -> u32
     requires { 0x80 ≤ c }
     ensures { result ≡ uppercase_or_itself c (form ∷ []) }
 {

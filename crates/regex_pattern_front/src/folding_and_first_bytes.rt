@@ -125,14 +125,14 @@ pub fn add_utf8_first_bytes_to_bitmap(interval: Interval, bitmap: &mut ByteBitma
     let least = utf8_first_byte(interval.first.min(CODE_POINT_MAX));
     let greatest = utf8_first_byte(interval.last.min(CODE_POINT_MAX));
     for byte in least..=greatest {
-        if may_begin(byte, interval) {
+        if is_first_byte_of_char_in_interval(byte, interval) {
             bitmap.set(byte);
         }
     }
 }
 
 // Checks whether the UTF-8 of a code point of the interval begins with this byte.
-fn may_begin(byte: u8, interval: Interval) -> bool
+fn is_first_byte_of_char_in_interval(byte: u8, interval: Interval) -> bool
     ensures { result ≡ intersects (chars_with_first_byte byte) (interval_of interval ∷ []) }
 {
     let Some(begun) = chars_with_first_byte(byte) else {

@@ -3,7 +3,7 @@
 ghost use Rattle.std.specs.Prelude.{◌≡◌, ◌+◌, Some, None};
 ghost use Rattle.regex_pattern_front.specs.IterativeDropMeasure.{DecreasesDropMeasure, tree_size, node_size, drop_measure_of_size_and_rest};
 ghost use Rattle.regex_pattern_front.specs.IterativeDropMeasure.{drop_measure_of_node_and_rest};
-ghost use Rattle.regex_pattern_front.specs.AstToSpecTree.{cat_of};
+ghost use Rattle.regex_pattern_front.specs.AstToSpecTree.{spec_cat_of_children};
 ghost use Rattle.regex_pattern_front.specs.declared.ir.Node.{Node};
 
 use crate::flags::Flags;
@@ -113,12 +113,12 @@ pub enum Node {
 
 impl Node {
     ghost use Rattle.regex_pattern_front.specs.OptimizedTrees.{loop_turned_into_char_loop};
-    ghost use Rattle.regex_pattern_front.specs.AstToSpecTree.{node_of};
+    ghost use Rattle.regex_pattern_front.specs.AstToSpecTree.{spec_node_of};
 
     // Turns a loop into a loop over one character, which has no group ids. Other nodes are
     // unchanged.
     pub(crate) fn loop_turned_into_char_loop(self) -> Node
-        ensures { node_of result ≡ loop_turned_into_char_loop (node_of self) }
+        ensures { spec_node_of result ≡ loop_turned_into_char_loop (spec_node_of self) }
     {
         match self {
             Node::Loop {
@@ -131,12 +131,12 @@ impl Node {
     }
 
     // Separates the node from its children, for `Drop`.
-    fn parted(self, rest: Option<Node>) -> NextNodeAndRestToDrop
+    fn separate_node_from_children(self, rest: Option<Node>) -> NextNodeAndRestToDrop
         ensures { DecreasesDropMeasure result (drop_measure_of_node_and_rest self rest) }
     {
         match self {
-            Node::Cat(children) => parted_row(children, rest),
-            Node::Alt(left, right) => parted_alternatives(left, right, rest),
+            Node::Cat(children) => separate_last_child(children, rest),
+            Node::Alt(left, right) => separate_alternatives(left, right, rest),
             Node::CaptureGroup {
                 id: _,
                 contents,
@@ -205,7 +205,7 @@ impl Drop for Node {
     fn drop(mut self) {
         let mut rest = None;
         loop {
-            match self.parted(rest) {
+            match self.separate_node_from_children(rest) {
                 NextNodeAndRestToDrop::Inside(node, others) => {
                     self = node;
                     rest = others;
@@ -235,17 +235,18 @@ fn continue_drop_with_rest(rest: Option<Node>) -> NextNodeAndRestToDrop
 
 // Separates the last node of a list or, if there is a rest, the first one, and puts the rest in its
 // position, so that the rest is reached last.
-fn parted_row(children: Vec<Node>, rest: Option<Node>) -> NextNodeAndRestToDrop
-    ensures { DecreasesDropMeasure result (drop_measure_of_size_and_rest (tree_size (cat_of children.items)) rest) }
+fn separate_last_child(children: Vec<Node>, rest: Option<Node>) -> NextNodeAndRestToDrop
+    ensures { DecreasesDropMeasure result (drop_measure_of_size_and_rest (tree_size (spec_cat_of_children children.items)) rest) }
 {
     match rest {
-        None => popped(children),
+        None => pop_last_child(children),
         Some(link) => linked(children, link),
     }
 }
 
-fn popped(mut children: Vec<Node>) -> NextNodeAndRestToDrop
-    ensures { DecreasesDropMeasure result (drop_measure_of_size_and_rest (tree_size (cat_of children.items)) None) }
+// Separates the last child. The other children are the rest.
+fn pop_last_child(mut children: Vec<Node>) -> NextNodeAndRestToDrop
+    ensures { DecreasesDropMeasure result (drop_measure_of_size_and_rest (tree_size (spec_cat_of_children children.items)) None) }
 {
     let Some(node) = children.pop() else {
         return NextNodeAndRestToDrop::Row(children, None);
@@ -256,8 +257,9 @@ fn popped(mut children: Vec<Node>) -> NextNodeAndRestToDrop
     NextNodeAndRestToDrop::Inside(node, Some(Node::Cat(children)))
 }
 
+// Separates the first child, and puts the rest in its position.
 fn linked(mut children: Vec<Node>, link: Node) -> NextNodeAndRestToDrop
-    ensures { DecreasesDropMeasure result (drop_measure_of_size_and_rest (tree_size (cat_of children.items))
+    ensures { DecreasesDropMeasure result (drop_measure_of_size_and_rest (tree_size (spec_cat_of_children children.items))
         (Some link)) }
 {
     if children.is_empty() {
@@ -269,7 +271,7 @@ fn linked(mut children: Vec<Node>, link: Node) -> NextNodeAndRestToDrop
 
 // Separates the right alternative or, if there is a rest, the left one, and puts the rest in its
 // position.
-fn parted_alternatives(
+fn separate_alternatives(
     mut left: Box<Node>,
     right: Box<Node>,
     rest: Option<Node>,

@@ -1,7 +1,7 @@
 //! The optimizer, which introduces loops over one character.
 
 ghost use Rattle.std.specs.Prelude.{◌≡◌};
-ghost use Rattle.regex_pattern_front.specs.AstToSpecTree.{cat_of, node_of};
+ghost use Rattle.regex_pattern_front.specs.AstToSpecTree.{spec_cat_of_children, spec_node_of};
 ghost use Rattle.regex_pattern_front.specs.declared.ir.Node.TheVariants.{Alt};
 ghost use Rattle.regex_pattern_front.specs.OptimizedTrees.{reads_one_character, optimized, loop_turned_into_char_loop, rest_of_alternatives};
 ghost use Rattle.regex_pattern_front.specs.OptimizedTrees.{first_alternative_prepended_to_chain, alternatives_with_links_unreversed};
@@ -15,24 +15,25 @@ use std::mem;
 /// Turns each `Loop` over a one-character node into a `Loop1CharBody`, and changes nothing else. It
 /// allocates no memory, and uses no more stack for many alternatives than for two.
 pub fn optimize(re: &mut Regex)
-    ensures root { node_of re.new.node ≡ optimized (node_of re.old.node) }
+    ensures root { spec_node_of re.new.node ≡ optimized (spec_node_of re.old.node) }
     ensures flags { re.new.flags ≡ re.old.flags }
 {
     optimize_node(&mut re.node);
 }
 
+// Optimizes a node in place.
 #[cycle(optimize)]
 fn optimize_node(node: &mut Node)
-    ensures { node_of node.new ≡ optimized (node_of node.old) }
+    ensures { spec_node_of node.new ≡ optimized (spec_node_of node.old) }
 {
     match node {
         Node::Cat(children) => optimize_all(children),
-        Node::Alt(left, right) => optimize_row(left, right),
+        Node::Alt(left, right) => optimize_nested_alternatives(left, right),
         Node::CaptureGroup { contents, .. } => optimize_node(contents),
         Node::LookaroundAssertion { contents, .. } => optimize_node(contents),
         Node::Loop { loopee, .. } => {
             if reads_one_character(loopee) {
-                to_char_loop(node);
+                turn_into_char_loop(node);
             } else {
                 optimize_node(loopee);
             }
@@ -42,9 +43,10 @@ fn optimize_node(node: &mut Node)
     }
 }
 
+// Optimizes each node.
 #[cycle(optimize)]
 fn optimize_all(nodes: &mut Vec<Node>)
-    ensures { cat_of nodes.new.items ≡ optimized (cat_of nodes.old.items) }
+    ensures { spec_cat_of_children nodes.new.items ≡ optimized (spec_cat_of_children nodes.old.items) }
 {
     for i in 0..nodes.len() {
         optimize_node(&mut nodes[i]);
@@ -58,8 +60,8 @@ fn optimize_all(nodes: &mut Vec<Node>)
 // number can count is continued by recursion.
 #[cycle(optimize)]
 #[inline(never)]
-fn optimize_row(first: &mut Node, rest: &mut Node)
-    ensures { alt (node_of first.new) (node_of rest.new) ≡ optimized (alt (node_of first.old) (node_of rest.old)) }
+fn optimize_nested_alternatives(first: &mut Node, rest: &mut Node)
+    ensures { alt (spec_node_of first.new) (spec_node_of rest.new) ≡ optimized (alt (spec_node_of first.old) (spec_node_of rest.old)) }
 {
     optimize_node(first);
     let mut turned = 0;
@@ -77,8 +79,8 @@ fn optimize_row(first: &mut Node, rest: &mut Node)
 
 // Restores `turned` reversed alternatives, and puts them before those that follow them.
 fn restore_alternatives(done: &mut Node, rest: &mut Node, mut turned: usize)
-    ensures { alt (node_of done.new) (node_of rest.new) ≡ alternatives_with_links_unreversed turned (node_of done.old)
-        (node_of rest.old) }
+    ensures { alt (spec_node_of done.new) (spec_node_of rest.new) ≡ alternatives_with_links_unreversed turned (spec_node_of done.old)
+        (spec_node_of rest.old) }
 {
     while turned > 0 {
         move_alternative(done, rest);
@@ -89,8 +91,8 @@ fn restore_alternatives(done: &mut Node, rest: &mut Node, mut turned: usize)
 // Moves the first alternative of one chain to the front of another.
 #[inline(never)]
 fn move_alternative(from: &mut Node, to: &mut Node)
-    ensures from { node_of from.new ≡ rest_of_alternatives (node_of from.old) }
-    ensures to { node_of to.new ≡ first_alternative_prepended_to_chain (node_of from.old) (node_of to.old) }
+    ensures from { spec_node_of from.new ≡ rest_of_alternatives (spec_node_of from.old) }
+    ensures to { spec_node_of to.new ≡ first_alternative_prepended_to_chain (spec_node_of from.old) (spec_node_of to.old) }
     ensures part { (left right : _) → from.old ≡ Alt left right → from.new ≡ right.value }
 {
     if let Node::Alt(_, right) = from {
@@ -101,8 +103,8 @@ fn move_alternative(from: &mut Node, to: &mut Node)
 
 // Turns a loop into a loop over one character.
 #[inline(never)]
-fn to_char_loop(node: &mut Node)
-    ensures { node_of node.new ≡ loop_turned_into_char_loop (node_of node.old) }
+fn turn_into_char_loop(node: &mut Node)
+    ensures { spec_node_of node.new ≡ loop_turned_into_char_loop (spec_node_of node.old) }
 {
     let taken = mem::replace(node, Node::Empty);
     *node = taken.loop_turned_into_char_loop();
@@ -110,9 +112,9 @@ fn to_char_loop(node: &mut Node)
 
 /// Checks whether a node reads one character, which it accepts or rejects. `optimize` changes
 /// exactly the loops over such nodes.
-#[tactic(auto, unfolding(crate::specs::AstToSpecTree::node_of))]
+#[tactic(auto, unfolding(crate::specs::AstToSpecTree::spec_node_of))]
 pub fn reads_one_character(node: &Node) -> bool
-    ensures { result ≡ reads_one_character (node_of node.now) }
+    ensures { result ≡ reads_one_character (spec_node_of node.now) }
 {
     match node {
         Node::Char { .. } => true,

@@ -14,7 +14,7 @@ use Rattle.regex_meaning.specs.Outcomes.{Groups}
 use Rattle.regex_meaning.specs.OutcomesWithStepTicks.{items_at, ticks_to_first}
 use Rattle.regex_meaning.specs.CompilationRelation.{Program}
 use Rattle.regress_machine.specs.Machine.{Found, running, search}
-use Rattle.regress_machine.specs.SearchFindsFirstOutcomeAtPlace.{state_before_first_insn, end_of, first_pair, end_in_offsets, TreeProgramCanSearchText, sufficient_turns_at}
+use Rattle.regress_machine.specs.SearchFindsFirstOutcomeAtPlace.{state_before_first_insn, end_of, first_outcome_among_ticks, end_in_offsets, TreeProgramCanSearchText, sufficient_turns_at}
 use Rattle.regress_machine.proofs.MachineSearchLemmas.{search_more}
 use Rattle.regress_machine.proofs.TreeCodeOutcomes.{searches-find}
 use Rattle.regress_search.specs.AttemptsAndStarts.{match_end_and_groups_at, end_with_groups, ticks_of_attempt_at}
@@ -23,42 +23,42 @@ use Rattle.regress_search.specs.SearchEffects.{cause_of_error}
 use Rattle.regress_search.specs.declared.exec.SearchError.{SearchError}
 use Rattle.regress_search.specs.declared.exec.SearchError.TheVariants.{Memory, StepLimit}
 use Rattle.regress_backtrack.specs.declared.state.GroupOrLoopState.{GroupOrLoopState}
-use Rattle.regress_backtrack.specs.State.{StateModel, current_thread_state_of, state_in, initial_slot, initial_slots, range_in, loop_data_in_slot}
+use Rattle.regress_backtrack.specs.State.{StateModel, current_thread_state_of, machine_state_with_slots, initial_slot, initial_slots, range_of_group_slot, loop_data_in_slot}
 use Rattle.regress_search.specs.TreePlanAndText.{SearchInput, program_of}
-use Rattle.regress_backtrack.specs.SearchProgress.{fuel_to, fuel_for, found_from_state, HasSearched, NeedStepsAtLeast}
+use Rattle.regress_backtrack.specs.SearchProgress.{fuel_up_to_place, fuel_for_whole_text, found_from_state, HasSearched, NeedStepsAtLeast}
 use Rattle.regress_backtrack.specs.StepsTakenFromBudget.{Budget, AreStepsTakenFromBudget, AreStepsRefused, HasStopped, step_limit}
 use Rattle.regress_backtrack.proofs.StepBudgetLemmas.{taken-none}
 
 -- ---- The initial state
 
-begun : (program : Program) (groups loops at : ℕ) → groups ≡ program.groups → loops ≡ program.loops → state_in groups (initial_slots groups loops at) 0 at ≡ state_before_first_insn program at
+begun : (program : Program) (groups loops at : ℕ) → groups ≡ program.groups → loops ≡ program.loops → machine_state_with_slots groups (initial_slots groups loops at) 0 at ≡ state_before_first_insn program at
 begun program groups loops at g l =
     let slot = initial_slot at in
     let row = initial_slots groups loops at in
     let first : take groups row ≡ replicate groups slot = take-replicate groups loops slot in
     let others : drop groups row ≡ replicate loops slot = drop-replicate groups loops slot in
-    let a = ap (map range_in) first ∙ map-replicate range_in groups slot ∙ ap (λ n. replicate n None) g in
+    let a = ap (map range_of_group_slot) first ∙ map-replicate range_of_group_slot groups slot ∙ ap (λ n. replicate n None) g in
     let b = ap (map (λ (s : GroupOrLoopState). s.at)) first ∙ map-replicate (λ (s : GroupOrLoopState). s.at) groups slot ∙ ap (λ n. replicate n at) g in
     let c = ap (map loop_data_in_slot) others ∙ map-replicate loop_data_in_slot loops slot ∙ ap (λ n. replicate n (record { iters = 0; entry = at })) l in
     ap (λ gs. record { ip = 0; pos = at; groups = gs; starts = map (λ (s : GroupOrLoopState). s.at) (take groups row); loops = map loop_data_in_slot (drop groups row) }) a
     ∙ ap (λ ss. record { ip = 0; pos = at; groups = replicate program.groups None; starts = ss; loops = map loop_data_in_slot (drop groups row) }) b
     ∙ ap (λ ls. record { ip = 0; pos = at; groups = replicate program.groups None; starts = replicate program.groups at; loops = ls }) c
 
-pub first-state : (program : Program) (groups loops n at : ℕ) → n ≡ at → groups ≡ program.groups → loops ≡ program.loops → state_in groups (initial_slots groups loops n) 0 at ≡ state_before_first_insn program at
-first-state program groups loops n at same g l = ap (λ n. state_in groups (initial_slots groups loops n) 0 at) same ∙ begun program groups loops at g l
+pub first-state : (program : Program) (groups loops n at : ℕ) → n ≡ at → groups ≡ program.groups → loops ≡ program.loops → machine_state_with_slots groups (initial_slots groups loops n) 0 at ≡ state_before_first_insn program at
+first-state program groups loops n at same g l = ap (λ n. machine_state_with_slots groups (initial_slots groups loops n) 0 at) same ∙ begun program groups loops at g l
 
 -- ---- Turns
 
-turns-here : (tree : Tree) (text : Text) (place : ℕ) → sufficient_turns_at tree text place ≤ fuel_to tree text place
+turns-here : (tree : Tree) (text : Text) (place : ℕ) → sufficient_turns_at tree text place ≤ fuel_up_to_place tree text place
 turns-here tree text zero = omega arith
 turns-here tree text (suc place) = omega arith
 
-turns-on : (tree : Tree) (text : Text) (place k most : ℕ) → most ≡ place + k → sufficient_turns_at tree text place ≤ fuel_to tree text most
-turns-on tree text place zero most e = let same : place ≡ most = omega (arith, e) in subst (λ m. sufficient_turns_at tree text place ≤ fuel_to tree text m) same (turns-here tree text place)
+turns-on : (tree : Tree) (text : Text) (place k most : ℕ) → most ≡ place + k → sufficient_turns_at tree text place ≤ fuel_up_to_place tree text most
+turns-on tree text place zero most e = let same : place ≡ most = omega (arith, e) in subst (λ m. sufficient_turns_at tree text place ≤ fuel_up_to_place tree text m) same (turns-here tree text place)
 turns-on tree text place (suc k) zero e = absurd (omega (arith, e))
 turns-on tree text place (suc k) (suc m) e = let h = turns-on tree text place k m (omega (arith, e)) in omega (arith, h)
 
-turns-below : (tree : Tree) (text : Text) (place most : ℕ) → place ≤ most → sufficient_turns_at tree text place ≤ fuel_to tree text most
+turns-below : (tree : Tree) (text : Text) (place most : ℕ) → place ≤ most → sufficient_turns_at tree text place ≤ fuel_up_to_place tree text most
 turns-below tree text place most le = turns-on tree text place (most - place) most (omega (arith, le))
 
 -- ---- The search
@@ -78,12 +78,12 @@ begins w at can on = by (place_at w.text at) refl on
     by (Some p) e on =
         let place = offset-place_at w.text at p can.is_text e in
         let first = searches-find (program_of w) w.tree w.text can p place.1 in
-        let more = search_more (program_of w) w.text (sufficient_turns_at w.tree w.text p) (fuel_for w.tree w.text) (turns-below w.tree w.text p (last_place w.text) place.1) rightwards
+        let more = search_more (program_of w) w.text (sufficient_turns_at w.tree w.text p) (fuel_for_whole_text w.tree w.text) (turns-below w.tree w.text p (last_place w.text) place.1) rightwards
         (running (state_before_first_insn (program_of w) (offset w.text p)) ∷ []) first.found first.searches in
         record {
           found = first.found;
-          searches = ap (λ at. search (program_of w) w.text (fuel_for w.tree w.text) rightwards (running (state_before_first_insn (program_of w) at) ∷ [])) (sym place.0) ∙ more;
-          end = first.end ∙ sym (ap (λ o. option_and_then (λ place. option_map (end_in_offsets w.text) (first_pair (items_at w.tree w.text place))) o) e);
+          searches = ap (λ at. search (program_of w) w.text (fuel_for_whole_text w.tree w.text) rightwards (running (state_before_first_insn (program_of w) at) ∷ [])) (sym place.0) ∙ more;
+          end = first.end ∙ sym (ap (λ o. option_and_then (λ place. option_map (end_in_offsets w.text) (first_outcome_among_ticks (items_at w.tree w.text place))) o) e);
           steps = first.steps ∙ sym (ap (λ o. option_map_or (λ place. ticks_to_first (items_at w.tree w.text place)) o 0) e);
         }
 

@@ -8,7 +8,7 @@ use Rattle.regex_meaning.specs.Tree.{exact}
 use Rattle.regex_meaning.specs.Outcomes.{is_same}
 use Rattle.regex_meaning.specs.Text.{Text, rightwards, characters_ahead, moved}
 use Rattle.regex_meaning.specs.CodeUnitOffsets.{IsBoundary, offset}
-use Rattle.regex_meaning.specs.CodeUnits.{Encoding, spelled_in, text_units_in_encoding}
+use Rattle.regex_meaning.specs.CodeUnits.{Encoding, code_units_of_character, text_units_in_encoding}
 use Rattle.regex_meaning.proofs.CodeUnitOffsetsLemmas.{IsBoundary-place, place-less}
 use Rattle.regress_input.specs.CharAndByteReadsFromOffset.{place, past_spelled_if_next}
 use Rattle.regress_input.proofs.ListRangeLemmas.{slice-first}
@@ -28,17 +28,17 @@ never false x = refl
 module _ (e : Encoding) (text : Text) (has : HasUnitsForTables e text) where
   -- The character at a boundary begins with the code unit there.
   begun : (at unit : ℕ) → IsBoundary text at → slice_get (text_units_in_encoding e text) at ≡ Some unit
-      → (c : ℕ) × (slice_get text.characters (place text at) ≡ Some c) × (slice_get (spelled_in e c) 0 ≡ Some unit)
+      → (c : ℕ) × (slice_get text.characters (place text at) ≡ Some c) × (slice_get (code_units_of_character e c) 0 ≡ Some unit)
   begun at unit on there = by (slice_get text.characters (place text at)) refl
     where
       first : Option ℕ → Option ℕ
-      first = option_and_then (λ c. slice_get (spelled_in e c) 0)
+      first = option_and_then (λ c. slice_get (code_units_of_character e c) 0)
 
       is_first : slice_get (text_units_in_encoding e text) at ≡ first (slice_get text.characters (place text at))
       is_first = unit-there e text has.is_text has.spelled at (place text at) (placed text at on)
 
       by : (o : Option ℕ) → slice_get text.characters (place text at) ≡ o
-          → (c : ℕ) × (slice_get text.characters (place text at) ≡ Some c) × (slice_get (spelled_in e c) 0 ≡ Some unit)
+          → (c : ℕ) × (slice_get text.characters (place text at) ≡ Some c) × (slice_get (code_units_of_character e c) 0 ≡ Some unit)
       by None is = let none : None ≡ Some unit = sym (ap first is) ∙ sym is_first ∙ there in cc
       by (Some c) is = (c, is, sym (ap first is) ∙ sym is_first ∙ there)
 
@@ -66,7 +66,7 @@ module _ (e : Encoding) (text : Text) (has : HasUnitsForTables e text) where
       let n = length (slice_range text.characters (suc p) (suc p + m)) in
       let long = places-less from to on_from on_to less in
       let end : place text to ≡ p + suc m = omega (arith, long) in
-      let differs : c.0 ≡ d.0 → ⊥ = λ same. other (let both : Some u ≡ Some v = sym c.2 ∙ ap (λ c. slice_get (spelled_in e c) 0) same ∙ d.2 in cc) in
+      let differs : c.0 ≡ d.0 → ⊥ = λ same. other (let both : Some u ≡ Some v = sym c.2 ∙ ap (λ c. slice_get (code_units_of_character e c) 0) same ∙ d.2 in cc) in
       never (nat_le (suc n) (characters_ahead text rightwards k)) (offset text (moved text rightwards (suc n) k))
       ∙ sym (ap (λ b. if nat_le (suc n) (characters_ahead text rightwards k)
       && (b && pointwise (is_same text exact) (slice_range text.characters (suc p) (suc p + m)) (slice_range text.characters (suc k) (suc k + n)))

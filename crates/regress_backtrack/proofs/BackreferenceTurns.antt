@@ -15,7 +15,7 @@ use Rattle.regress_machine.proofs.OffsetsInsideText.{offset-inside}
 use Rattle.regress_search.proofs.TextReadLemmas.{nothing-read, group-read}
 use Rattle.regress_machine.proofs.ThreadSimulationLemmas.{simulates-goes}
 use Rattle.regress_backtrack.specs.State.{StateModel, current_thread_state_of}
-use Rattle.regress_backtrack.specs.StateTransitions.{SearchModel, Transitions}
+use Rattle.regress_backtrack.specs.StateTransitions.{SearchModel, TakesThreadTransition}
 use Rattle.regress_backtrack.proofs.StateTransitionLemmas.{unchanged}
 
 -- ---- Backreferences
@@ -41,14 +41,14 @@ module _ (r : SearchModel) (is : HasRisingPlaceOffsets r.text) (ip at : ℕ) (h 
       pub can-read : IsNotStuck (read_group r.text sameness r.direction range here)
       can-read = subst IsNotStuck reads can
 
-    pub reads-nothing : slice_get here.groups g ≡ Some None → Transitions r 1 ip at h h (Some (record { ip = ip + 1; at = at }))
+    pub reads-nothing : slice_get here.groups g ≡ Some None → TakesThreadTransition r 1 ip at h h (Some (record { ip = ip + 1; at = at }))
     reads-nothing known =
         unchanged r 1 ip at h (Some (record { ip = ip + 1; at = at })) (omega arith)
         (simulates-goes r.program r.text r.exact r.direction here _ (reads None known ∙ sym (nothing-read r.text is sameness r.direction here (can-read None known))))
 
     pub reads-again : (from to : ℕ) → slice_get here.groups g ≡ Some (Some (from, to)) → (found : Option ℕ)
         → found ≡ past_spelled_if_next r.text (is_same r.text sameness) (characters_between r.text from to) r.direction at
-        → Transitions r 1 ip at h h (option_map (λ at. record { ip = ip + 1; at = at }) found)
+        → TakesThreadTransition r 1 ip at h h (option_map (λ at. record { ip = ip + 1; at = at }) found)
     reads-again from to known None e =
         unchanged r 1 ip at h None (omega arith)
         (simulates-goes r.program r.text r.exact r.direction here _

@@ -40,7 +40,7 @@ use Rattle.regress_backtrack.specs.declared.position_and_result.ThreadPos.{Threa
 use Rattle.regress_backtrack.specs.declared.failure_memo.RecordKey.{RecordKey as Stored}
 use Rattle.regress_backtrack.specs.State.{StateModel, current_thread_state_of}
 use Rattle.regress_backtrack.specs.FailuresInMemoTable.{scheme_of}
-use Rattle.regress_backtrack.specs.FailureMemo.{MemoScheme, AreFailuresSound, IsLoopRestKey, loop_rest, memo_key_as_spec}
+use Rattle.regress_backtrack.specs.FailureMemo.{MemoScheme, AreFailuresSound, IsLoopRestKey, threads_of_loop_rest, memo_key_as_spec}
 use Rattle.regress_backtrack.specs.MemoizedCharLoops.{DecidesLoopRest}
 use Rattle.regress_backtrack.proofs.ThreadKeyLemmas.{agrees-itself, heads}
 
@@ -100,7 +100,7 @@ module _ (t : MemoAnalysis) (text : Text) (is : HasRisingPlaceOffsets text) (d :
     count-is : passing text test d place + 1 - 0 ≡ passing text test d place + 1
     count-is = omega arith
 
-    run-sound : (greedy : Bool) → AlikeThreads Agreeing (loop_rest text greedy test d place s) (loop_rest text greedy test d place s)
+    run-sound : (greedy : Bool) → AlikeThreads Agreeing (threads_of_loop_rest text greedy test d place s) (threads_of_loop_rest text greedy test d place s)
     run-sound true =
         subst (λ m. AlikeThreads Agreeing (first_running_and_others_waiting (most_first text d place s 0 m)) (first_running_and_others_waiting (most_first text d place s 0 m))) (sym count-is)
         (in-turn-alike Agreeing at-place _ (Each-reverse _ _ each-sound))
@@ -137,12 +137,12 @@ module _ (program : Program) (text : Text) (t : MemoAnalysis) (of : IsAnalysisOf
       let same : k ≡ own = r.key ∙ (let e : key_of (plan_code (key_code_questions_of t)) u ≡ own = cc in e) in
       let sound = run-sound t text is d r.test r.place r.within s r.sound r.greedy in
       subst (λ us. KeyStandsFor program text (analysis_as_liveness t) (analysis_keys program text t) d k us) (sym r.are)
-      (subst (λ j. KeyStandsFor program text (analysis_as_liveness t) (analysis_keys program text t) d j (loop_rest text r.greedy r.test d r.place s)) (sym same) (by r.greedy sound rec))
+      (subst (λ j. KeyStandsFor program text (analysis_as_liveness t) (analysis_keys program text t) d j (threads_of_loop_rest text r.greedy r.test d r.place s)) (sym same) (by r.greedy sound rec))
     where
-      by : (greedy : Bool) → AlikeThreads (λ u v. Agree (analysis_as_liveness t) (units text) outermost d u v) (loop_rest text greedy r.test d r.place r.state) (loop_rest text greedy r.test d r.place r.state)
+      by : (greedy : Bool) → AlikeThreads (λ u v. Agree (analysis_as_liveness t) (units text) outermost d u v) (threads_of_loop_rest text greedy r.test d r.place r.state) (threads_of_loop_rest text greedy r.test d r.place r.state)
           → CharLoopRecords program (analysis_as_liveness t) (key_code_questions_of t) (insn_direction t) (recorded t) d r.test greedy r.state.ip
           → KeyStandsFor program text (analysis_as_liveness t) (analysis_keys program text t) d
-          (run_key program text (analysis_as_liveness t) (key_code_questions_of t) (insn_direction t) (recorded t) (plan_steps_below_record program) d r.place r.state) (loop_rest text greedy r.test d r.place r.state)
+          (run_key program text (analysis_as_liveness t) (key_code_questions_of t) (insn_direction t) (recorded t) (plan_steps_below_record program) d r.place r.state) (threads_of_loop_rest text greedy r.test d r.place r.state)
       by true sound rec =
           (runs-have-keys program text (analysis_as_liveness t) (key_code_questions_of t) (insn_direction t) (recorded t) (plan_steps_below_record program) d r.test r.place r.state is r.within r.of).greedy rec sound
       by false sound rec =

@@ -10,7 +10,7 @@ use Rattle.regex_meaning.specs.CompilationRelation.{MatchAnyExceptLineTerminator
 use Rattle.regex_meaning.specs.CompilationRelation.{EnterLoop, LoopAgain, ResetCaptureGroup, Loop1CharBody, BeginCaptureGroup, EndCaptureGroup, BackRef}
 use Rattle.regex_meaning.specs.CompilationRelation.{Lookahead, Lookbehind}
 use Rattle.regress_machine.specs.Machine.{LoopData, State, Thread, waiting, Next, goes, asks, with_some, only_if, go, go_if, range_swapped_if_leftwards, test_of}
-use Rattle.regress_machine.specs.Machine.{state_with_ip, state_at_next_ip, first_running_and_others_waiting, preferring, iterate_or_leave_at_loop_head}
+use Rattle.regress_machine.specs.Machine.{state_with_ip, state_at_next_ip, first_running_and_others_waiting, choice_in_order_of_greediness, iterate_or_leave_at_loop_head}
 use Rattle.regress_machine.specs.Machine.{effect_at_iteration_end, loop_again_effect, after_lookaround, read_one, stay_if, scan, act_on, act, search}
 use Rattle.regress_memo.specs.ThreadBisimulation.{AlikeThreads, AlikeEnds, AlikeAnswers, AlikeNext, IsBisimulation}
 use Rattle.regress_memo.proofs.LivenessLemmas.{BothThere, both-there}
@@ -68,7 +68,7 @@ module _ (s : State) (gs : Groups) (ss : List ℕ) (g : length s.groups ≡ leng
     again s = record s { ip = begin + 1; loops = slice_set s.loops f.loop_id (record { iters = k; entry = s.pos }) }
 
     abbrev ways : State → (greedy more out : Bool) → List Thread
-    ways s greedy more out = first_running_and_others_waiting (preferring greedy (if more then again s ∷ [] else []) (if out then state_with_ip f.exit s ∷ [] else []))
+    ways s greedy more out = first_running_and_others_waiting (choice_in_order_of_greediness greedy (if more then again s ∷ [] else []) (if out then state_with_ip f.exit s ∷ [] else []))
 
     again-differ : Differ (again s) (again t)
     again-differ = moved-differ (begin + 1) s.pos (slice_set s.loops f.loop_id (record { iters = k; entry = s.pos }))

@@ -11,20 +11,20 @@ use Rattle.regress_input.proofs.BoundaryPositions.{boundary_inside}
 use Rattle.regress_machine.specs.SearchFindsFirstOutcomeAtPlace.{TreeProgramCanSearchText}
 use Rattle.regress_machine.specs.FirstSetTables.{HasUnitsForTables}
 use Rattle.regress_program.specs.declared.leap.Leap.{Leap}
-use Rattle.regress_program.specs.Leaps.{leap_to_goal, IsLeap}
+use Rattle.regress_program.specs.Leaps.{leap_to_goal, IsLeapRightForProgram}
 use Rattle.regress_program.specs.Leaps.{HasBarrierBetween}
 use Rattle.regress_program.specs.TableKeysOfUnits.{is_16_bit_encoding}
 use Rattle.regress_program.proofs.LeapCertificatesLemmas.{starts-cut-off, starts-without}
 use Rattle.regress_search.specs.AttemptsAndStarts.{NextStartSkipsNoMatch, NoMatchAt, NoMatchStartsBetween}
 use Rattle.regress_search.proofs.FirstMatchLemmas.{vain-at}
 use Rattle.regress_search.specs.TreePlanAndText.{SearchInput, program_of}
-use Rattle.regress_search.specs.Leaping.{LeapLeads}
+use Rattle.regress_search.specs.Leaping.{IsTargetOfLeap}
 use Rattle.regress_search.specs.declared.leaping.LeapTarget.{LeapTarget}
 use Rattle.regress_backtrack.specs.LeapMemory.{NoMatchBeforeLeapTarget}
 
 -- No match begins before the target of a leap.
 pub leap-excludes : (w : SearchInput) → HasUnitsForTables w.encoding w.text → TreeProgramCanSearchText (program_of w) w.tree w.text → (leap : Leap)
-    → IsLeap (is_16_bit_encoding w.encoding) (program_of w) leap → (from : ℕ) (target : Option LeapTarget) → LeapLeads w leap from target
+    → IsLeapRightForProgram (is_16_bit_encoding w.encoding) (program_of w) leap → (from : ℕ) (target : Option LeapTarget) → IsTargetOfLeap w leap from target
     → NextStartSkipsNoMatch w.tree w.text from (option_map (λ t. t.to) target)
 leap-excludes w has can leap is from None absent = λ at on le less.
     let p = IsBoundary-place w.text at has.is_text on in

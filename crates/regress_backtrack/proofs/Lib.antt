@@ -24,6 +24,9 @@ pub mod CharLoopChoicePointLemmas
 pub mod LazyLoopTurns
 pub mod AlternationTurns
 pub mod OpExecutionLemmas
+pub mod PaidScanLemmas
+pub mod OpWorkLemmas
+pub mod PaidResumptionLemmas
 pub mod LookaheadVerdictTurns
 pub mod PossessiveLoopTurns
 mod BackreferenceMismatch

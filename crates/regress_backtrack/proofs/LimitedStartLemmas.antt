@@ -19,15 +19,15 @@ use Rattle.regress_machine.specs.TextsForBytePrograms.{HasUtf8CharactersAndOffse
 use Rattle.regress_machine.proofs.AdjacentCharacterBytes.{bytes_near-side, offset-inside}
 use Rattle.regress_program.specs.StartPredicates.{is_anchored_predicate}
 use Rattle.regress_program.proofs.StartPredicatesLemmas.{anchored-predicate}
-use Rattle.regress_search.specs.AttemptsAndStarts.{NextStartSkipsNoMatch, NoMatchAt, NoMatchStartsBetween, first_of_places, first_filtered_start}
+use Rattle.regress_search.specs.AttemptsAndStarts.{NextStartSkipsNoMatch, NoMatchAt, NoMatchStartsBetween, offset_of_first_place, first_filtered_start}
 use Rattle.regress_search.specs.AttemptsAndStarts.{next_filtered_start}
 use Rattle.regress_search.specs.AttemptsAndStarts.{filtered_start_after}
 use Rattle.regress_search.proofs.SkippedStartLemmas.{untried}
 use Rattle.regress_search.proofs.FirstMatchLemmas.{read-inside, read-end}
 use Rattle.regress_search.proofs.StartPredicateLemmas.{ruled-out, anchored-behind, one-on}
 use Rattle.regress_search.proofs.TextReadLemmas.{literal-read}
-use Rattle.regress_machine.specs.Machine.{State, go_if, has_bytes}
-use Rattle.regress_backtrack.specs.LimitedStarts.{lets_through, IsFirstTried, IsNextTried}
+use Rattle.regress_machine.specs.Machine.{State, go_if, occurs_beside_offset}
+use Rattle.regress_backtrack.specs.LimitedStarts.{admits_start, IsFirstTriedStart, IsTriedStartAfterFailure}
 
 -- ---- The text at a place
 
@@ -77,7 +77,7 @@ module _ (text : Text) (is : HasRisingPlaceOffsets text) (reads : HasUtf8Charact
       let p = place-of at on in
       let inside = offset-inside text reads (place text at) p.1 in
       let s : State = record { ip = 0; pos = at; groups = []; starts = []; loops = [] } in
-      same-go found (has_bytes (encode_utf8_all text.characters) rightwards bytes at) _ _ (literal-read text bytes rightwards s found to (let e = p.0 in omega (arith, inside, e)) led)
+      same-go found (occurs_beside_offset (encode_utf8_all text.characters) rightwards bytes at) _ _ (literal-read text bytes rightwards s found to (let e = p.0 in omega (arith, inside, e)) led)
       ∙ ap (λ (l : List ℕ). starts_with nat_eq l bytes) (bytes-there at on)
 
   -- The same holds for a byte that is read where code units are bytes.
@@ -144,13 +144,13 @@ module _ (tree : Tree) (text : Text) (is : HasRisingPlaceOffsets text) where
     is_the : start_predicate tree ≡ s
     places : (q : ℕ) → tried_places tree text s q ≡ filter (may_start s text) (numbers_from q (last_place text + 1 - q))
 
-  first-from : (s : StartPredicate) → GoesBy s → (n p : ℕ) → p ≤ last_place text → p + n ≡ last_place text + 1 → first_filtered_start tree text (offset text p) ≡ first_of_places text (among s n p)
+  first-from : (s : StartPredicate) → GoesBy s → (n p : ℕ) → p ≤ last_place text → p + n ≡ last_place text + 1 → first_filtered_start tree text (offset text p) ≡ offset_of_first_place text (among s n p)
   first-from s by n p inside whole =
       let m : last_place text + 1 - p ≡ n = omega (arith, whole) in
-      ap (option_and_then (λ place. first_of_places text (tried_places tree text (start_predicate tree) place))) (place_at-offset text p is inside)
-      ∙ ap (λ (s : StartPredicate). first_of_places text (tried_places tree text s p)) by.is_the
-      ∙ ap (first_of_places text) (by.places p)
-      ∙ ap (λ m. first_of_places text (among s m p)) m
+      ap (option_and_then (λ place. offset_of_first_place text (tried_places tree text (start_predicate tree) place))) (place_at-offset text p is inside)
+      ∙ ap (λ (s : StartPredicate). offset_of_first_place text (tried_places tree text s p)) by.is_the
+      ∙ ap (offset_of_first_place text) (by.places p)
+      ∙ ap (λ m. offset_of_first_place text (among s m p)) m
 
   prefix : (s : StartPredicate) (n p : ℕ) (b : Bool) → may_start s text p ≡ b → among s (suc n) p ≡ (if b then p ∷ among s n (p + 1) else among s n (p + 1))
   prefix s n p b e = ap (λ b. if b then p ∷ among s n (p + 1) else among s n (p + 1)) e
@@ -158,7 +158,7 @@ module _ (tree : Tree) (text : Text) (is : HasRisingPlaceOffsets text) where
   here-open : (s : StartPredicate) → GoesBy s → (p : ℕ) → p ≤ last_place text → may_start s text p ≡ true → first_filtered_start tree text (offset text p) ≡ Some (offset text p)
   here-open s by p inside e =
       first-from s by (suc (last_place text - p)) p inside (omega (arith, inside))
-      ∙ ap (first_of_places text) (prefix s (last_place text - p) p true e)
+      ∙ ap (offset_of_first_place text) (prefix s (last_place text - p) p true e)
 
   on-open : (s : StartPredicate) → GoesBy s → (p : ℕ) → p ≤ last_place text → may_start s text p ≡ false
       → first_filtered_start tree text (offset text p) ≡ option_and_then (λ (r : ℕ × ℕ). first_filtered_start tree text r.1) (read text rightwards (offset text p))
@@ -167,29 +167,29 @@ module _ (tree : Tree) (text : Text) (is : HasRisingPlaceOffsets text) where
       cases : (n : ℕ) → last_place text - p ≡ n → first_filtered_start tree text (offset text p) ≡ option_and_then (λ (r : ℕ × ℕ). first_filtered_start tree text r.1) (read text rightwards (offset text p))
       cases zero left =
           first-from s by (suc zero) p inside (omega (arith, inside, left))
-          ∙ ap (first_of_places text) (prefix s zero p false e)
+          ∙ ap (offset_of_first_place text) (prefix s zero p false e)
           ∙ ap (option_and_then (λ (r : ℕ × ℕ). first_filtered_start tree text r.1)) (sym (read-end tree text is p inside (omega (arith, left))))
       cases (suc n) left =
           first-from s by (suc (suc n)) p inside (omega (arith, inside, left))
-          ∙ ap (first_of_places text) (prefix s (suc n) p false e)
+          ∙ ap (offset_of_first_place text) (prefix s (suc n) p false e)
           ∙ sym (first-from s by (suc n) (p + 1) (omega (arith, left)) (omega (arith, inside, left)))
           ∙ ap (option_and_then (λ (r : ℕ × ℕ). first_filtered_start tree text r.1)) (sym (read-inside tree text is p (omega (arith, left))).1)
 
   first-anchored : start_predicate tree ≡ start_anchored → (p : ℕ) → p ≤ last_place text → first_filtered_start tree text (offset text p) ≡ Some (offset text p)
   first-anchored e p inside =
-      ap (option_and_then (λ place. first_of_places text (tried_places tree text (start_predicate tree) place))) (place_at-offset text p is inside)
-      ∙ ap (λ (s : StartPredicate). first_of_places text (tried_places tree text s p)) e
-      ∙ ap (λ b. first_of_places text (if b then p ∷ [] else [])) (le-leb p (last_place text) inside)
+      ap (option_and_then (λ place. offset_of_first_place text (tried_places tree text (start_predicate tree) place))) (place_at-offset text p is inside)
+      ∙ ap (λ (s : StartPredicate). offset_of_first_place text (tried_places tree text s p)) e
+      ∙ ap (λ b. offset_of_first_place text (if b then p ∷ [] else [])) (le-leb p (last_place text) inside)
 
   -- A place that the predicate accepts is tried.
-  here : (s : StartPredicate) → start_predicate tree ≡ s → (p : ℕ) → p ≤ last_place text → lets_through s text p ≡ true → first_filtered_start tree text (offset text p) ≡ Some (offset text p)
+  here : (s : StartPredicate) → start_predicate tree ≡ s → (p : ℕ) → p ≤ last_place text → admits_start s text p ≡ true → first_filtered_start tree text (offset text p) ≡ Some (offset text p)
   here start_arbitrary e p inside h = here-open start_arbitrary (record { is_the = e; places = λ q. refl }) p inside h
   here (start_byte_set members) e p inside h = here-open (start_byte_set members) (record { is_the = e; places = λ q. refl }) p inside h
   here (start_byte_sequence bytes) e p inside h = here-open (start_byte_sequence bytes) (record { is_the = e; places = λ q. refl }) p inside h
   here start_anchored e p inside h = first-anchored e p inside
 
   -- A place that it rejects is skipped, and the search goes on at the next character.
-  on : (s : StartPredicate) → start_predicate tree ≡ s → (p : ℕ) → p ≤ last_place text → lets_through s text p ≡ false
+  on : (s : StartPredicate) → start_predicate tree ≡ s → (p : ℕ) → p ≤ last_place text → admits_start s text p ≡ false
       → first_filtered_start tree text (offset text p) ≡ option_and_then (λ (r : ℕ × ℕ). first_filtered_start tree text r.1) (read text rightwards (offset text p))
   on start_arbitrary e p inside h = on-open start_arbitrary (record { is_the = e; places = λ q. refl }) p inside h
   on (start_byte_set members) e p inside h = on-open (start_byte_set members) (record { is_the = e; places = λ q. refl }) p inside h
@@ -197,18 +197,18 @@ module _ (tree : Tree) (text : Text) (is : HasRisingPlaceOffsets text) where
   on start_anchored e p inside h = cc
 
   -- The same holds at offsets.
-  pub tried-here : (s : StartPredicate) → start_predicate tree ≡ s → (at : ℕ) → IsBoundary text at → lets_through s text (place text at) ≡ true → first_filtered_start tree text at ≡ Some at
+  pub tried-here : (s : StartPredicate) → start_predicate tree ≡ s → (at : ℕ) → IsBoundary text at → admits_start s text (place text at) ≡ true → first_filtered_start tree text at ≡ Some at
   tried-here s e at b h =
       let p = IsBoundary-place text at is b in
       let same : place text at ≡ p.0 = ap (λ o. unwrap_or o 0) p.1 in
-      subst (λ a. first_filtered_start tree text a ≡ Some a) p.2 (here s e p.0 p.3 (ap (lets_through s text) (sym same) ∙ h))
+      subst (λ a. first_filtered_start tree text a ≡ Some a) p.2 (here s e p.0 p.3 (ap (admits_start s text) (sym same) ∙ h))
 
-  pub tried-on : (s : StartPredicate) → start_predicate tree ≡ s → (at : ℕ) → IsBoundary text at → lets_through s text (place text at) ≡ false
+  pub tried-on : (s : StartPredicate) → start_predicate tree ≡ s → (at : ℕ) → IsBoundary text at → admits_start s text (place text at) ≡ false
       → first_filtered_start tree text at ≡ option_and_then (λ (r : ℕ × ℕ). first_filtered_start tree text r.1) (read text rightwards at)
   tried-on s e at b h =
       let p = IsBoundary-place text at is b in
       let same : place text at ≡ p.0 = ap (λ o. unwrap_or o 0) p.1 in
-      subst (λ a. first_filtered_start tree text a ≡ option_and_then (λ (r : ℕ × ℕ). first_filtered_start tree text r.1) (read text rightwards a)) p.2 (on s e p.0 p.3 (ap (lets_through s text) (sym same) ∙ h))
+      subst (λ a. first_filtered_start tree text a ≡ option_and_then (λ (r : ℕ × ℕ). first_filtered_start tree text r.1) (read text rightwards a)) p.2 (on s e p.0 p.3 (ap (admits_start s text) (sym same) ∙ h))
 
   -- ---- No match begins at a place that is skipped
 
@@ -237,23 +237,23 @@ module _ (tree : Tree) (text : Text) (is : HasRisingPlaceOffsets text) where
   with-vain at (Some to) vain n = (n.0, (let l = n.1 in omega (arith, l)), none-with at to vain n.2)
 
   module _ (well_formed : IsTrue (is_well_formed tree.root)) (scalars : IsTrue (list_all is_scalar text.characters)) where
-    not-let : (s : StartPredicate) → start_predicate tree ≡ s → (p : ℕ) → lets_through s text p ≡ false → IsTrue (may_start (start_predicate tree) text p) → ⊥
+    not-let : (s : StartPredicate) → start_predicate tree ≡ s → (p : ℕ) → admits_start s text p ≡ false → IsTrue (may_start (start_predicate tree) text p) → ⊥
     not-let start_arbitrary e p h may = let m : may_start start_arbitrary text p ≡ true = subst (λ s. may_start s text p ≡ true) e may in cc
     not-let (start_byte_set members) e p h may = let m : may_start (start_byte_set members) text p ≡ true = subst (λ s. may_start s text p ≡ true) e may in cc
     not-let (start_byte_sequence bytes) e p h may = let m : may_start (start_byte_sequence bytes) text p ≡ true = subst (λ s. may_start s text p ≡ true) e may in cc
     not-let start_anchored e p h may = cc
 
-    vain-there : (p : ℕ) → p ≤ last_place text → lets_through (start_predicate tree) text p ≡ false → NoMatchAt tree text (offset text p)
+    vain-there : (p : ℕ) → p ≤ last_place text → admits_start (start_predicate tree) text p ≡ false → NoMatchAt tree text (offset text p)
     vain-there p inside h = ruled-out tree text is well_formed scalars (offset text p) p (place_at-offset text p is inside) inside (not-let (start_predicate tree) refl p h)
 
-    let-through : (p : ℕ) → p ≤ last_place text → lets_through (start_predicate tree) text p ≡ true → NextStartSkipsNoMatch tree text (offset text p) (first_filtered_start tree text (offset text p))
+    let-through : (p : ℕ) → p ≤ last_place text → admits_start (start_predicate tree) text p ≡ true → NextStartSkipsNoMatch tree text (offset text p) (first_filtered_start tree text (offset text p))
     let-through p inside h = subst (NextStartSkipsNoMatch tree text (offset text p)) (sym (here (start_predicate tree) refl p inside h)) (
       offset-IsBoundary text p is inside,
       omega arith,
       λ x boundary le less. absurd (omega (arith, le, less)),
     )
 
-    left-out-last : (p : ℕ) → p ≤ last_place text → last_place text ≤ p → lets_through (start_predicate tree) text p ≡ false
+    left-out-last : (p : ℕ) → p ≤ last_place text → last_place text ≤ p → admits_start (start_predicate tree) text p ≡ false
         → NextStartSkipsNoMatch tree text (offset text p) (first_filtered_start tree text (offset text p))
     left-out-last p inside past h =
         let end = read-end tree text is p inside past in
@@ -262,7 +262,7 @@ module _ (tree : Tree) (text : Text) (is : HasRisingPlaceOffsets text) where
         subst (λ o. NextStartSkipsNoMatch tree text (offset text p + 1) (option_map (λ (r : ℕ × ℕ). r.1) o)) end (one-on tree text is (offset text p) (offset-IsBoundary text p is inside)) in
         subst (NextStartSkipsNoMatch tree text (offset text p)) (sym none) (with-vain (offset text p) None (vain-there p inside h) behind)
 
-    left-out : (p : ℕ) → p < last_place text → lets_through (start_predicate tree) text p ≡ false
+    left-out : (p : ℕ) → p < last_place text → admits_start (start_predicate tree) text p ≡ false
         → NextStartSkipsNoMatch tree text (offset text (p + 1)) (first_filtered_start tree text (offset text (p + 1))) → NextStartSkipsNoMatch tree text (offset text p) (first_filtered_start tree text (offset text p))
     left-out p less h later =
         let inside : p ≤ last_place text = omega (arith, less) in
@@ -280,9 +280,9 @@ module _ (tree : Tree) (text : Text) (is : HasRisingPlaceOffsets text) where
     by-cases false f g = g refl
 
     next-from : (n p : ℕ) → p + n ≡ last_place text → NextStartSkipsNoMatch tree text (offset text p) (first_filtered_start tree text (offset text p))
-    next-from zero p whole = by-cases (lets_through (start_predicate tree) text p) (let-through p (omega (arith, whole))) (left-out-last p (omega (arith, whole)) (omega (arith, whole)))
+    next-from zero p whole = by-cases (admits_start (start_predicate tree) text p) (let-through p (omega (arith, whole))) (left-out-last p (omega (arith, whole)) (omega (arith, whole)))
     next-from (suc n) p whole =
-        by-cases (lets_through (start_predicate tree) text p) (let-through p (omega (arith, whole)))
+        by-cases (admits_start (start_predicate tree) text p) (let-through p (omega (arith, whole)))
         (λ h. left-out p (omega (arith, whole)) h (next-from n (p + 1) (omega (arith, whole))))
 
     pub tried-is_next : (at : ℕ) → IsBoundary text at → NextStartSkipsNoMatch tree text at (first_filtered_start tree text at)
@@ -312,30 +312,30 @@ module _ (tree : Tree) (text : Text) (is : HasRisingPlaceOffsets text) where
 
 module _ (s : StartPredicate) (text : Text) (is : HasRisingPlaceOffsets text) (scalars : IsTrue (list_all is_scalar text.characters)) where
   -- The first start that the predicate lets through is the first one tried.
-  pub is-first : (from : ℕ) (next : Option ℕ) → IsBoundary text from → ((tree : Tree) → start_predicate tree ≡ s → next ≡ first_filtered_start tree text from) → IsFirstTried s text from next
+  pub is-first : (from : ℕ) (next : Option ℕ) → IsBoundary text from → ((tree : Tree) → start_predicate tree ≡ s → next ≡ first_filtered_start tree text from) → IsFirstTriedStart s text from next
   is-first from next b e = λ tree p. record {
     counted = e tree p;
     skips = λ w. subst (NextStartSkipsNoMatch tree text from) (sym (e tree p)) (tried-is_next tree text is w scalars from b);
   }
 
-  is-next : (at : ℕ) (next : Option ℕ) → IsBoundary text at → ((tree : Tree) → start_predicate tree ≡ s → next ≡ next_filtered_start tree text at) → IsNextTried s text at next
+  is-next : (at : ℕ) (next : Option ℕ) → IsBoundary text at → ((tree : Tree) → start_predicate tree ≡ s → next ≡ next_filtered_start tree text at) → IsTriedStartAfterFailure s text at next
   is-next at next b e = λ tree p. record {
     counted = e tree p;
     skips = λ w. subst (NextStartSkipsNoMatch tree text (at + 1)) (sym (e tree p)) (behind-is_next tree text is w scalars at b);
   }
 
   -- With an anchored predicate no place is tried after the first.
-  pub next-anchored : (at : ℕ) → IsBoundary text at → is_anchored_predicate s ≡ true → IsNextTried s text at None
+  pub next-anchored : (at : ℕ) → IsBoundary text at → is_anchored_predicate s ≡ true → IsTriedStartAfterFailure s text at None
   next-anchored at b e = is-next at None b (λ tree p. sym (ap (λ s. filtered_start_after s tree text at) p ∙ behind-anchored s tree text at e))
 
   -- No place is tried after the right end of the text.
-  pub next-none : (at : ℕ) → IsBoundary text at → is_anchored_predicate s ≡ false → option_map (λ (r : ℕ × ℕ). r.1) (read text rightwards at) ≡ None → IsNextTried s text at None
+  pub next-none : (at : ℕ) → IsBoundary text at → is_anchored_predicate s ≡ false → option_map (λ (r : ℕ × ℕ). r.1) (read text rightwards at) ≡ None → IsTriedStartAfterFailure s text at None
   next-none at b e end = is-next at None b (λ tree p.
       sym (ap (λ s. filtered_start_after s tree text at) p ∙ behind-open s tree text at e ∙ sym (and-then-mapped (λ (n : ℕ). n) (λ (r : ℕ × ℕ). r.1) (first_filtered_start tree text) None (read text rightwards at) (sym end))))
 
   -- Otherwise the next start is the first one from the next character onwards.
-  pub next-open : (at to : ℕ) (next : Option ℕ) → IsBoundary text at → is_anchored_predicate s ≡ false → option_map (λ (r : ℕ × ℕ). r.1) (read text rightwards at) ≡ Some to → IsFirstTried s text to next
-      → IsNextTried s text at next
+  pub next-open : (at to : ℕ) (next : Option ℕ) → IsBoundary text at → is_anchored_predicate s ≡ false → option_map (λ (r : ℕ × ℕ). r.1) (read text rightwards at) ≡ Some to → IsFirstTriedStart s text to next
+      → IsTriedStartAfterFailure s text at next
   next-open at to next b e on first = is-next at next b (λ tree p.
       (first tree p).counted
       ∙ sym (ap (λ s. filtered_start_after s tree text at) p ∙ behind-open s tree text at e ∙ sym (and-then-mapped (λ (n : ℕ). n) (λ (r : ℕ × ℕ). r.1) (first_filtered_start tree text) (Some to) (read text rightwards at) (sym on))))

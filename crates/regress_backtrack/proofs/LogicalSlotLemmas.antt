@@ -14,10 +14,10 @@ use Rattle.regress_machine.proofs.GroupAndAssertionOutcomes.{map-set}
 use Rattle.regress_backtrack.specs.declared.state.GroupOrLoopState.{GroupOrLoopState}
 use Rattle.regress_backtrack.specs.declared.state.UndoEntry.{UndoEntry}
 use Rattle.regress_backtrack.specs.declared.state.ChoicePoint.{ChoicePoint}
-use Rattle.regress_backtrack.specs.State.{StateModel, undo_entry_logged_for_slot, undone, no_slot, initial_slot, IsFresh, SlotsAreUnsetAndUnlogged, AreUnset}
+use Rattle.regress_backtrack.specs.State.{StateModel, undo_entry_logged_for_slot, undone, slot_placeholder, initial_slot, IsSlotUnsetAndUnlogged, SlotsAreUnsetAndUnlogged, AreSlotsUnset}
 use Rattle.regress_backtrack.specs.State.{AreLoggedInOrder}
 use Rattle.regress_backtrack.specs.State.{log_len_at_choice_point, logical_slot_value}
-use Rattle.regress_backtrack.specs.State.{logical_undo_entry, are_within, IsStateInvariant, initial_state, SetsSlotUndoably, ChangesFromNumberAreUndone}
+use Rattle.regress_backtrack.specs.State.{logical_undo_entry, are_slot_numbers_below, IsStateInvariant, initial_state, SetsSlotUndoably, ChangesFromNumberAreUndone}
 use Rattle.regress_backtrack.specs.UndoLog.{IsLoggedOnce}
 use Rattle.regress_backtrack.specs.UndoLog.IsLoggedOnce.{once, already}
 use Rattle.regress_backtrack.proofs.UndoLogLemmas.{since-last, undone-last, set-twice, set-behind, behind-longer, behind-still}
@@ -54,7 +54,7 @@ seen-set begun n s set none = ap (λ b. if b then record s { noted = 0 } else in
 pub seen-fresh : (begun : ℕ) (slots : List GroupOrLoopState) → SlotsAreUnsetAndUnlogged slots → map (logical_slot_value begun) slots ≡ replicate (length slots) (initial_slot begun)
 seen-fresh begun [] fresh = refl
 seen-fresh begun (s ∷ slots) fresh =
-    ap₂ (λ s l. s ∷ l) (ap (λ b. if b then record s { noted = 0 } else initial_slot begun) (fresh 0 no_slot (omega arith)).0)
+    ap₂ (λ s l. s ∷ l) (ap (λ b. if b then record s { noted = 0 } else initial_slot begun) (fresh 0 slot_placeholder (omega arith)).0)
     (seen-fresh begun slots (λ k d less. fresh (suc k) d (omega (arith, less))))
 
 -- Undone changes are also undone in the slots that the search sees.
@@ -93,14 +93,14 @@ length-seen begun slots = length-map slots (logical_slot_value begun)
 abbrev change : (slot : ℕ) → GroupOrLoopState → UndoEntry
 change slot old = record { old = old; slot = slot }
 
-within-more : (n : ℕ) (changes : List UndoEntry) (c : UndoEntry) → IsTrue (are_within n changes) → c.slot < n → IsTrue (are_within n (changes ++ c ∷ []))
+within-more : (n : ℕ) (changes : List UndoEntry) (c : UndoEntry) → IsTrue (are_slot_numbers_below n changes) → c.slot < n → IsTrue (are_slot_numbers_below n (changes ++ c ∷ []))
 within-more n changes c within less =
     list_all-append (λ c. nat_lt c.slot n) changes (c ∷ []) ∙ ap₂ (λ a b. a && (b && true)) within (lt-ltb c.slot n less)
 
-within-fewer : (n : ℕ) (changes : List UndoEntry) (c : UndoEntry) → IsTrue (are_within n (changes ++ c ∷ [])) → IsTrue (are_within n changes)
-within-fewer n changes c within = by (are_within n changes) refl
+within-fewer : (n : ℕ) (changes : List UndoEntry) (c : UndoEntry) → IsTrue (are_slot_numbers_below n (changes ++ c ∷ [])) → IsTrue (are_slot_numbers_below n changes)
+within-fewer n changes c within = by (are_slot_numbers_below n changes) refl
   where
-    by : (b : Bool) → are_within n changes ≡ b → IsTrue (are_within n changes)
+    by : (b : Bool) → are_slot_numbers_below n changes ≡ b → IsTrue (are_slot_numbers_below n changes)
     by true e = e
     by false e = absurd (true≢false (sym within ∙ list_all-append (λ c. nat_lt c.slot n) changes (c ∷ []) ∙ ap (λ b. b && (nat_lt c.slot n && true)) e))
 
@@ -212,10 +212,10 @@ module _ (groups : ℕ) (slots : List GroupOrLoopState) (log_len free : ℕ) (lo
   -- A slot is set, and its log entry has this number.
   module _ (i : ℕ) (value : GroupOrLoopState) (less : i < length slots) (n log_len' free' : ℕ) (log' : List UndoEntry) (fits : log_len' ≤ length log') (free_fits : free' ≤ length log') where
     abbrev old : GroupOrLoopState
-    old = slice_index_or slots i no_slot
+    old = slice_index_or slots i slot_placeholder
 
     old_is : old ≡ slice_index_or slots i old
-    old_is = held-same slots i no_slot old less
+    old_is = held-same slots i slot_placeholder old less
 
     abbrev put : GroupOrLoopState
     put = record value { noted = n }
@@ -233,15 +233,15 @@ module _ (groups : ℕ) (slots : List GroupOrLoopState) (log_len free : ℕ) (lo
     abbrev SeenSet : (begun : ℕ) → List ChoicePoint → List UndoEntry → Type 0
     SeenSet begun others changes = SetsSlotUndoably i value (view slots so_far others begun) (view now changes others begun)
 
-    there-with : (changes : List UndoEntry) → take log_len' log' ≡ changes → IsTrue (are_within (length slots) changes) → AreUnset (undone now changes) → AreLoggedInOrder now changes
+    there-with : (changes : List UndoEntry) → take log_len' log' ≡ changes → IsTrue (are_slot_numbers_below (length slots) changes) → AreSlotsUnset (undone now changes) → AreLoggedInOrder now changes
         → IsStateInvariant groups now log_len' free' log' choice_point_len choice_points
     there-with changes are within unset noted =
         let row = length-set slots i put in (
           (let g = there.0 in omega (arith, g, row)),
           fits,
           there.2,
-          subst (λ l. IsTrue (are_within (length now) l)) (sym are) (subst (λ n. IsTrue (are_within n changes)) (sym row) within),
-          subst (λ l. AreUnset (undone now l)) (sym are) unset,
+          subst (λ l. IsTrue (are_slot_numbers_below (length now) l)) (sym are) (subst (λ n. IsTrue (are_slot_numbers_below n changes)) (sym row) within),
+          subst (λ l. AreSlotsUnset (undone now l)) (sym are) unset,
           subst (AreLoggedInOrder now) (sym are) noted,
           free_fits,
         )
@@ -257,7 +257,7 @@ module _ (groups : ℕ) (slots : List GroupOrLoopState) (log_len free : ℕ) (lo
     once-there last are =
         let used = length-take-le log_len log there.1 in
         there-with (so_far ++ change i old ∷ []) are (within-more (length slots) so_far (change i old) there.3 less)
-        (subst AreUnset (sym back) there.4) (noted-more slots so_far i put old old_is (omega (arith, last, used)) there.5)
+        (subst AreSlotsUnset (sym back) there.4) (noted-more slots so_far i put old old_is (omega (arith, last, used)) there.5)
 
     once-seen : (begun : ℕ) (others : List ChoicePoint) → value.is_set ≡ true → value.noted ≡ 0 → SeenSet begun others (so_far ++ change i old ∷ [])
     once-seen begun others set none = record {
@@ -266,7 +266,7 @@ module _ (groups : ℕ) (slots : List GroupOrLoopState) (log_len free : ℕ) (lo
       behind = behind-still (view slots so_far others begun) (view now (so_far ++ change i old ∷ []) others begun)
           (set-behind (map (logical_slot_value begun) slots) (map (logical_undo_entry begun) so_far) i value _ _ (slots-seen begun set none)
           (map-append (logical_undo_entry begun) so_far (change i old ∷ [])
-          ∙ ap (λ o. map (logical_undo_entry begun) so_far ++ change i o ∷ []) (ap (logical_slot_value begun) old_is ∙ sym (seen-at begun slots i old no_slot less))));
+          ∙ ap (λ o. map (logical_undo_entry begun) so_far ++ change i o ∷ []) (ap (logical_slot_value begun) old_is ∙ sym (seen-at begun slots i old slot_placeholder less))));
       choice_points = refl;
     }
 
@@ -274,7 +274,7 @@ module _ (groups : ℕ) (slots : List GroupOrLoopState) (log_len free : ℕ) (lo
     already-there : 0 < old.noted → n ≡ old.noted → take log_len' log' ≡ so_far → IsStateInvariant groups now log_len' free' log' choice_point_len choice_points
     already-there late same are =
         let held = ap (λ (s : GroupOrLoopState). s.noted) old_is in
-        there-with so_far are there.3 (subst AreUnset (sym (covered slots so_far 0 i put old there.5 (omega arith) less (omega (arith, late, held)))) there.4)
+        there-with so_far are there.3 (subst AreSlotsUnset (sym (covered slots so_far 0 i put old there.5 (omega arith) less (omega (arith, late, held)))) there.4)
         (noted-kept slots so_far i put old (same ∙ held) there.5)
 
     already-seen : (begun : ℕ) (others : List ChoicePoint) → value.is_set ≡ true → value.noted ≡ 0 → log_len_at_choice_point others < old.noted → SeenSet begun others so_far
@@ -325,8 +325,8 @@ module _ (groups : ℕ) (slots : List GroupOrLoopState) (log_len free : ℕ) (lo
           (let g = there.0 in omega (arith, g, row)),
           (let most = there.1 in omega (arith, most)),
           there.2,
-          subst (λ n. IsTrue (are_within n before)) (sym row) (within-fewer (length slots) before c (subst (λ l. IsTrue (are_within (length slots) l)) split there.3)),
-          subst AreUnset (ap (undone slots) split ∙ undone-last slots before c) there.4,
+          subst (λ n. IsTrue (are_slot_numbers_below n before)) (sym row) (within-fewer (length slots) before c (subst (λ l. IsTrue (are_slot_numbers_below (length slots) l)) split there.3)),
+          subst AreSlotsUnset (ap (undone slots) split ∙ undone-last slots before c) there.4,
           noted-fewer slots before c (subst (AreLoggedInOrder slots) split there.5),
           there.6,
         )
@@ -355,16 +355,16 @@ no-changes begun [] e = refl
 no-changes begun (c ∷ changes) e = cc
 
 -- If no change is left to undo, no slot was set or logged.
-pub fresh-now : (begun : ℕ) (slots : List GroupOrLoopState) (changes : List UndoEntry) → AreUnset (undone slots changes) → AreLoggedInOrder slots changes → map (logical_undo_entry begun) changes ≡ []
+pub fresh-now : (begun : ℕ) (slots : List GroupOrLoopState) (changes : List UndoEntry) → AreSlotsUnset (undone slots changes) → AreLoggedInOrder slots changes → map (logical_undo_entry begun) changes ≡ []
     → SlotsAreUnsetAndUnlogged slots
 fresh-now begun slots changes unset noted none =
     let no_more = no-changes begun changes none in
-    let are_unset = subst (λ l. AreUnset (undone slots l)) no_more unset in
+    let are_unset = subst (λ l. AreSlotsUnset (undone slots l)) no_more unset in
     let are_few = subst (λ l. All (λ s. s.noted ≤ 0) (undone slots l)) no_more (noted 0 (omega arith)) in
     λ k d less. (are_unset k d less, are_few k d less)
 
 -- If no slot was set or logged, all slots are unset.
-pub fresh-unset : (slots : List GroupOrLoopState) → SlotsAreUnsetAndUnlogged slots → AreUnset slots
+pub fresh-unset : (slots : List GroupOrLoopState) → SlotsAreUnsetAndUnlogged slots → AreSlotsUnset slots
 fresh-unset slots fresh k d less = (fresh k d less).0
 
 pub fresh-noted : (slots : List GroupOrLoopState) → SlotsAreUnsetAndUnlogged slots → AreLoggedInOrder slots []
@@ -377,8 +377,8 @@ begun-laid_out groups loops at slots fresh long =
     ap (λ s. record { groups = groups; slots = s; log = []; choice_points = [] }) (seen-fresh at slots fresh ∙ ap (λ n. replicate n (initial_slot at)) long)
 
 -- If the slots before `n` and the new value are fresh, so are the slots up to `n`.
-pub fresh-more : (slots : List GroupOrLoopState) (n : ℕ) (v : GroupOrLoopState) → IsFresh v → ((k : ℕ) (d : GroupOrLoopState) → k < n → IsFresh (slice_index_or slots k d))
-    → n < length slots → (k : ℕ) (d : GroupOrLoopState) → k < n + 1 → IsFresh (slice_index_or (slice_set slots n v) k d)
+pub fresh-more : (slots : List GroupOrLoopState) (n : ℕ) (v : GroupOrLoopState) → IsSlotUnsetAndUnlogged v → ((k : ℕ) (d : GroupOrLoopState) → k < n → IsSlotUnsetAndUnlogged (slice_index_or slots k d))
+    → n < length slots → (k : ℕ) (d : GroupOrLoopState) → k < n + 1 → IsSlotUnsetAndUnlogged (slice_index_or (slice_set slots n v) k d)
 fresh-more [] n v e before inside k d less = absurd (omega (arith, inside))
 fresh-more (x ∷ slots) zero v e before inside zero d less = e
 fresh-more (x ∷ slots) zero v e before inside (suc k) d less = absurd (omega (arith, less))

@@ -9,9 +9,11 @@ use Rattle.regex_meaning.specs.CompilationRelation.{Program}
 use Rattle.regress_machine.specs.Machine.{State, Thread, Next, goes, scans, ends, asks, stuck, Found, with_steps, after_lookaround, after_lookaround_search}
 use Rattle.regress_machine.specs.Machine.{search_after_effect, act, search}
 use Rattle.regress_memo.specs.Liveness.{ReadsAsBytes}
-use Rattle.regress_backtrack.specs.RepeatableLoopBodies.{MayContinue, AllStayInContents, IsPlainBody}
+use Rattle.regress_backtrack.specs.RepeatableLoopBodies.{MayContinue, AllStayInContents, IsClosedForwardBody}
 use Rattle.regress_backtrack.proofs.GroupChangeLists.{Slots, Note}
-use Rattle.regress_backtrack.proofs.LoopBodySteps.{Spot, runs, waits, spot_ip, spot_pos, spot_notes, state_at, thread_at, Quiet, Always, Reached, Turned, sticks, ended, moves, scanned, asked, turned-at}
+use Rattle.regress_backtrack.proofs.LoopBodySteps.{Spot, runs, waits, spot_ip, spot_pos, spot_notes, state_at}
+use Rattle.regress_backtrack.proofs.LoopBodySteps.{thread_at, Quiet, Always, Reached, Turned, sticks, ended, moves}
+use Rattle.regress_backtrack.proofs.LoopBodySteps.{scanned, asked, turned-at}
 
 pub map-joined : (f : Spot → Thread) (S T : List Spot) → map f (S ++ T) ≡ map f S ++ map f T
 map-joined f [] T = refl
@@ -157,7 +159,7 @@ module _ (changes : Bool) (program : Program) (text : Text) (is : HasRisingPlace
 
   -- ---- Contents of lookarounds
 
-  module _ (from stop : ℕ) (plain : IsPlainBody changes program from stop) where
+  module _ (from stop : ℕ) (plain : IsClosedForwardBody changes program from stop) where
     abbrev pub InContents : (lo past : ℕ) → Spot → Type 0
     InContents lo past t = (lo < spot_ip t) × (spot_ip t < past) × Quiet changes program text is reads x id (spot_notes t)
 

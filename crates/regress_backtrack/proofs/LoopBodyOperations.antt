@@ -12,8 +12,8 @@ use Rattle.regress_program.specs.declared.ops.Op.TheVariants.{PossessiveCharLoop
 use Rattle.regress_program.specs.declared.plan.Plan.{Plan}
 use Rattle.regress_program.specs.Plans.{reads_class_char, IsOpOf, IsPlanOf}
 use Rattle.regress_search.proofs.LeadingLoopOperations.{is_backref_insn, op-refers}
-use Rattle.regress_backtrack.specs.RepeatableLoopBodies.{EndsBy, MayContinue, StaysInBody, HasClosedContents, IsNoBackreference}
-use Rattle.regress_backtrack.specs.SurplusRequiredIterations.{following_of, following_group_change, MayContinueAt, lookaround_end, ContinuesAfter, contents_of_op, AreClosed}
+use Rattle.regress_backtrack.specs.RepeatableLoopBodies.{LookaroundInsnContinuesBy, MayContinue, StaysInBody, LookaroundContentsStayInside, IsNoBackreference}
+use Rattle.regress_backtrack.specs.SurplusRequiredIterations.{following_of, following_group_change, MayContinueAt, lookaround_end, ContinuesAfter, contents_of_op, AreLookaroundContentsClosed}
 
 -- ---- Classes, edges of words and lookarounds
 
@@ -75,9 +75,9 @@ module _ (program : Program) (plan : Plan) where
 
   module _ (ip to : ℕ) where
     abbrev Ends : Insn → Type 0
-    Ends insn = EndsBy to insn
+    Ends insn = LookaroundInsnContinuesBy to insn
 
-    pub op-ends-by : (op : Op) (insn : Insn) → lookaround_end op ≤ to → IsOpOf program plan op ip insn → EndsBy to insn
+    pub op-ends-by : (op : Op) (insn : Insn) → lookaround_end op ≤ to → IsOpOf program plan op ip insn → LookaroundInsnContinuesBy to insn
     op-ends-by Goal insn h is = subst Ends (sym is) tt
     op-ends-by Fail insn h is = subst Ends (sym is) tt
     op-ends-by (UnitChar c) insn h is = subst Ends (sym is) tt
@@ -110,9 +110,9 @@ module _ (program : Program) (plan : Plan) where
 
   module _ (changes : Bool) (from ip : ℕ) where
     abbrev Closed : Insn → Type 0
-    Closed insn = HasClosedContents changes program from ip insn
+    Closed insn = LookaroundContentsStayInside changes program from ip insn
 
-    pub op-closes : (op : Op) (insn : Insn) → AreClosed changes program from ip (contents_of_op op) → IsOpOf program plan op ip insn → HasClosedContents changes program from ip insn
+    pub op-closes : (op : Op) (insn : Insn) → AreLookaroundContentsClosed changes program from ip (contents_of_op op) → IsOpOf program plan op ip insn → LookaroundContentsStayInside changes program from ip insn
     op-closes Goal insn h is = subst Closed (sym is) h
     op-closes Fail insn h is = subst Closed (sym is) tt
     op-closes (UnitChar c) insn h is = subst Closed (sym is) tt

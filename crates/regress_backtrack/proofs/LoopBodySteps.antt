@@ -21,15 +21,15 @@ use Rattle.regex_meaning.specs.CompilationRelation.{Lookahead, Lookbehind}
 use Rattle.regex_meaning.proofs.CodeUnitOffsetsLemmas.{offset-place_at}
 use Rattle.regress_machine.specs.Machine.{State, Thread, running, waiting, Next, goes, scans, ends, asks, stuck, with_some, only_if, go, go_if, test_of, next_insn_at_place}
 use Rattle.regress_machine.specs.TextsForBytePrograms.{HasUtf8CharactersAndOffsets}
-use Rattle.regress_machine.specs.Machine.{has_bytes, moved_by, read_bytes, read_one, stay_if, scan, first_running_and_others_waiting, act_on, act}
+use Rattle.regress_machine.specs.Machine.{occurs_beside_offset, offset_moved_in_direction, read_bytes, read_one, stay_if, scan, first_running_and_others_waiting, act_on, act}
 use Rattle.regress_machine.proofs.NearestCharacterLemmas.{length-nearest}
 use Rattle.regress_machine.proofs.OffsetsInsideText.{offset-inside, units-bytes}
 use Rattle.regress_machine.proofs.CharLoopRepetitions.{numbers_between}
 use Rattle.regress_machine.proofs.AdjacentCharacterLemmas.{stands-length}
 use Rattle.regress_machine.proofs.AdjacentCharacterBytes.{starts-stands}
-use Rattle.regress_memo.specs.Liveness.{left_from, IsNotAheadInDirection, ReadsAsBytes}
+use Rattle.regress_memo.specs.Liveness.{units_left_in_direction, IsNotAheadInDirection, ReadsAsBytes}
 use Rattle.regress_memo.proofs.LivenessLemmas.{moves-on, moves-one}
-use Rattle.regress_backtrack.specs.RepeatableLoopBodies.{LookaroundsEndBy, MayContinue, StaysInBody, AllStayInContents, HasClosedContents}
+use Rattle.regress_backtrack.specs.RepeatableLoopBodies.{LookaroundsEndBy, MayContinue, StaysInBody, AllStayInContents, LookaroundContentsStayInside}
 use Rattle.regress_backtrack.proofs.GroupChangeLists.{Slots, Note, wiped, begun, closed, range_to, applied, AsMany, as-many}
 
 -- ---- Places in a body
@@ -73,7 +73,7 @@ thread_at x id k J (waits ip pos notes) = waiting (state_at x id k J ip pos note
 
 -- The offset is equal or nearer to the end.
 abbrev pub Onward : (text : Text) (d : Direction) (from to : ℕ) → Type 0
-Onward text d from to = (from ≡ to) ⊎ (left_from (units text) d to + 1 ≤ left_from (units text) d from)
+Onward text d from to = (from ≡ to) ⊎ (units_left_in_direction (units text) d to + 1 ≤ units_left_in_direction (units text) d from)
 
 module _ (text : Text) (d : Direction) where
   pub onward-on : (a b c : ℕ) → Onward text d a b → Onward text d b c → Onward text d a c
@@ -181,7 +181,7 @@ module _ (changes : Bool) (program : Program) (text : Text) (is : HasRisingPlace
 
     -- ---- Literal bytes
 
-    bytes-onward : (d : Direction) (bytes : List ℕ) → HasUtf8CharactersAndOffsets text → has_bytes (encode_utf8_all text.characters) d bytes pos ≡ true → Onward text d pos (moved_by d (length bytes) pos)
+    bytes-onward : (d : Direction) (bytes : List ℕ) → HasUtf8CharactersAndOffsets text → occurs_beside_offset (encode_utf8_all text.characters) d bytes pos ≡ true → Onward text d pos (offset_moved_in_direction d (length bytes) pos)
     bytes-onward rightwards bytes utf8 h = by (cases_lt 0 (length bytes))
       where
         by : (0 < length bytes) ⊎ (length bytes ≤ 0) → Onward text rightwards pos (pos + length bytes)
@@ -205,13 +205,13 @@ module _ (changes : Bool) (program : Program) (text : Text) (is : HasRisingPlace
         by (inr none) = inl (omega (arith, none))
 
     byte-turn : (bytes : List ℕ) → slice_get program.insns ip ≡ Some (ByteSeq bytes) → Acts (λ k J. read_bytes text bytes d (st k J ip pos notes)) → MayContinue program stop ip (ip + 1) → Turn
-    byte-turn bytes there acts near = by (has_bytes (encode_utf8_all text.characters) d bytes pos) refl
+    byte-turn bytes there acts near = by (occurs_beside_offset (encode_utf8_all text.characters) d bytes pos) refl
       where
-        by : (b : Bool) → has_bytes (encode_utf8_all text.characters) d bytes pos ≡ b → Turn
+        by : (b : Bool) → occurs_beside_offset (encode_utf8_all text.characters) d bytes pos ≡ b → Turn
         by true h =
-            moves (runs (ip + 1) (moved_by d (length bytes) pos) notes ∷ []) (λ k J a. acts k J a ∙ ap (λ b. go_if b (st k J (ip + 1) (moved_by d (length bytes) pos) notes)) h)
+            moves (runs (ip + 1) (offset_moved_in_direction d (length bytes) pos) notes ∷ []) (λ k J a. acts k J a ∙ ap (λ b. go_if b (st k J (ip + 1) (offset_moved_in_direction d (length bytes) pos) notes)) h)
             ((near, bytes-onward d bytes (reads ip (ByteSeq bytes) there refl) h, quiet), tt)
-        by false h = moves [] (λ k J a. acts k J a ∙ ap (λ b. go_if b (st k J (ip + 1) (moved_by d (length bytes) pos) notes)) h) tt
+        by false h = moves [] (λ k J a. acts k J a ∙ ap (λ b. go_if b (st k J (ip + 1) (offset_moved_in_direction d (length bytes) pos) notes)) h) tt
 
     -- ---- A loop over one character
 
@@ -339,7 +339,7 @@ module _ (changes : Bool) (program : Program) (text : Text) (is : HasRisingPlace
     goes-to : (to : ℕ) → MayContinue program stop ip to → Reached d stop ip pos (runs to pos notes)
     goes-to to h = (h, here, quiet)
 
-    insn-turn : (insn : Insn) → slice_get program.insns ip ≡ Some insn → StaysInBody changes program stop ip insn → HasClosedContents changes program from ip insn → Acts (λ k J. act_on program text d (Some insn) (st k J ip pos notes)) → Turn
+    insn-turn : (insn : Insn) → slice_get program.insns ip ≡ Some insn → StaysInBody changes program stop ip insn → LookaroundContentsStayInside changes program from ip insn → Acts (λ k J. act_on program text d (Some insn) (st k J ip pos notes)) → Turn
     insn-turn (Alt other) there h c acts = moves (runs (ip + 1) pos notes ∷ waits other pos notes ∷ []) acts (goes-to (ip + 1) h.0, (goes-to other h.1, tt))
     insn-turn (Jump to) there h c acts = moves (runs to pos notes ∷ []) acts (goes-to to h, tt)
     insn-turn (Loop1CharBody least most greedy) there h c acts = scan-turn least most greedy h (test_of program (slice_get program.insns (ip + 1))) acts
@@ -366,6 +366,6 @@ module _ (changes : Bool) (program : Program) (text : Text) (is : HasRisingPlace
     insn-turn (LoopAgain begin) there h c acts = absurd h
     insn-turn (BackRef group same) there h c acts = absurd h
 
-    pub turned-at : (o : Option Insn) → slice_get program.insns ip ≡ o → ((insn : Insn) → o ≡ Some insn → StaysInBody changes program stop ip insn × HasClosedContents changes program from ip insn) → Turn
+    pub turned-at : (o : Option Insn) → slice_get program.insns ip ≡ o → ((insn : Insn) → o ≡ Some insn → StaysInBody changes program stop ip insn × LookaroundContentsStayInside changes program from ip insn) → Turn
     turned-at None e each = sticks (λ k J h. ap (λ o. act_on program text d o (st k J ip pos notes)) e)
     turned-at (Some insn) e each = insn-turn insn e (each insn refl).0 (each insn refl).1 (λ k J h. ap (λ o. act_on program text d o (st k J ip pos notes)) e)

@@ -19,7 +19,7 @@ use Rattle.regress_memo.proofs.CheckedAnalysisLemmas.{ledgers-serve}
 use Rattle.regress_memo.specs.MemoContractView.{MemoView}
 use Rattle.regress_memo.specs.Laws.{analysis_keys}
 use Rattle.regress_memo.specs.MemoContents.{has_failure, has_success, IsEmptyMemo}
-use Rattle.regress_backtrack.specs.FailureMemo.{AreFailuresSoundIn, AreEndsSoundIn, StandsFor, FindNoEnd, KeyFails, KeyFindsEnd}
+use Rattle.regress_backtrack.specs.FailureMemo.{AreFailuresSoundIn, AreEndsSoundIn, KeyStandsForThreads, FindNoEnd, KeyFails, KeyFindsEnd}
 use Rattle.regress_backtrack.proofs.StatePreservationLemmas.{keeps-state}
 use Rattle.regress_backtrack.proofs.CharLoopKeyLemmas.{of-run}
 use Rattle.regress_backtrack.specs.FailuresInMemoTable.{scheme_of}
@@ -45,7 +45,7 @@ module _ (program : Program) (text : Text) (a : Liveness) (acc : IsLivenessFor p
 module _ (program : Program) (text : Text) (t : MemoAnalysis) (of : IsAnalysisOf program t) (is : HasRisingPlaceOffsets text) (bytes : ReadsAsBytes program text)
     (fits : units text < 2 ^ 63) where
   -- If threads of a key find no end, the key fails.
-  all-fail : (d : Direction) (k : Key) (ts : List Thread) → StandsFor program text (scheme_of t) d k ts → FindNoEnd program text d ts
+  all-fail : (d : Direction) (k : Key) (ts : List Thread) → KeyStandsForThreads program text (scheme_of t) d k ts → FindNoEnd program text d ts
       → KeyFails program text (scheme_of t) k
   all-fail d k ts stands found e us other turns f h =
       let serves = ledgers-serve program t of text is bytes fits in
@@ -58,7 +58,7 @@ module _ (program : Program) (text : Text) (t : MemoAnalysis) (of : IsAnalysisOf
       row-ends program text e turns us f (row-shared program text a serves.plan.liveness e ts us alike nothing) h
 
   -- If threads of a key find an end, the key finds an end.
-  all-find : (d : Direction) (k : Key) (ts : List Thread) → StandsFor program text (scheme_of t) d k ts → FindEnd program text d ts
+  all-find : (d : Direction) (k : Key) (ts : List Thread) → KeyStandsForThreads program text (scheme_of t) d k ts → FindEnd program text d ts
       → KeyFindsEnd program text (scheme_of t) k
   all-find d k ts stands found e us other =
       let serves = ledgers-serve program t of text is bytes fits in

@@ -14,7 +14,7 @@ use Rattle.regex_pattern_front.specs.AstToSpecTree.{tree_of}
 use Rattle.regex_pattern_front.specs.declared.ir.Regex.{Regex}
 use Rattle.regex_pattern_front.proofs.OptimizedTreesLemmas.{outcomes-optimized, group_ids-optimized}
 use Rattle.regress_machine.specs.TextsForBytePrograms.{tree_contains_byte_nodes}
-use Rattle.regress_machine.specs.SearchFindsFirstOutcomeAtPlace.{TreeProgramCanSearchText, first_pair, end_in_offsets}
+use Rattle.regress_machine.specs.SearchFindsFirstOutcomeAtPlace.{TreeProgramCanSearchText, first_outcome_among_ticks, end_in_offsets}
 use Rattle.regress_program.specs.CompilationOfTreesAsFunction.{compiled}
 use Rattle.regress_program.specs.OptimizedTreeUnlessNoOpt.{planned_tree}
 use Rattle.regress_program.proofs.TreeToRunLemmas.{planned-same, flags-planned, well_formed-planned, reads_bytes-planned}
@@ -63,7 +63,7 @@ first_of_pairs : List Outcome → Option Outcome
 first_of_pairs [] = None
 first_of_pairs (o ∷ os) = Some o
 
-first-of-pairs : (items : List TickOrOutcome) → first_pair items ≡ first_of_pairs (outcomes_without_ticks items)
+first-of-pairs : (items : List TickOrOutcome) → first_outcome_among_ticks items ≡ first_of_pairs (outcomes_without_ticks items)
 unfolding first_of_pairs
 first-of-pairs [] = refl
 first-of-pairs (tick ∷ items) = first-of-pairs items
@@ -73,13 +73,13 @@ first-of-pairs (pair o ∷ items) = refl
 first_at : Text → (place : ℕ) → Node → Option Outcome
 first_at text place root = first_of_pairs (outcomes text root rightwards place (no_groups root))
 
-first-is : (t : Tree) (text : Text) (place : ℕ) → first_pair (items_at t text place) ≡ first_at text place t.root
+first-is : (t : Tree) (text : Text) (place : ℕ) → first_outcome_among_ticks (items_at t text place) ≡ first_at text place t.root
 unfolding first_at
 first-is t text place =
     first-of-pairs (items_at t text place) ∙ ap first_of_pairs (pairs-ticked text t.root rightwards place (no_groups t.root))
 
 first-context : (wide : Bool) (t : Tree) (text : Text) → IsTrue (is_well_formed t.root) → (place : ℕ)
-    → first_pair (items_at (planned_tree wide t) text place) ≡ first_pair (items_at t text place)
+    → first_outcome_among_ticks (items_at (planned_tree wide t) text place) ≡ first_outcome_among_ticks (items_at t text place)
 unfolding first_at
 first-context wide t text h place =
     first-is (planned_tree wide t) text place
@@ -93,8 +93,8 @@ pub end-context : (wide : Bool) (t : Tree) (text : Text) → IsTrue (is_well_for
 end-context wide t text h at = by (place_at text at)
   where
     by : (p : Option ℕ)
-        → option_and_then (λ place. option_map (end_in_offsets text) (first_pair (items_at (planned_tree wide t) text place))) p
-        ≡ option_and_then (λ place. option_map (end_in_offsets text) (first_pair (items_at t text place))) p
+        → option_and_then (λ place. option_map (end_in_offsets text) (first_outcome_among_ticks (items_at (planned_tree wide t) text place))) p
+        ≡ option_and_then (λ place. option_map (end_in_offsets text) (first_outcome_among_ticks (items_at t text place))) p
     by None = refl
     by (Some place) = ap (option_map (end_in_offsets text)) (first-context wide t text h place)
 

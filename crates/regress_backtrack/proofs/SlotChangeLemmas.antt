@@ -12,7 +12,7 @@ use Rattle.regress_machine.proofs.GroupAndAssertionOutcomes.{map-set}
 use Rattle.regex_meaning.specs.Outcomes.{Groups}
 use Rattle.regress_machine.specs.Machine.{LoopData}
 use Rattle.regress_backtrack.specs.declared.state.GroupOrLoopState.{GroupOrLoopState}
-use Rattle.regress_backtrack.specs.State.{StateModel, range_in, loop_data_in_slot, state_in, current_thread_state_of, SetsSlotUndoably, ChangesStateUndoably}
+use Rattle.regress_backtrack.specs.State.{StateModel, range_of_group_slot, loop_data_in_slot, machine_state_with_slots, current_thread_state_of, SetsSlotUndoably, ChangesStateUndoably}
 
 pub ok-more : {X E A B : Type 0} (r : Result X E) → (A → B) → OnOk r A → OnOk r B
 ok-more (Ok x) f a = f a
@@ -20,12 +20,12 @@ ok-more (Err e) f a = tt
 
 -- Setting a slot undoably changes the state as the new slot shows.
 pub becomes : (change : State → State) (slot : ℕ) (value : GroupOrLoopState) (h h' : StateModel)
-    → ((ip pos : ℕ) → state_in h.groups (slice_set h.slots slot value) ip pos ≡ change (current_thread_state_of h ip pos)) → SetsSlotUndoably slot value h h' → ChangesStateUndoably change h h'
+    → ((ip pos : ℕ) → machine_state_with_slots h.groups (slice_set h.slots slot value) ip pos ≡ change (current_thread_state_of h ip pos)) → SetsSlotUndoably slot value h h' → ChangesStateUndoably change h h'
 becomes change slot value h h' state set = record {
   groups = set.groups;
   choice_points = set.choice_points;
   behind = set.behind;
-  state = λ ip pos. ap (λ g. state_in g h'.slots ip pos) set.groups ∙ ap (λ l. state_in h.groups l ip pos) set.slots ∙ state ip pos;
+  state = λ ip pos. ap (λ g. machine_state_with_slots g h'.slots ip pos) set.groups ∙ ap (λ l. machine_state_with_slots h.groups l ip pos) set.slots ∙ state ip pos;
 }
 
 abbrev state_by : (ip pos : ℕ) → Groups → List ℕ → List LoopData → State
@@ -45,31 +45,31 @@ module _ (groups : ℕ) (slots : List GroupOrLoopState) (ip pos : ℕ) where
     abbrev prefix : List GroupOrLoopState
     prefix = take groups slots
 
-    ranges : map range_in (take groups (slice_set slots i v)) ≡ slice_set (map range_in prefix) i (range_in v)
-    ranges = ap (map range_in) (take-set-lt groups slots i v less) ∙ sym (map-set range_in prefix i v)
+    ranges : map range_of_group_slot (take groups (slice_set slots i v)) ≡ slice_set (map range_of_group_slot prefix) i (range_of_group_slot v)
+    ranges = ap (map range_of_group_slot) (take-set-lt groups slots i v less) ∙ sym (map-set range_of_group_slot prefix i v)
 
     loops : map loop_data_in_slot (drop groups (slice_set slots i v)) ≡ map loop_data_in_slot (drop groups slots)
     loops = ap (map loop_data_in_slot) (drop-set-lt groups slots i v less)
 
     -- Setting a group's slot sets the group's range and start.
-    pub opens : state_in groups (slice_set slots i v) ip pos ≡ record (state_in groups slots ip pos) { groups = slice_set (map range_in prefix) i (range_in v); starts = slice_set (map (λ (s : GroupOrLoopState). s.at) prefix) i v.at }
+    pub opens : machine_state_with_slots groups (slice_set slots i v) ip pos ≡ record (machine_state_with_slots groups slots ip pos) { groups = slice_set (map range_of_group_slot prefix) i (range_of_group_slot v); starts = slice_set (map (λ (s : GroupOrLoopState). s.at) prefix) i v.at }
     opens =
         same-state ip pos _ _ _ _ _ _ ranges
         (ap (map (λ s. s.at)) (take-set-lt groups slots i v less) ∙ sym (map-set (λ (s : GroupOrLoopState). s.at) prefix i v)) loops
 
     -- Setting a group's slot with an equal start sets only the group's range.
     pub keeps : (x : GroupOrLoopState) → x ≡ get_or slots i x → v.at ≡ x.at
-        → state_in groups (slice_set slots i v) ip pos ≡ record (state_in groups slots ip pos) { groups = slice_set (map range_in prefix) i (range_in v) }
+        → machine_state_with_slots groups (slice_set slots i v) ip pos ≡ record (machine_state_with_slots groups slots ip pos) { groups = slice_set (map range_of_group_slot prefix) i (range_of_group_slot v) }
     keeps x e f =
         same-state ip pos _ _ _ _ _ _ ranges
         (ap (map (λ s. s.at)) (take-set-lt groups slots i v less) ∙ numbers-kept prefix i v x (e ∙ sym (get_or-take groups slots i x less)) f) loops
 
   -- Setting a loop's slot sets the loop's data.
-  pub enters : (id : ℕ) (v : GroupOrLoopState) → state_in groups (slice_set slots (groups + id) v) ip pos ≡ record (state_in groups slots ip pos) { loops = slice_set (map loop_data_in_slot (drop groups slots)) id (loop_data_in_slot v) }
+  pub enters : (id : ℕ) (v : GroupOrLoopState) → machine_state_with_slots groups (slice_set slots (groups + id) v) ip pos ≡ record (machine_state_with_slots groups slots ip pos) { loops = slice_set (map loop_data_in_slot (drop groups slots)) id (loop_data_in_slot v) }
   enters id v =
       let before = take-set-le groups slots (groups + id) v (omega arith) in
       same-state ip pos _ _ _ _ _ _
-      (ap (map range_in) before) (ap (map (λ s. s.at)) before)
+      (ap (map range_of_group_slot) before) (ap (map (λ s. s.at)) before)
       (ap (map loop_data_in_slot) (drop-set-add groups slots id v) ∙ sym (map-set loop_data_in_slot (drop groups slots) id v))
 
 -- ---- Fields of slots

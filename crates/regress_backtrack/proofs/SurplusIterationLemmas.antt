@@ -19,9 +19,9 @@ use Rattle.regress_machine.proofs.ThreadSimulationLemmas.{search_same, simulates
 use Rattle.regress_machine.proofs.LoopHeadSimulation.{again, head-again, again-counts}
 use Rattle.regress_machine.proofs.ForcedIterationLemmas.{set-twice}
 use Rattle.regress_memo.specs.ThreadBisimulation.{AlikeThread, AlikeThreads, AlikeEnds, AlikeAnswers}
-use Rattle.regress_memo.specs.Liveness.{left_from, ReadsAsBytes}
+use Rattle.regress_memo.specs.Liveness.{units_left_in_direction, ReadsAsBytes}
 use Rattle.regress_memo.proofs.ThreadBisimulationLemmas.{alike-append}
-use Rattle.regress_backtrack.specs.RepeatableLoopBodies.{EndsBy, LookaroundsEndBy, MayContinue, IsPlainBody, HasNoBackreference, LaterIterationReplacesSurplus}
+use Rattle.regress_backtrack.specs.RepeatableLoopBodies.{LookaroundInsnContinuesBy, LookaroundsEndBy, MayContinue, IsClosedForwardBody, HasNoBackreference, LaterIterationReplacesSurplus}
 use Rattle.regress_backtrack.proofs.SearchesOfJoinedThreads.{Parts, ended, passed, parts, later}
 use Rattle.regress_backtrack.proofs.GroupChangeLists.{Slots, Note, applied, AsMany, as-many, applied-twice}
 use Rattle.regress_backtrack.proofs.GroupIndependentSearches.{Differ, unread-alike}
@@ -287,7 +287,7 @@ set-none [] i x le = refl
 set-none (y ∷ xs) zero x le = absurd (omega (arith, le))
 set-none (y ∷ xs) (suc i) x le = set-none xs i x (omega (arith, le))
 
-ends-later : (ip to : ℕ) (insn : Insn) → ip ≤ to → EndsBy ip insn → EndsBy to insn
+ends-later : (ip to : ℕ) (insn : Insn) → ip ≤ to → LookaroundInsnContinuesBy ip insn → LookaroundInsnContinuesBy to insn
 ends-later ip to (Lookahead negate a b continuation) le h = omega (arith, le, h)
 ends-later ip to (Lookbehind negate a b continuation) le h = omega (arith, le, h)
 ends-later ip to _ le h = tt
@@ -295,15 +295,15 @@ ends-later ip to _ le h = tt
 lookarounds-on : (program : Program) (from stop ip to : ℕ) → LookaroundsEndBy program from ip → MayContinue program stop ip to → LookaroundsEndBy program from to
 lookarounds-on program from stop ip to h m i after before insn e = by (cases_lt i ip)
   where
-    by : (i < ip) ⊎ (ip ≤ i) → EndsBy to insn
+    by : (i < ip) ⊎ (ip ≤ i) → LookaroundInsnContinuesBy to insn
     by (inl less) = ends-later ip to insn (let later = m.later in omega (arith, later)) (h i after less insn e)
     by (inr le) = m.whole i le before insn e
 
 module _ (program : Program) (text : Text) (is : HasRisingPlaceOffsets text) (reads : ReadsAsBytes program text) (d : Direction) (begin stop : ℕ) (f : LoopFields) (behind : begin < stop)
     (enters : slice_get program.insns begin ≡ Some (EnterLoop f)) (goes_back : slice_get program.insns stop ≡ Some (LoopAgain begin))
-    (changes : Bool) (plain : IsPlainBody changes program (begin + 1) stop) (unread : changes ≡ true → HasNoBackreference program) (fits : f.min_iters ≤ f.max_iters) where
+    (changes : Bool) (plain : IsClosedForwardBody changes program (begin + 1) stop) (unread : changes ≡ true → HasNoBackreference program) (fits : f.min_iters ≤ f.max_iters) where
   abbrev Left : ℕ → ℕ
-  Left at = left_from (units text) d at
+  Left at = units_left_in_direction (units text) d at
 
   -- ---- One iteration
 

@@ -31,7 +31,7 @@ use Rattle.regress_memo.proofs.MemoContentsLemmas.{same-is, same-itself, bit-the
 use Rattle.regress_memo.specs.CheckedAnalysis.{IsRecordableMemoKey}
 use Rattle.regress_search.specs.TreePlanAndText.{SearchInput, program_of}
 use Rattle.regress_backtrack.specs.declared.failure_memo.RecordKey.{RecordKey as Stored}
-use Rattle.regress_backtrack.specs.FailureMemo.{IsKeyOf, memo_key_as_spec}
+use Rattle.regress_backtrack.specs.FailureMemo.{KeyStandsForThreadsInDirection, memo_key_as_spec}
 use Rattle.regress_backtrack.specs.FailuresInMemoTable.{scheme_of}
 
 -- A sound state agrees with itself if no group is compared.
@@ -64,7 +64,7 @@ heads false = refl
 -- A sound thread that stands at no loop's body has its key.
 pub key-of-thread : (w : SearchInput) (t : MemoAnalysis) (forward : Bool) (s : State) (k : Key) → memo_key_at t s ≡ Some k
     → char_loop_greediness_at (insn_before (program_of w) s.ip) ≡ None → (insn_analysis_of t s.ip).forward ≡ forward → HasSlotsOfProgram (program_of w) s
-    → IsSoundState (analysis_as_liveness t) (units w.text) (insn_direction t s.ip) s → IsKeyOf w (scheme_of t) forward k (running s ∷ [])
+    → IsSoundState (analysis_as_liveness t) (units w.text) (insn_direction t s.ip) s → KeyStandsForThreadsInDirection w (scheme_of t) forward k (running s ∷ [])
 key-of-thread w t forward s k is no_body line of sound =
     let way : insn_direction t s.ip ≡ direction_of_forward_flag forward = heads (insn_analysis_of t s.ip).forward ∙ ap (λ b. direction_of_forward_flag b) line in
     thread-key (program_of w) w.text t (direction_of_forward_flag forward) s k is no_body way of
@@ -165,9 +165,9 @@ module _ (m : MemoView) (k : Key) where
 
 -- A key stored in the memo stands for the threads of the equal key.
 pub stored-key : (w : SearchInput) (t : MemoAnalysis) (forward : Bool) (ts : List Thread) (key : Key) (o : Option Stored)
-    → IfSome o (λ k. memo_key_as_spec k ≡ key) → IsKeyOf w (scheme_of t) forward key ts → IfSome o (λ k. IsKeyOf w (scheme_of t) forward (memo_key_as_spec k) ts)
+    → IfSome o (λ k. memo_key_as_spec k ≡ key) → KeyStandsForThreadsInDirection w (scheme_of t) forward key ts → IfSome o (λ k. KeyStandsForThreadsInDirection w (scheme_of t) forward (memo_key_as_spec k) ts)
 stored-key w t forward ts key None same of = tt
-stored-key w t forward ts key (Some k) same of = subst (λ j. IsKeyOf w (scheme_of t) forward j ts) (sym same) of
+stored-key w t forward ts key (Some k) same of = subst (λ j. KeyStandsForThreadsInDirection w (scheme_of t) forward j ts) (sym same) of
 
 pub not-false : (b : Bool) → not b ≡ false → b ≡ true
 not-false true e = refl

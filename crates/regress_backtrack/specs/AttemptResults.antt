@@ -24,11 +24,12 @@ CostsStepsAt w at counts before answer after = SpendsNeedOrReachesLimit (ticks_o
     (step_limit counts before) answer (step_limit counts after)
 
 -- The state has a slot for each group and each loop of the tree.
-abbrev pub HasSlots : Tree → StateModel → Type 0
-HasSlots tree h = length h.slots ≡ (compiled tree).groups + (compiled tree).loops
+abbrev pub HasSlotPerGroupAndLoop : Tree → StateModel → Type 0
+HasSlotPerGroupAndLoop tree h = length h.slots ≡ (compiled tree).groups + (compiled tree).loops
 
 -- If the state has all of its slots, an allocation failure has spent at least one step.
 abbrev pub AllocFailureCostsStepIfSlots : {X : Type 0} → SearchInput → (left : StateModel) → (counts : Bool)
     → (before : Budget) → Result X SearchError → (after : Budget) → Type 0
 AllocFailureCostsStepIfSlots w left counts before answer after =
-    AllocFailureCostsAStep (HasSlots w.tree left) (step_limit counts before) answer (step_limit counts after)
+    AllocFailureCostsAStep (HasSlotPerGroupAndLoop w.tree left) (step_limit counts before) answer
+    (step_limit counts after)

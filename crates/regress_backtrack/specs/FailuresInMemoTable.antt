@@ -6,7 +6,7 @@ use Rattle.regress_memo.specs.Laws.{analysis_keys}
 use Rattle.regress_memo.specs.MemoContents.{has_failure, has_success}
 use Rattle.regress_memo.specs.MemoContractView.{MemoView}
 use Rattle.regress_search.specs.TreePlanAndText.{SearchInput}
-use Rattle.regress_backtrack.specs.FailureMemo.{MemoScheme, AreFailuresSound, AreEndsSound, scheme_in, failed_in}
+use Rattle.regress_backtrack.specs.FailureMemo.{MemoScheme, AreFailuresSound, AreEndsSound, scheme_of_optional_memo, failures_of_optional_memo}
 
 -- From this instruction on, groups stay unchanged, and only loops with the number `loops` or a
 -- greater one may be written. No loop with live data encloses the instruction.
@@ -29,5 +29,7 @@ scheme_of t = record {
 -- If there is a memo, the failures and the ends that it records are right.
 abbrev pub IsMemoRight : {B : Type 0} → (known : B → MemoView) → SearchInput → Option B → Type 0
 IsMemoRight known w o =
-    AreFailuresSound w (scheme_in (λ b. scheme_of (known b).memo_analysis) o) (failed_in (λ b. has_failure (known b)) o)
-    × AreEndsSound w (scheme_in (λ b. scheme_of (known b).memo_analysis) o) (failed_in (λ b. has_success (known b)) o)
+    AreFailuresSound w (scheme_of_optional_memo (λ b. scheme_of (known b).memo_analysis) o)
+    (failures_of_optional_memo (λ b. has_failure (known b)) o)
+    × AreEndsSound w (scheme_of_optional_memo (λ b. scheme_of (known b).memo_analysis) o)
+    (failures_of_optional_memo (λ b. has_success (known b)) o)

@@ -11,7 +11,7 @@ use Rattle.regress_backtrack.specs.declared.position_and_result.ThreadPos.{Threa
 use Rattle.regress_backtrack.specs.declared.failure_memo.RecordKey.{RecordKey as Stored}
 use Rattle.regress_backtrack.specs.FailureMemo.{MemoScheme, KeyFindsEnd, memo_key_as_spec}
 use Rattle.regress_backtrack.specs.State.{StateModel, current_thread_state_of}
-use Rattle.regress_backtrack.specs.ChoicePoints.{resume_points_in}
+use Rattle.regress_backtrack.specs.ChoicePoints.{resume_points_of_choice_point}
 use Rattle.regress_backtrack.specs.PendingThreads.{pending_above}
 use Rattle.regress_backtrack.specs.declared.choice_point_resumption.StackAndLogBase.{StackAndLogBase}
 use Rattle.regress_backtrack.specs.declared.state.ChoicePointKind.TheVariants.{Lazy, Record}
@@ -19,13 +19,13 @@ use Rattle.regress_backtrack.specs.declared.state.ChoicePoint.{ChoicePoint}
 
 module _ (w : SearchInput) (forward : Bool) where
   -- The thread at this position finds an end.
-  abbrev pub FindsEndHere : (here : ThreadPos) → StateModel → Type 0
-  FindsEndHere here h = FindEnd (program_of w) w.text (direction_of_forward_flag forward)
+  abbrev pub ThreadFindsEnd : (here : ThreadPos) → StateModel → Type 0
+  ThreadFindsEnd here h = FindEnd (program_of w) w.text (direction_of_forward_flag forward)
       (running (current_thread_state_of h here.ip here.at) ∷ [])
 
   -- The rest of a greedy loop over a class, from an offset on, finds an end.
-  abbrev pub RestFindsEnd : Class → (from : ThreadPos) → StateModel → Type 0
-  RestFindsEnd class from h = (test : ℕ → Bool) → IsClassTest w class test
+  abbrev pub LoopRestFindsEnd : Class → (from : ThreadPos) → StateModel → Type 0
+  LoopRestFindsEnd class from h = (test : ℕ → Bool) → IsClassTest w class test
       → FindEnd (program_of w) w.text (direction_of_forward_flag forward)
       (greedy_loop_threads w.text test (direction_of_forward_flag forward) 0 (place w.text from.at)
       (current_thread_state_of h from.ip from.at))
@@ -33,7 +33,7 @@ module _ (w : SearchInput) (forward : Bool) where
   -- The thread and those that are pending above this many choice points find an end.
   abbrev pub FindsEndAbove : (base : ℕ) → (here : ThreadPos) → StateModel → Type 0
   FindsEndAbove base here h = FindEnd (program_of w) w.text (direction_of_forward_flag forward)
-      (running (current_thread_state_of h here.ip here.at) ∷ pending_above (resume_points_in w) base h)
+      (running (current_thread_state_of h here.ip here.at) ∷ pending_above (resume_points_of_choice_point w) base h)
 
   -- The same holds above each record that is above the base.
   abbrev pub FindsEndAboveRecords : (base : ℕ) → (here : ThreadPos) → StateModel → Type 0
@@ -43,7 +43,7 @@ module _ (w : SearchInput) (forward : Bool) where
 module _ (w : SearchInput) (t : MemoScheme) (forward : Bool) where
   -- The thread at this position finds an end, and so does each thread of the key.
   abbrev pub ThreadHasKnownEnd : (here : ThreadPos) → StateModel → Stored → Type 0
-  ThreadHasKnownEnd here h key = FindsEndHere w forward here h
+  ThreadHasKnownEnd here h key = ThreadFindsEnd w forward here h
       × KeyFindsEnd (program_of w) w.text t (memo_key_as_spec key)
 
   -- The thread at this position and those that are pending above the base find an end, and so do

@@ -3,10 +3,12 @@ pub mod State
 pub mod UndoLog
 pub mod PendingThreads
 pub mod StepsTakenFromBudget
+pub mod WorkPaidFromBudget
 pub mod StateTransitions
 pub mod ChoicePoints
 pub mod OpExecution
 pub mod OpContracts
+pub mod WorkOfOps
 pub mod LoopTransitions
 pub mod OffsetPastBackreference
 pub mod CharLoopScans

@@ -8,18 +8,19 @@ use Rattle.regex_meaning.specs.CompilationRelation.{Loop1CharBody, BeginCaptureG
 use Rattle.regress_machine.specs.Machine.{State, running}
 use Rattle.regress_machine.specs.InsnEffects.{body_entered_with_iteration_count}
 use Rattle.regress_machine.specs.ThreadSimulation.{Simulates}
-use Rattle.regress_memo.specs.Liveness.{left_from, ReadsAsBytes}
+use Rattle.regress_memo.specs.Liveness.{units_left_in_direction, ReadsAsBytes}
 
 -- If the instruction is a lookaround, it continues at instruction `to` or earlier.
-abbrev pub EndsBy : (to : ℕ) → Insn → Type 0
-EndsBy to (Lookahead negate start_group end_group continuation) = continuation ≤ to
-EndsBy to (Lookbehind negate start_group end_group continuation) = continuation ≤ to
-EndsBy to _ = Unit {0}
+abbrev pub LookaroundInsnContinuesBy : (to : ℕ) → Insn → Type 0
+LookaroundInsnContinuesBy to (Lookahead negate start_group end_group continuation) = continuation ≤ to
+LookaroundInsnContinuesBy to (Lookbehind negate start_group end_group continuation) = continuation ≤ to
+LookaroundInsnContinuesBy to _ = Unit {0}
 
 -- Each lookaround between the instructions `from` and `to` continues at `to` or earlier.
 abbrev pub LookaroundsEndBy : Program → (from to : ℕ) → Type 0
 LookaroundsEndBy program from to =
-    (ip : ℕ) → from ≤ ip → ip < to → (insn : Insn) → slice_get program.insns ip ≡ Some insn → EndsBy to insn
+    (ip : ℕ) → from ≤ ip → ip < to → (insn : Insn) → slice_get program.insns ip ≡ Some insn
+    → LookaroundInsnContinuesBy to insn
 
 -- A thread may continue from instruction `ip` at `to`. `to` is later, at most `stop`, and not
 -- inside a lookaround that begins between them.
@@ -55,19 +56,19 @@ module _ (changes : Bool) (program : Program) where
 
   -- The contents of a lookaround are not empty and do not continue after it. `Goal` occurs only in
   -- the contents of a lookaround at instruction `from` or later.
-  abbrev pub HasClosedContents : (from ip : ℕ) → Insn → Type 0
-  HasClosedContents from ip Goal = LookaroundsEndBy program from ip → ⊥
-  HasClosedContents from ip (Lookahead negate start_group end_group continuation) = (ip + 1 < continuation)
+  abbrev pub LookaroundContentsStayInside : (from ip : ℕ) → Insn → Type 0
+  LookaroundContentsStayInside from ip Goal = LookaroundsEndBy program from ip → ⊥
+  LookaroundContentsStayInside from ip (Lookahead negate start_group end_group continuation) = (ip + 1 < continuation)
       × AllStayInContents (ip + 1) continuation
-  HasClosedContents from ip (Lookbehind negate start_group end_group continuation) = (ip + 1 < continuation)
+  LookaroundContentsStayInside from ip (Lookbehind negate start_group end_group continuation) = (ip + 1 < continuation)
       × AllStayInContents (ip + 1) continuation
-  HasClosedContents from ip _ = Unit {0}
+  LookaroundContentsStayInside from ip _ = Unit {0}
 
-  -- Each instruction in `from..stop` satisfies `StaysInBody` and `HasClosedContents`.
-  abbrev pub IsPlainBody : (from stop : ℕ) → Type 0
-  IsPlainBody from stop =
+  -- Each instruction in `from..stop` satisfies `StaysInBody` and `LookaroundContentsStayInside`.
+  abbrev pub IsClosedForwardBody : (from stop : ℕ) → Type 0
+  IsClosedForwardBody from stop =
       (ip : ℕ) → from ≤ ip → ip < stop → (insn : Insn) → slice_get program.insns ip ≡ Some insn
-      → StaysInBody stop ip insn × HasClosedContents from ip insn
+      → StaysInBody stop ip insn × LookaroundContentsStayInside from ip insn
 
 -- The instruction is not a backreference.
 abbrev pub IsNoBackreference : Insn → Type 0
@@ -82,7 +83,7 @@ HasNoBackreference program = (ip : ℕ) (insn : Insn) → slice_get program.insn
 -- program has no backreference.
 pub record IsRepeatableBody (program : Program) (from stop : ℕ) : Type 0 where
   pub changes : Bool
-  pub plain : IsPlainBody changes program from stop
+  pub plain : IsClosedForwardBody changes program from stop
   pub unread : changes ≡ true → HasNoBackreference program
 
 -- The loop at `begin` has a repeatable body.
@@ -100,6 +101,6 @@ abbrev pub LaterIterationReplacesSurplus : Type 0
 LaterIterationReplacesSurplus = (program : Program) (text : Text) → HasRisingPlaceOffsets text
     → ReadsAsBytes program text → (d : Direction) (begin : ℕ) (f : LoopFields) → HasRepeatableBody program begin f
     → f.min_iters ≤ f.max_iters → (k to : ℕ) (s : State) → k ≤ to
-    → to + left_from (units text) d s.pos + 2 ≤ f.min_iters
+    → to + units_left_in_direction (units text) d s.pos + 2 ≤ f.min_iters
     → Simulates program text false d 0 (running (body_entered_with_iteration_count f.loop_id begin to s) ∷ [])
     (running (body_entered_with_iteration_count f.loop_id begin k s) ∷ [])

@@ -6,7 +6,7 @@ ghost use Rattle.std.specs.List.{starts_with};
 ghost use Rattle.regex_meaning.specs.{CodeUnitOffsets.{IsBoundary}, StartPredicate.{first_byte_is_one_of, utf8_bytes_of_text_from_place}};
 ghost use Rattle.regress_input.specs.CharAndByteReadsFromOffset.{place};
 ghost use Rattle.regress_program.specs.InsnsAsSpec.{start_predicate_as_spec};
-ghost use Rattle.regress_backtrack.specs.LimitedStarts.{lets_through as lets, IsFirstTried, IsNextTried};
+ghost use Rattle.regress_backtrack.specs.LimitedStarts.{admits_start as lets, IsFirstTriedStart, IsTriedStartAfterFailure};
 
 use regex_pattern_front::bytesearch::ByteSet;
 use regress_input::cursor::Forward;
@@ -46,7 +46,7 @@ fn has_bytes_at<Input: InputIndexer>(input: &Input, bytes: &[u8], at: Input::Pos
 }
 
 // Checks whether a position is tried when the search reaches it.
-fn lets_through<Input: InputIndexer>(
+fn admits_start<Input: InputIndexer>(
     input: &Input,
     start: &StartPredicate,
     at: Input::Position,
@@ -75,11 +75,11 @@ pub(crate) fn first_start_to_try<Input: InputIndexer>(
     requires at { IsBoundary (Input.text input.now) (Input.Position.offset from) }
     requires bytes { IsTrue Input.Units.ARE_BYTES }
     ensures { let at = Input.Position.offset in
-        IsFirstTried (start_predicate_as_spec start.now) (Input.text input.now) (at from) (option_map at result) }
+        IsFirstTriedStart (start_predicate_as_spec start.now) (Input.text input.now) (at from) (option_map at result) }
 {
     let mut next = Some(from);
     'places: while let Some(at) = next {
-        if lets_through(input, start, at) {
+        if admits_start(input, start, at) {
             return Some(at);
         }
         next = input.next_right_pos(at);
@@ -89,6 +89,8 @@ pub(crate) fn first_start_to_try<Input: InputIndexer>(
 
 /// Returns the position that is tried after the failed start `tried`. Returns `None` if there is
 /// none.
+///
+/// This holds for each tree with this start predicate, and a text of bytes.
 pub(crate) fn next_start_to_try<Input: InputIndexer>(
     input: &Input,
     start: &StartPredicate,
@@ -97,7 +99,7 @@ pub(crate) fn next_start_to_try<Input: InputIndexer>(
     requires at { IsBoundary (Input.text input.now) (Input.Position.offset tried) }
     requires bytes { IsTrue Input.Units.ARE_BYTES }
     ensures { let at = Input.Position.offset in
-        IsNextTried (start_predicate_as_spec start.now) (Input.text input.now) (at tried) (option_map at result) }
+        IsTriedStartAfterFailure (start_predicate_as_spec start.now) (Input.text input.now) (at tried) (option_map at result) }
 {
     if start.is_anchored() {
         return None;

@@ -7,7 +7,7 @@ ghost use Rattle.regress_search.specs.SearchEffects.{SpendsNeedOrReachesLimit, c
 ghost use Rattle.regress_program.specs.InsnsAsSpec.{insn_as_spec_insn};
 ghost use Rattle.regress_search.specs.TreePlanAndText.{program_of};
 ghost use Rattle.regress_backtrack.specs.AttemptResults.{HasFirstOutcomeEndAndGroups, CostsStepsAt, AllocFailureCostsStepIfSlots};
-ghost use Rattle.regress_backtrack.specs.{MemoizedExecution.{IsMemoSound, KeepsMemoSound}, Interpreter.{IfDone}};
+ghost use Rattle.regress_backtrack.specs.{MemoizedExecution.{IsMemoSound, KeepsMemoSound}, Interpreter.{IfResultStored}};
 ghost use Rattle.regress_backtrack.specs.{FailuresInMemoTable.{IsMemoRight}, TextsReadAsTreeRequires.{TreeCanSearchText}};
 
 use crate::failure_memo::{FailureMemo, StepsAndMemo, StoredOrStopped};
@@ -46,6 +46,11 @@ fn end_position<W: SearchContext>(context: &W, end: Option<usize>) -> Option<Pos
 /// Returns the end of the match of highest priority that begins at a position, and leaves its
 /// groups in `memory`. Returns `None` if there is no match. The steps are taken from the budget.
 /// Returns `Err` if too few steps are left or an allocation fails.
+///
+/// The clauses `found`, `steps`, `begun` and `cause` say which match is found, which steps are
+/// spent and which error is returned. The clauses `sound` say that the memo is right and stays so.
+/// The clauses `executable` and `fresh` are what an attempt needs: a program that can search the
+/// text, a boundary, and a budget that has refused no steps.
 pub(crate) fn attempt<W: SearchContext, S: StepCounter, M: FailureMemo>(
     context: &W,
     pos: PositionOf<W>,
@@ -94,7 +99,7 @@ fn attempt_with_memo<W: SearchContext>(
     requires insns { map insn_as_spec_insn insns.now ≡ (program_of (W.searching context.now)).insns }
     requires sound { IsMemoRight (λ memo. memo.value) (W.searching context.now) again.old.progress.memo }
     ensures found { let at = W.Input.Position.offset in
-        IfDone result (HasFirstOutcomeEndAndGroups at (W.searching context.now) (at pos) memory.new came.new) }
+        IfResultStored result (HasFirstOutcomeEndAndGroups at (W.searching context.now) (at pos) memory.new came.new) }
     ensures sound { IsMemoRight (λ memo. memo.value) (W.searching context.now) again.new.progress.memo }
 {
     enable_memo(context, insns, again);
@@ -108,6 +113,10 @@ fn attempt_with_memo<W: SearchContext>(
 }
 
 /// Runs `attempt_with_memo` and returns the end that it found.
+///
+/// The clause `found` says which match is found. The clauses `steps` and `cause` say that no steps
+/// are counted, so that an error is an allocation failure. The clauses `sound` say that the memo is
+/// right and stays so, and `executable` and `insns` are what an attempt needs.
 #[inline(always)]
 pub(crate) fn retry_with_memo<W: SearchContext>(
     context: &W,

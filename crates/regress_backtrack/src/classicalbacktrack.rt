@@ -13,16 +13,16 @@ ghost use Rattle.regress_memo.specs.MemoContents.{has_failure, has_success};
 ghost use Rattle.regress_program.specs.CompilationOfTreesAsFunction.{compiled};
 ghost use Rattle.regress_backtrack.specs.{State.{current_thread_state_of}, FailuresInMemoTable.{scheme_of}, ProgramsAndPlans.{executed_tree_of}};
 ghost use Rattle.regress_backtrack.specs.LeapMemory.{NoMatchBeforeRememberedLeap};
-ghost use Rattle.regress_backtrack.specs.FailureMemo.{AreFailuresSoundIn, AreEndsSoundIn, scheme_in, failed_in};
+ghost use Rattle.regress_backtrack.specs.FailureMemo.{AreFailuresSoundIn, AreEndsSoundIn, scheme_of_optional_memo, failures_of_optional_memo};
 
 use crate::attempts::{attempt, retry_with_memo};
 use crate::failure_memo::{NoMemo, StepsAndMemo};
 use crate::failures_in_memo_table::CounterAndMemoForRetries;
-use crate::leap_memory::{LeapMemory, leaps_over_if_due};
+use crate::leap_memory::{LeapMemory, make_leap_if_due};
 use crate::next_candidate_start_by_plan::{first_candidate_start_from, is_candidate_start};
 use crate::program_plan_and_text::{ProgramAndPlan, ProgramPlanAndText};
 use crate::state::BacktrackState;
-use crate::step_and_work_budgets::{Unlimited, WorkBounded};
+use crate::step_and_work_budgets::{UnlimitedCounter, WorkBounded};
 pub use crate::step_limited::LimitedExecutor;
 use regress_input::indexing::{AsciiInput, InputIndexer, Ucs2Input, Utf8Input, Utf16Input};
 use regress_input::position::PositionType;
@@ -51,7 +51,7 @@ pub struct BacktrackExecutor<'r, Input: InputIndexer> {
     with_memo: CounterAndMemoForRetries,
     // The end that the last repeated attempt found. Its type also exposes the text's lifetime in
     // this struct, which generic calls require.
-    retry_end: Option<Input::Position>,
+    last_retry_end: Option<Input::Position>,
     // The leading char loop, with which each match begins. It is scanned again after a failed
     // start, so that none of its positions is tried.
     leading_loop: LeadingCharLoop,
@@ -60,13 +60,13 @@ pub struct BacktrackExecutor<'r, Input: InputIndexer> {
     // The memo is right: each key that it holds as failed fails, and each key that it holds as
     // finding an end finds one.
     ghost right: { AreFailuresSoundIn (compiled (executed_tree_of search.program)) (Input.text search.searched.input)
-        (scheme_in (λ memo. scheme_of memo.value.memo_analysis) with_memo.progress.memo)
-        (failed_in (λ memo. has_failure memo.value) with_memo.progress.memo)
+        (scheme_of_optional_memo (λ memo. scheme_of memo.value.memo_analysis) with_memo.progress.memo)
+        (failures_of_optional_memo (λ memo. has_failure memo.value) with_memo.progress.memo)
         × AreEndsSoundIn (compiled (executed_tree_of search.program)) (Input.text search.searched.input)
-        (scheme_in (λ memo. scheme_of memo.value.memo_analysis) with_memo.progress.memo)
-        (failed_in (λ memo. has_success memo.value) with_memo.progress.memo) } by { Prim.hlevel props },
+        (scheme_of_optional_memo (λ memo. scheme_of memo.value.memo_analysis) with_memo.progress.memo)
+        (failures_of_optional_memo (λ memo. has_success memo.value) with_memo.progress.memo) } by { Prim.hlevel props },
     // No match begins between the two offsets of the last leap.
-    ghost leapt: { NoMatchBeforeRememberedLeap (executed_tree_of search.program) (Input.text search.searched.input)
+    ghost no_match_in_last_leap: { NoMatchBeforeRememberedLeap (executed_tree_of search.program) (Input.text search.searched.input)
         leap } by { Prim.hlevel props },
     // Only groups are opened before the leading char loop.
     ghost opened: { OnlyOpensGroups search.program.plan leading_loop.opens } by { Prim.hlevel props },
@@ -74,18 +74,18 @@ pub struct BacktrackExecutor<'r, Input: InputIndexer> {
 
 // The work that is allowed for each offset of a text and for each instruction. It is more than most
 // searches do. Instructions count too, because the memo analysis examines each of them.
-const WORK_FOR_EACH: u64 = 16;
+const WORK_PER_OFFSET_AND_INSN: u64 = 16;
 
-const MOST_WORK: u64 = 0x7FFF_FFFF_FFFF_FFFF;
+const MAX_WORK_BUDGET: u64 = 0x7FFF_FFFF_FFFF_FFFF;
 
 // Returns the initial work budget of a search over `units` units with `insns` instructions.
 #[inline(always)]
-fn work_at_first(units: usize, insns: usize) -> u64 {
+fn initial_work_budget(units: usize, insns: usize) -> u64 {
     let each = units.saturating_add(insns);
     if each < 0x0400_0000_0000_0000 {
-        (each as u64 + 1) * WORK_FOR_EACH
+        (each as u64 + 1) * WORK_PER_OFFSET_AND_INSN
     } else {
-        MOST_WORK
+        MAX_WORK_BUDGET
     }
 }
 
@@ -100,7 +100,7 @@ impl<'r, Input: InputIndexer> BacktrackExecutor<'r, Input> {
         let search = ProgramPlanAndText::new(program, searched);
         let alloc = search.searched.program.allocator();
         let units = search.searched.input.unit_count();
-        let work = work_at_first(units, search.program.insns().len());
+        let work = initial_work_budget(units, search.program.insns().len());
         let leading_loop = LeadingCharLoop::of(search.program.plan());
         let leap = LeapMemory::new(&search.program.plan().leap);
         BacktrackExecutor {
@@ -113,13 +113,13 @@ impl<'r, Input: InputIndexer> BacktrackExecutor<'r, Input> {
             },
             with_memo: CounterAndMemoForRetries {
                 progress: StepsAndMemo {
-                    steps: Unlimited::work_counter_with_limit(0),
+                    steps: UnlimitedCounter::work_counter_with_limit(0),
                     memo: None,
                     end: None,
                 },
                 began: false,
             },
-            retry_end: None,
+            last_retry_end: None,
             leading_loop,
             leap,
         }
@@ -129,7 +129,7 @@ impl<'r, Input: InputIndexer> BacktrackExecutor<'r, Input> {
     // `next`, the next start to try, may be the loop's next character. The next attempt is past the
     // loop's end, so each character is scanned again only once.
     #[inline(always)]
-    fn goes_over(&self, tried: Input::Position, next: Input::Position) -> bool {
+    fn may_rescan_leading_loop(&self, tried: Input::Position, next: Input::Position) -> bool {
         let most = self.leading_loop.max_char_units;
         most != 0 && next.to_offset().wrapping_sub(tried.to_offset()) <= most
     }
@@ -169,27 +169,27 @@ fn next_candidate_past_leap<W: SearchContext>(
 ) -> Option<PositionOf<W>>
     requires at { IsBoundary (W.searching context.now).text (W.Input.Position.offset from) }
     requires executable { let w = W.searching context.now in TreeProgramCanSearchText (program_of w) w.tree w.text }
-    requires leapt { let w = W.searching context.now in NoMatchBeforeRememberedLeap w.tree w.text leap.now }
+    requires no_match_in_last_leap { let w = W.searching context.now in NoMatchBeforeRememberedLeap w.tree w.text leap.now }
     ensures { let w = W.searching context.now in let at = W.Input.Position.offset in
         NextStartSkipsNoMatch w.tree w.text (at from) (option_map at result) }
 {
-    if leap.is_past(offset_in_searched_text(context, from)) {
+    if leap.is_past_leap_target(offset_in_searched_text(context, from)) {
         return next_candidate_start(context, from);
     }
-    next_candidate_behind_leap(context, leap, from)
+    next_candidate_by_remembered_leap(context, leap, from)
 }
 
 // Does the work of `next_candidate_past_leap` if the last leap may say something about `from`. It
 // is not inlined, because this is rare.
 #[inline(never)]
-fn next_candidate_behind_leap<W: SearchContext>(
+fn next_candidate_by_remembered_leap<W: SearchContext>(
     context: &W,
     leap: &LeapMemory,
     from: PositionOf<W>,
 ) -> Option<PositionOf<W>>
     requires at { IsBoundary (W.searching context.now).text (W.Input.Position.offset from) }
     requires executable { let w = W.searching context.now in TreeProgramCanSearchText (program_of w) w.tree w.text }
-    requires leapt { let w = W.searching context.now in NoMatchBeforeRememberedLeap w.tree w.text leap.now }
+    requires no_match_in_last_leap { let w = W.searching context.now in NoMatchBeforeRememberedLeap w.tree w.text leap.now }
     ensures { let w = W.searching context.now in let at = W.Input.Position.offset in
         NextStartSkipsNoMatch w.tree w.text (at from) (option_map at result) }
 {
@@ -200,6 +200,9 @@ fn next_candidate_behind_leap<W: SearchContext>(
 // Returns the first candidate start at `from` or later. Each match opens `opens` groups and then
 // begins with a char loop, and no match begins at `tried`, so none of the loop's positions is
 // tried.
+// Contract: `opens`, `no_match` and `executable` are these assumptions, for a program that can
+// search the text. `tried`, `at` and `ahead` say that both positions are boundaries, in this order.
+// No match begins between `from` and the result, or at `from` or later if it is `None`.
 #[inline(never)]
 fn next_start_past_loop<W: SearchContext>(
     context: &W,
@@ -248,7 +251,7 @@ impl<'r, Input: InputIndexer> SingleAttemptExecutor for BacktrackExecutor<'r, In
     #[inline(always)]
     fn attempt(&mut self, pos: Input::Position) -> Result<Option<Input::Position>, SearchError> {
         let at = self.search.searched.input.pos_to_offset(pos);
-        if leaps_over_if_due(&self.search, &mut self.leap, at) {
+        if make_leap_if_due(&self.search, &mut self.leap, at) {
             return Ok(None);
         }
         if self.without_memo.steps.is_work_limit_exceeded() {
@@ -259,7 +262,7 @@ impl<'r, Input: InputIndexer> SingleAttemptExecutor for BacktrackExecutor<'r, In
                 pos,
                 &mut self.memory,
                 &mut self.with_memo,
-                &mut self.retry_end,
+                &mut self.last_retry_end,
             );
         }
         let end = attempt(&self.search, pos, &mut self.memory, &mut self.without_memo);
@@ -273,7 +276,7 @@ impl<'r, Input: InputIndexer> SingleAttemptExecutor for BacktrackExecutor<'r, In
             pos,
             &mut self.memory,
             &mut self.with_memo,
-            &mut self.retry_end,
+            &mut self.last_retry_end,
         )
     }
 
@@ -305,7 +308,7 @@ impl<'r, Input: InputIndexer> SingleAttemptExecutor for BacktrackExecutor<'r, In
     fn next_start_after_failure(&self, tried: Input::Position) -> Option<Input::Position> {
         let next = self.search.searched.position_after_failure(tried)?;
         let to = next_candidate_past_leap(&self.search, &self.leap, next)?;
-        if self.goes_over(tried, to) {
+        if self.may_rescan_leading_loop(tried, to) {
             return next_start_past_loop(&self.search, self.leading_loop.opens, tried, to);
         }
         Some(to)
@@ -386,20 +389,20 @@ type OverUtf8 = BacktrackExecutor<'static, Utf8Input<'static>>;
 
 type OverAscii = BacktrackExecutor<'static, AsciiInput<'static>>;
 
-type OfUtf8 = <OverUtf8 as Executor<'static, 'static>>::AsAscii;
+type AsciiExecutorForUtf8Backtracker = <OverUtf8 as Executor<'static, 'static>>::AsAscii;
 
-type OfAscii = <OverAscii as Executor<'static, 'static>>::AsAscii;
+type AsciiExecutorForAsciiBacktracker = <OverAscii as Executor<'static, 'static>>::AsAscii;
 
 /// A law: the `AsAscii` type of the executor for UTF-8 accepts each ASCII text, and reads each byte
 /// as a character.
 pub fn ascii_is_read_in_bytes()
-    ensures takes { CanSearchAllAsciiTexts ⟦<OfUtf8 as ProducerFromProgramAndText<'static>>⟧.can_search }
-    ensures reads { ReadsBytesAsAscii ⟦<OfUtf8 as ProducerFromProgramAndText<'static>>⟧.text_of }
+    ensures takes { CanSearchAllAsciiTexts ⟦<AsciiExecutorForUtf8Backtracker as ProducerFromProgramAndText<'static>>⟧.can_search }
+    ensures reads { ReadsBytesAsAscii ⟦<AsciiExecutorForUtf8Backtracker as ProducerFromProgramAndText<'static>>⟧.text_of }
 {}
 
 /// A law: the `AsAscii` type of the executor for ASCII accepts each ASCII text, and reads each byte
 /// as a character.
 pub fn ascii_stays_in_bytes()
-    ensures takes { CanSearchAllAsciiTexts ⟦<OfAscii as ProducerFromProgramAndText<'static>>⟧.can_search }
-    ensures reads { ReadsBytesAsAscii ⟦<OfAscii as ProducerFromProgramAndText<'static>>⟧.text_of }
+    ensures takes { CanSearchAllAsciiTexts ⟦<AsciiExecutorForAsciiBacktracker as ProducerFromProgramAndText<'static>>⟧.can_search }
+    ensures reads { ReadsBytesAsAscii ⟦<AsciiExecutorForAsciiBacktracker as ProducerFromProgramAndText<'static>>⟧.text_of }
 {}

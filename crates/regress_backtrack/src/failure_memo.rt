@@ -6,7 +6,7 @@ ghost use Rattle.regex_meaning.specs.CodeUnitOffsets.{units};
 ghost use Rattle.regress_memo.specs.MemoSearch.{Key as KeyOf};
 ghost use Rattle.regress_machine.specs.Machine.{running};
 ghost use Rattle.regress_backtrack.specs.{State.{current_thread_state_of}, MemoizedCharLoops.{DecidesLoopRest}};
-ghost use Rattle.regress_backtrack.specs.FailureMemo.{MemoScheme, AreFailuresSound, IsKeyOf, memo_key_as_spec, no_scheme};
+ghost use Rattle.regress_backtrack.specs.FailureMemo.{MemoScheme, AreFailuresSound, KeyStandsForThreadsInDirection, memo_key_as_spec, scheme_recording_nothing};
 ghost use Rattle.regress_backtrack.specs.FailureMemo.{ContentsKeepState};
 
 use crate::position_and_result::DirectedThreadPos;
@@ -49,7 +49,7 @@ pub trait FailureMemo {
     ) -> Option<RecordKey>
         requires sound { AreFailuresSound (W.searching context.now) (terms self.now) (failed self.now) }
         requires inside { thread.here.at ≤ units (W.searching context.now).text }
-        ensures { IfSome result (λ k. IsKeyOf (W.searching context.now) (terms self.now) thread.forward
+        ensures { IfSome result (λ k. KeyStandsForThreadsInDirection (W.searching context.now) (terms self.now) thread.forward
             (memo_key_as_spec k) (running (current_thread_state_of memory.now thread.here.ip thread.here.at) ∷ [])) };
 
     /// Returns the key of the rest of a char loop without a maximum, from an offset on. Returns
@@ -120,7 +120,7 @@ impl FailureMemo for NoMemo {
 
     const ON: bool = false;
 
-    ghost terms = { λ _. no_scheme };
+    ghost terms = { λ _. scheme_recording_nothing };
 
     ghost failed = { λ _ _. false };
 

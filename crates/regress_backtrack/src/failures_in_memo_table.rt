@@ -8,12 +8,12 @@ ghost use Rattle.regress_program.specs.{InsnsAsSpec.{insn_as_spec_insn}, Plans.{
 ghost use Rattle.regress_search.specs.TreePlanAndText.{program_of};
 ghost use Rattle.regress_backtrack.specs.{State.{current_thread_state_of}, FailuresInMemoTable.{scheme_of, IsMemoRight}};
 ghost use Rattle.regress_backtrack.specs.FailuresInMemoTable.{keeps_state_from as spec_keeps_state_from};
-ghost use Rattle.regress_backtrack.specs.FailureMemo.{memo_key_as_spec, scheme_in, failed_in, has_key_in};
+ghost use Rattle.regress_backtrack.specs.FailureMemo.{memo_key_as_spec, scheme_of_optional_memo, failures_of_optional_memo, has_key_in_optional_memo};
 
 use crate::failure_memo::{FailureMemo, RecordKey, StepsAndMemo};
 use crate::position_and_result::DirectedThreadPos;
 use crate::state::BacktrackState;
-use crate::step_and_work_budgets::Unlimited;
+use crate::step_and_work_budgets::UnlimitedCounter;
 use regex_pattern_front::types::LoopID;
 use regress_memo::analysis_result::MemoAnalysis;
 use regress_memo::loop_data_key_codes::{IterationStatesOfAllLoops, LoopCountAndIterationStart};
@@ -219,13 +219,13 @@ impl<M: FailureMemo> FailureMemo for Option<Box<M>> {
 
     const ON: bool = M::ON;
 
-    ghost terms = { scheme_in (λ memo. M.terms memo.value) };
+    ghost terms = { scheme_of_optional_memo (λ memo. M.terms memo.value) };
 
-    ghost failed = { failed_in (λ memo. M.failed memo.value) };
+    ghost failed = { failures_of_optional_memo (λ memo. M.failed memo.value) };
 
-    ghost succeeded = { failed_in (λ memo. M.succeeded memo.value) };
+    ghost succeeded = { failures_of_optional_memo (λ memo. M.succeeded memo.value) };
 
-    ghost has_key = { has_key_in (λ memo. M.has_key memo.value) };
+    ghost has_key = { has_key_in_optional_memo (λ memo. M.has_key memo.value) };
 
     #[inline(always)]
     fn key_at<W: SearchContext>(
@@ -304,7 +304,7 @@ impl<M: FailureMemo> FailureMemo for Option<Box<M>> {
 pub(crate) struct CounterAndMemoForRetries {
     /// The counter and the memo. Failures are recorded if the program has a memo analysis and there
     /// is memory for the memo.
-    pub progress: StepsAndMemo<Unlimited, Option<Box<MemoTable>>>,
+    pub progress: StepsAndMemo<UnlimitedCounter, Option<Box<MemoTable>>>,
     /// Whether the memo was already created, or its creation failed.
     pub began: bool,
 }
@@ -331,7 +331,7 @@ pub(crate) fn enable_memo<W: SearchContext>(
 
 // Checks whether a program has a lookaround for which only the existence of an end of its contents
 // matters. Only searches of such contents read recorded ends.
-fn reads_ends(memo_analysis: &MemoAnalysis, insns: &[Insn], loops: usize) -> bool {
+fn reads_recorded_ends(memo_analysis: &MemoAnalysis, insns: &[Insn], loops: usize) -> bool {
     for ip in 0..insns.len() {
         if let Insn::Lookahead { negate, .. } | Insn::Lookbehind { negate, .. } = insns[ip] {
             if negate || keeps_state_from(memo_analysis, ip + 1, loops) {
@@ -357,7 +357,7 @@ fn new_memo<W: SearchContext>(
         return Ok(None);
     };
     let places = text_end(context) + 1;
-    let records_ends = reads_ends(&memo_analysis, insns, loops);
+    let records_ends = reads_recorded_ends(&memo_analysis, insns, loops);
     let Some(memo) = MemoTable::new(alloc, memo_analysis, places, records_ends)? else {
         return Ok(None);
     };

@@ -4,12 +4,12 @@ ghost use Rattle.std.specs.Prelude.{◌≡◌, Some, true};
 ghost use Rattle.regex_meaning.specs.{Tree.{Tree}, Text.{Text}, CodeUnitOffsets.{IsBoundary}};
 ghost use Rattle.regress_search.specs.AttemptsAndStarts.{NextStartSkipsNoMatch, NoMatchAt};
 ghost use Rattle.regress_machine.specs.SearchFindsFirstOutcomeAtPlace.{TreeProgramCanSearchText};
-ghost use Rattle.regress_program.specs.{Leaps.{IsLeap}, TableKeysOfUnits.{is_16_bit_encoding}};
+ghost use Rattle.regress_program.specs.{Leaps.{IsLeapRightForProgram}, TableKeysOfUnits.{is_16_bit_encoding}};
 ghost use Rattle.regress_search.specs.TreePlanAndText.{program_of};
 ghost use Rattle.regress_backtrack.specs.LeapMemory.{NoMatchBeforeRememberedLeap};
 
 use regress_program::leap::Leap;
-use regress_search::leaping::{LeapTarget, leap_from};
+use regress_search::leaping::{LeapTarget, leap_target_from};
 use regress_search::search_context::SearchContext;
 
 /// What a search remembers of its last leap.
@@ -24,17 +24,18 @@ pub(crate) struct LeapMemory {
     until: usize,
     // An attempt at this offset or later is preceded by a leap.
     due: usize,
-    // The number of leaps that did not advance the search, up to `MOST_VAIN`. It is halved by each
-    // leap that does.
+    // The number of leaps that did not advance the search, up to `MAX_UNPRODUCTIVE_LEAPS`. It is
+    // halved by each leap that does.
     vain: u32,
     // Whether an attempt was made. A search at a given offset makes only one.
     began: bool,
 }
 
-/// After this many leaps that did not advance the search, no leap is made for `REST` offsets.
-const MOST_VAIN: u32 = 16;
+/// After this many leaps that did not advance the search, no leap is made for
+/// `OFFSETS_WITHOUT_LEAP` offsets.
+const MAX_UNPRODUCTIVE_LEAPS: u32 = 16;
 
-const REST: usize = 1024;
+const OFFSETS_WITHOUT_LEAP: usize = 1024;
 
 impl LeapMemory {
     /// Returns the memory of a search that has made no leap.
@@ -61,7 +62,7 @@ impl LeapMemory {
 
     /// Checks whether the last leap says nothing about an offset.
     #[inline(always)]
-    pub(crate) fn is_past(&self, at: usize) -> bool {
+    pub(crate) fn is_past_leap_target(&self, at: usize) -> bool {
         at >= self.until
     }
 
@@ -81,24 +82,24 @@ impl LeapMemory {
     }
 
     // Determines when the next leap is due, after a leap from `from` that led to `target`.
-    fn schedule(&mut self, from: usize, target: LeapTarget)
+    fn schedule_next_leap(&mut self, from: usize, target: LeapTarget)
         ensures from { self.new.from ≡ self.old.from }
         ensures to { self.new.to ≡ self.old.to }
     {
         self.due = target.goal.saturating_add(1);
         if target.to > from {
             self.vain /= 2;
-        } else if self.vain < MOST_VAIN {
+        } else if self.vain < MAX_UNPRODUCTIVE_LEAPS {
             self.vain += 1;
         } else {
-            self.due = self.due.max(from.saturating_add(REST));
+            self.due = self.due.max(from.saturating_add(OFFSETS_WITHOUT_LEAP));
         }
     }
 }
 
 /// Makes a leap from an offset if one is due. Returns `true` if no match begins at this offset.
 #[inline(always)]
-pub(crate) fn leaps_over_if_due<W: SearchContext>(
+pub(crate) fn make_leap_if_due<W: SearchContext>(
     context: &W,
     memory: &mut LeapMemory,
     at: usize,
@@ -112,13 +113,17 @@ pub(crate) fn leaps_over_if_due<W: SearchContext>(
     if !memory.is_due(at) {
         return false;
     }
-    leaps_over(context, memory, at)
+    make_leap_after_first_attempt(context, memory, at)
 }
 
 // Makes a leap from an offset, unless no attempt was made yet. Returns `true` if no match begins at
 // this offset.
 #[inline(never)]
-fn leaps_over<W: SearchContext>(context: &W, memory: &mut LeapMemory, at: usize) -> bool
+fn make_leap_after_first_attempt<W: SearchContext>(
+    context: &W,
+    memory: &mut LeapMemory,
+    at: usize,
+) -> bool
     requires at { IsBoundary (W.searching context.now).text at }
     requires executable { let w = W.searching context.now in TreeProgramCanSearchText (program_of w) w.tree w.text }
     ensures none { let w = W.searching context.now in result ≡ true → NoMatchAt w.tree w.text at }
@@ -133,25 +138,30 @@ fn leaps_over<W: SearchContext>(context: &W, memory: &mut LeapMemory, at: usize)
         memory.began = true;
         return false;
     }
-    leap_over(context, leap, memory, at)
+    make_leap_and_store_it(context, leap, memory, at)
 }
 
 // Makes a leap from an offset, and stores where it led. Returns `true` if no match begins at this
 // offset.
 #[inline(always)]
-fn leap_over<W: SearchContext>(context: &W, leap: &Leap, memory: &mut LeapMemory, at: usize) -> bool
+fn make_leap_and_store_it<W: SearchContext>(
+    context: &W,
+    leap: &Leap,
+    memory: &mut LeapMemory,
+    at: usize,
+) -> bool
     requires at { IsBoundary (W.searching context.now).text at }
     requires executable { let w = W.searching context.now in TreeProgramCanSearchText (program_of w) w.tree w.text }
-    requires leap { let w = W.searching context.now in IsLeap (is_16_bit_encoding w.encoding) (program_of w) leap.now }
+    requires leap { let w = W.searching context.now in IsLeapRightForProgram (is_16_bit_encoding w.encoding) (program_of w) leap.now }
     ensures none { let w = W.searching context.now in result ≡ true → NoMatchAt w.tree w.text at }
     ensures sound { let w = W.searching context.now in NoMatchBeforeRememberedLeap w.tree w.text memory.new }
 {
     memory.from = at;
-    match leap_from(context, leap, at) {
+    match leap_target_from(context, leap, at) {
         Some(target) => {
             memory.to = Some(target.to);
             memory.until = target.to;
-            memory.schedule(at, target);
+            memory.schedule_next_leap(at, target);
             at < target.to
         }
         None => {

@@ -101,7 +101,7 @@ impl Model for BacktrackState {
 
 // Fills elements of a vector that are not yet used. Extending the vector with the value to be
 // stored would require that value in memory, even if there is room.
-const NO_SLOT: GroupOrLoopState = GroupOrLoopState {
+const SLOT_PLACEHOLDER: GroupOrLoopState = GroupOrLoopState {
     at: 0,
     from: 0,
     to: 0,
@@ -110,16 +110,16 @@ const NO_SLOT: GroupOrLoopState = GroupOrLoopState {
     is_set: false,
 };
 
-const ROOM_FOR_CHANGE: UndoEntry = UndoEntry {
+const UNDO_ENTRY_PLACEHOLDER: UndoEntry = UndoEntry {
     slot: 0,
-    old: NO_SLOT,
+    old: SLOT_PLACEHOLDER,
 };
 
 // This many changes are logged without a check whether their slots were logged before. Most
 // searches make fewer changes. The duplicate entries never take more memory than this.
 const UNCHECKED_ENTRIES: usize = 4096;
 
-const EMPTY_CHOICE_POINT: ChoicePoint = ChoicePoint {
+const CHOICE_POINT_PLACEHOLDER: ChoicePoint = ChoicePoint {
     ip: 0,
     kind: ChoicePointKind::One,
     next: 0,
@@ -129,7 +129,7 @@ const EMPTY_CHOICE_POINT: ChoicePoint = ChoicePoint {
 
 // The approximate maximum number of elements by which a vector becomes longer at a time. Its
 // allocation still doubles, but memory pages that are not written are not used.
-const MOST_MORE: usize = 4096;
+const MAX_VEC_GROWTH: usize = 4096;
 
 // Makes a vector longer.
 #[cold]
@@ -141,7 +141,7 @@ fn grow<T: Copy + Drop>(row: &mut Vec<T>, value: T) -> Result<(), AllocError>
 {
     let len = row.len();
     if len < 0x4000_0000_0000_0000 {
-        row.resize(len + smaller_of(len, MOST_MORE) + 8, value)
+        row.resize(len + smaller_of(len, MAX_VEC_GROWTH) + 8, value)
     } else {
         row.push(value)?;
         Ok(())
@@ -164,6 +164,8 @@ fn log_len_at_choice_point(choice_points: &[ChoicePoint]) -> usize
 // Makes room for one more entry in a log with `used` entries. Returns whether the change has to be
 // logged. It need not be if the slot's last entry, `noted`, was made after the last choice point.
 // The first `free` changes are always logged.
+// Contract: `room` says what the result means. `kept` says that the entries that are used stay as
+// they are. `used` and `free` say that both numbers stay within the log.
 #[inline(always)]
 fn reserve(
     log: &mut Vec<UndoEntry>,
@@ -185,13 +187,19 @@ fn reserve(
     if log_len_at_choice_point(choice_points) < noted as usize {
         return Ok(false);
     }
-    grow_log(log, free, used)?;
+    make_room_in_log(log, free, used)?;
     Ok(true)
 }
 
 // Makes room for one more entry, and updates `free`.
+// Contract: `room` and `kept` say that there is room after the entries that are used, which stay as
+// they are. `used` and `free` say that both numbers stay within the log.
 #[inline(never)]
-fn grow_log(log: &mut Vec<UndoEntry>, free: &mut usize, used: usize) -> Result<(), AllocError>
+fn make_room_in_log(
+    log: &mut Vec<UndoEntry>,
+    free: &mut usize,
+    used: usize,
+) -> Result<(), AllocError>
     requires used { used ≤ length log.old.items }
     requires free { free.old ≤ length log.old.items }
     ensures room { OnOk result (used < length log.new.items) }
@@ -199,14 +207,14 @@ fn grow_log(log: &mut Vec<UndoEntry>, free: &mut usize, used: usize) -> Result<(
     ensures used { used ≤ length log.new.items }
     ensures free { free.new ≤ length log.new.items }
 {
-    lengthen(log, used)?;
+    grow_log_if_full(log, used)?;
     *free = smaller_of(log.len(), UNCHECKED_ENTRIES);
     Ok(())
 }
 
 // Makes a log longer if all of its elements are in use.
 #[inline(always)]
-fn lengthen(log: &mut Vec<UndoEntry>, used: usize) -> Result<(), AllocError>
+fn grow_log_if_full(log: &mut Vec<UndoEntry>, used: usize) -> Result<(), AllocError>
     requires { used ≤ length log.old.items }
     ensures room { OnOk result (used < length log.new.items) }
     ensures kept { OnOk result (take used log.new.items ≡ take used log.old.items) }
@@ -216,7 +224,7 @@ fn lengthen(log: &mut Vec<UndoEntry>, used: usize) -> Result<(), AllocError>
     if used < log.len() {
         return Ok(());
     }
-    grow(log, ROOM_FOR_CHANGE)
+    grow(log, UNDO_ENTRY_PLACEHOLDER)
 }
 
 #[inline(always)]
@@ -228,6 +236,9 @@ fn smaller_of(number: usize, most: usize) -> usize
 
 // Returns the number under which a slot is logged that is about to be set. Appends an entry to the
 // log, unless the slot was logged after the last choice point and no free entry is left.
+// Contract: `noted` says which number is returned and what is logged. `refused` says that the log
+// is the same after an allocation failure. The other clauses say that the numbers are within the
+// log and the slots.
 #[inline(always)]
 fn log_change(
     log: &mut Vec<UndoEntry>,
@@ -262,7 +273,7 @@ fn log_change(
 
 // Makes the number of slots equal to `count`.
 #[inline(always)]
-fn fit_slots(slots: &mut Vec<GroupOrLoopState>, count: usize) -> Result<(), AllocError>
+fn set_slot_count(slots: &mut Vec<GroupOrLoopState>, count: usize) -> Result<(), AllocError>
     ensures made { OnOk result (length slots.new.items ≡ count) }
     ensures fresh { SlotsAreUnsetAndUnlogged slots.old.items → SlotsAreUnsetAndUnlogged slots.new.items }
     ensures refused { OnErr result (length slots.new.items ≢ count) }
@@ -287,7 +298,7 @@ fn make(slots: &mut Vec<GroupOrLoopState>, count: usize) -> Result<(), AllocErro
         slots.truncate(count);
         return Ok(());
     }
-    slots.resize(count, NO_SLOT)
+    slots.resize(count, SLOT_PLACEHOLDER)
 }
 
 // Returns the initial value of a slot, in a search from an offset.
@@ -295,18 +306,21 @@ fn make(slots: &mut Vec<GroupOrLoopState>, count: usize) -> Result<(), AllocErro
 fn initial_slot(at: usize) -> GroupOrLoopState
     ensures { result ≡ first_slot_at at }
 {
-    GroupOrLoopState { at, ..NO_SLOT }
+    GroupOrLoopState {
+        at,
+        ..SLOT_PLACEHOLDER
+    }
 }
 
 // Resets all slots to their initial values.
 #[cold]
 #[inline(never)]
-fn wipe(slots: &mut Vec<GroupOrLoopState>)
+fn reset_all_slots(slots: &mut Vec<GroupOrLoopState>)
     ensures fresh { SlotsAreUnsetAndUnlogged slots.new.items }
     ensures length { length slots.new.items ≡ length slots.old.items }
 {
     for id in 0..slots.len() {
-        slots[id] = NO_SLOT;
+        slots[id] = SLOT_PLACEHOLDER;
     }
 }
 
@@ -342,7 +356,7 @@ impl BacktrackState {
         self.log_len = 0;
         self.choice_point_len = 0;
         self.begun = at;
-        fit_slots(&mut self.slots, groups + loops)?;
+        set_slot_count(&mut self.slots, groups + loops)?;
         self.groups = groups;
         Ok(())
     }
@@ -356,7 +370,7 @@ impl BacktrackState {
     {
         if self.log_len > self.slots.len() {
             self.log_len = 0;
-            wipe(&mut self.slots);
+            reset_all_slots(&mut self.slots);
         } else {
             self.undo_to(0);
         }
@@ -447,7 +461,7 @@ impl BacktrackState {
         ensures refused { OnErr result (self.new ≡ self.old) }
     {
         if self.choice_point_len >= self.choice_points.len() {
-            grow(&mut self.choice_points, EMPTY_CHOICE_POINT)?;
+            grow(&mut self.choice_points, CHOICE_POINT_PLACEHOLDER)?;
         }
         self.choice_points[self.choice_point_len] = mark;
         self.choice_point_len += 1;
@@ -515,7 +529,7 @@ impl BacktrackState {
         let opened = GroupOrLoopState {
             at,
             is_set: true,
-            ..NO_SLOT
+            ..SLOT_PLACEHOLDER
         };
         let _laid_out = self.groups;
         self.set(id, opened)
@@ -611,7 +625,7 @@ impl BacktrackState {
             at,
             from: k,
             is_set: true,
-            ..NO_SLOT
+            ..SLOT_PLACEHOLDER
         };
         self.set(self.groups + id, entered)
     }

@@ -1,7 +1,9 @@
 //! Budgets of a search: how many steps it may take, and how much work it may do.
 
-ghost use Rattle.std.specs.Prelude.{◌≡◌, ◌<◌, ◌+◌, ◌⊎◌, ℕ, Bool, true, false, OnOk, OnErr, IsTrue};
+ghost use Rattle.std.specs.Prelude.{◌≡◌, ◌<◌, ◌+◌, ◌⊎◌, ℕ, Bool, true, false, OnOk, OnErr, IsTrue, refl};
+ghost use Rattle.std.proofs.Common.{sym};
 ghost use Rattle.regress_backtrack.specs.StepsTakenFromBudget.{Budget, AreStepsTakenFromBudget, AreStepsRefused};
+ghost use Rattle.regress_backtrack.specs.WorkPaidFromBudget.{IsPaid, IsShort};
 
 use std::alloc::AllocError;
 
@@ -18,7 +20,8 @@ impl From<AllocError> for SearchStoppedWithoutResult {
     }
 }
 
-/// A step counter. It may count steps or not.
+/// A step counter. It may count steps or not. If steps are not counted, it may have a budget from
+/// which work is paid.
 pub trait StepCounter: Copy {
     ghost COUNTS: { Bool };
 
@@ -27,26 +30,48 @@ pub trait StepCounter: Copy {
 
     /// Whether a loop may iterate in bulk over units before which it cannot be left. It may not do
     /// so where each iteration may be recorded in a memo.
-    const AT_ONCE: bool;
+    const ALLOWS_BULK_ITERATION: bool;
+
+    ghost PAYS: { Bool };
+
+    /// Whether work is paid from a budget.
+    const PAYS: bool;
 
     ghost budget: { Self → Budget };
 
+    // The work that is left, if work is paid, and whether some was refused.
+    ghost work: { Self → Budget };
+
+    /// Returns the work that is left, if work is paid.
+    fn room(&self) -> usize
+        ensures { IsTrue PAYS → result ≡ (work self.now).left };
+
+    /// Pays for units of work. If fewer are left, returns `Err`, and no work is left.
+    fn pay(&mut self, units: usize) -> Result<(), SearchStoppedWithoutResult>
+        ensures paid { OnOk result (IsPaid PAYS units (work self.old) (work self.new)) }
+        ensures short { OnErr result (IsShort PAYS units (work self.old) (work self.new)) }
+        ensures steps { budget self.new ≡ budget self.old };
+
     /// Takes a number of steps. If fewer are left, returns `Err`, and no steps are left.
     fn take(&mut self, steps: usize) -> Result<(), SearchStoppedWithoutResult>
+        ensures work { work self.new ≡ work self.old }
         ensures taken { OnOk result (AreStepsTakenFromBudget COUNTS steps (budget self.old) (budget self.new)) }
         ensures refused { OnErr result (AreStepsRefused COUNTS steps (budget self.old) (budget self.new)) };
 
-    /// Charges one backtrack: takes one step and does some work. Returns `Err` if too much work was
-    /// done or no step is left.
+    /// Charges one backtrack: takes one step, pays one unit of work, and does some work. Returns
+    /// `Err` if too much work was done, or if no step or no work is left.
     fn backtrack(&mut self) -> Result<(), SearchStoppedWithoutResult>
         ensures taken { OnOk result (AreStepsTakenFromBudget COUNTS 1 (budget self.old) (budget self.new)) }
         ensures stopped { OnErr result (AreStepsTakenFromBudget COUNTS 1 (budget self.old) (budget self.new)
-            ⊎ AreStepsRefused COUNTS 1 (budget self.old) (budget self.new)) };
+            ⊎ AreStepsRefused COUNTS 1 (budget self.old) (budget self.new)) }
+        ensures paid { OnOk result (IsPaid PAYS 1 (work self.old) (work self.new)) }
+        ensures short { OnErr result (IsTrue PAYS → IsShort PAYS 1 (work self.old) (work self.new)) };
 
     /// Charges units that one operation read, or choice points that were dropped at once. Only a
     /// large number counts as work.
     fn charge_bulk_work(&mut self, units: usize)
-        ensures { budget self.new ≡ budget self.old };
+        ensures budget { budget self.new ≡ budget self.old }
+        ensures work { work self.new ≡ work self.old };
 
     /// Returns `Err` if too much work was done. A search that does not backtrack has to call this
     /// itself.
@@ -55,14 +80,16 @@ pub trait StepCounter: Copy {
     /// Checks whether any steps were refused.
     fn steps_were_refused(&self) -> bool
         ensures { result ≡ (budget self.now).out };
+
+    ghost uncounted: { PAYS ≡ true → COUNTS ≡ false };
 }
 
 // The smallest number of units that counts as work. Reading fewer takes little more time than
 // reading none.
-const LONG: usize = 16;
+const MIN_UNITS_COUNTED_AS_WORK: usize = 16;
 
 // From this value on, `work` represents a negative number.
-const BELOW_ZERO: u64 = 0x8000_0000_0000_0000;
+const MIN_NEGATIVE_WORK: u64 = 0x8000_0000_0000_0000;
 
 /// A counter without a step limit. If `BOUND` is set, it limits the work.
 #[derive(Clone, Copy)]
@@ -75,7 +102,7 @@ pub struct WorkCounterWithoutStepLimit<const BOUND: bool> {
 pub type WorkBounded = WorkCounterWithoutStepLimit<true>;
 
 /// A counter that limits neither steps nor work.
-pub type Unlimited = WorkCounterWithoutStepLimit<false>;
+pub type UnlimitedCounter = WorkCounterWithoutStepLimit<false>;
 
 impl<const BOUND: bool> WorkCounterWithoutStepLimit<BOUND> {
     /// Creates a counter that allows this amount of work.
@@ -87,13 +114,15 @@ impl<const BOUND: bool> WorkCounterWithoutStepLimit<BOUND> {
     /// Creates a counter that allows no more work.
     #[inline(always)]
     pub fn exhausted_work_counter() -> Self {
-        WorkCounterWithoutStepLimit { work: BELOW_ZERO }
+        WorkCounterWithoutStepLimit {
+            work: MIN_NEGATIVE_WORK,
+        }
     }
 
     /// Checks whether more work was done than was allowed.
     #[inline(always)]
     pub fn is_work_limit_exceeded(&self) -> bool {
-        self.work >= BELOW_ZERO
+        self.work >= MIN_NEGATIVE_WORK
     }
 }
 
@@ -102,9 +131,25 @@ impl<const BOUND: bool> StepCounter for WorkCounterWithoutStepLimit<BOUND> {
 
     const COUNTS: bool = false;
 
-    const AT_ONCE: bool = BOUND;
+    const ALLOWS_BULK_ITERATION: bool = BOUND;
+
+    ghost PAYS = { false };
+
+    const PAYS: bool = false;
 
     ghost budget = { λ _. record { left = 0; out = false } };
+
+    ghost work = { λ _. record { left = 0; out = false } };
+
+    #[inline(always)]
+    fn room(&self) -> usize {
+        usize::MAX
+    }
+
+    #[inline(always)]
+    fn pay(&mut self, _units: usize) -> Result<(), SearchStoppedWithoutResult> {
+        Ok(())
+    }
 
     #[inline(always)]
     fn take(&mut self, _steps: usize) -> Result<(), SearchStoppedWithoutResult> {
@@ -126,7 +171,7 @@ impl<const BOUND: bool> StepCounter for WorkCounterWithoutStepLimit<BOUND> {
 
     #[inline(always)]
     fn charge_bulk_work(&mut self, units: usize) {
-        if BOUND && units >= LONG {
+        if BOUND && units >= MIN_UNITS_COUNTED_AS_WORK {
             self.work = self.work.wrapping_sub(units as u64);
         }
     }
@@ -143,6 +188,8 @@ impl<const BOUND: bool> StepCounter for WorkCounterWithoutStepLimit<BOUND> {
     fn steps_were_refused(&self) -> bool {
         false
     }
+
+    ghost uncounted = { λ pays. refl };
 }
 
 /// A counter that limits steps: how many are left, and whether any were refused.
@@ -157,9 +204,25 @@ impl StepCounter for LimitedStepCounter {
 
     const COUNTS: bool = true;
 
-    const AT_ONCE: bool = false;
+    const ALLOWS_BULK_ITERATION: bool = false;
+
+    ghost PAYS = { false };
+
+    const PAYS: bool = false;
 
     ghost budget = { λ s. record { left = s.left; out = s.out } };
+
+    ghost work = { λ _. record { left = 0; out = false } };
+
+    #[inline(always)]
+    fn room(&self) -> usize {
+        usize::MAX
+    }
+
+    #[inline(always)]
+    fn pay(&mut self, _units: usize) -> Result<(), SearchStoppedWithoutResult> {
+        Ok(())
+    }
 
     #[inline(always)]
     fn take(&mut self, steps: usize) -> Result<(), SearchStoppedWithoutResult> {
@@ -190,4 +253,73 @@ impl StepCounter for LimitedStepCounter {
     fn steps_were_refused(&self) -> bool {
         self.out
     }
+
+    ghost uncounted = { λ pays. sym pays };
+}
+
+/// A counter without a step limit, with a budget from which work is paid.
+#[derive(Clone, Copy)]
+pub struct WorkBudget {
+    /// The work that is left.
+    pub left: u64,
+    /// Whether work was refused.
+    pub out: bool,
+}
+
+impl StepCounter for WorkBudget {
+    ghost COUNTS = { false };
+
+    const COUNTS: bool = false;
+
+    const ALLOWS_BULK_ITERATION: bool = false;
+
+    ghost PAYS = { true };
+
+    const PAYS: bool = true;
+
+    ghost budget = { λ _. record { left = 0; out = false } };
+
+    ghost work = { λ s. record { left = s.left; out = s.out } };
+
+    #[inline(always)]
+    fn room(&self) -> usize {
+        self.left as usize
+    }
+
+    #[inline(always)]
+    fn pay(&mut self, units: usize) -> Result<(), SearchStoppedWithoutResult> {
+        let units = units as u64;
+        if self.left < units {
+            self.left = 0;
+            self.out = true;
+            return Err(SearchStoppedWithoutResult);
+        }
+        self.left -= units;
+        Ok(())
+    }
+
+    #[inline(always)]
+    fn take(&mut self, _steps: usize) -> Result<(), SearchStoppedWithoutResult> {
+        Ok(())
+    }
+
+    #[inline(always)]
+    fn backtrack(&mut self) -> Result<(), SearchStoppedWithoutResult> {
+        self.pay(1)
+    }
+
+    #[inline(always)]
+    fn charge_bulk_work(&mut self, _units: usize) {}
+
+    #[inline(always)]
+    fn stop_if_too_much_work(&self) -> Result<(), SearchStoppedWithoutResult> {
+        Ok(())
+    }
+
+    #[inline(always)]
+    fn steps_were_refused(&self) -> bool {
+        false
+    }
+
+    ghost uncounted = { λ pays. refl };
 }

@@ -5,7 +5,7 @@ ghost use Rattle.regex_meaning.specs.{StartPredicate.{start_predicate}, Text.{ut
 ghost use Rattle.regex_meaning.proofs.CodeUnitOffsetsLemmas.{utf8_text-IsText};
 ghost use Rattle.regex_pattern_front.specs.AstToSpecTree.{tree_of};
 ghost use Rattle.regress_program.specs.InsnsAsSpec.{start_predicate_as_spec};
-ghost use Rattle.regress_backtrack.specs.{State.{current_thread_state_of}, AttemptResults.{HasSlots}};
+ghost use Rattle.regress_backtrack.specs.{State.{current_thread_state_of}, AttemptResults.{HasSlotPerGroupAndLoop}};
 
 use crate::accepted_starts::{first_start_to_try, next_start_to_try};
 use crate::attempts::attempt;
@@ -27,7 +27,7 @@ pub struct LimitedExecutor<'r, 't> {
     start: &'r StartPredicate,
     // The steps that are left, and whether the last attempt was refused any.
     steps: LimitedStepCounter,
-    ghost predicted: { start_predicate (tree_of executor.search.program.regex) ≡ start_predicate_as_spec start.now },
+    ghost start_predicate_is_of_tree: { start_predicate (tree_of executor.search.program.regex) ≡ start_predicate_as_spec start.now },
 }
 
 impl<'r, 't> LimitedExecutor<'r, 't> {
@@ -74,7 +74,7 @@ impl<'r, 't> SingleAttemptExecutor for LimitedExecutor<'r, 't> {
 
     ghost out_of_steps = { λ e. e.steps.out };
 
-    ghost has_begun = { λ e. HasSlots (tree_of e.executor.search.program.regex) e.executor.memory };
+    ghost has_begun = { λ e. HasSlotPerGroupAndLoop (tree_of e.executor.search.program.regex) e.executor.memory };
 
     ghost groups = { λ e. (current_thread_state_of e.executor.memory 0 0).groups };
 

@@ -36,13 +36,13 @@ use Rattle.regress_pikevm.specs.declared.pikevm.states.State.{State}
 use Rattle.regress_bounded.specs.WorkBoundForAllMatches.{AnalysisBoundsProgram, work_per_unit}
 use Rattle.regress_bounded.specs.BoundedState.{AnalysisBoundsSearch, IsSoundMemo, IsMemoRight, BoundedAttempt, BoundedAttemptBegins, AttemptHasState}
 use Rattle.regress_bounded.specs.CostsOfSearchEvents.{Costs, nothing_yet, then_happens}
-use Rattle.regress_bounded.specs.CostsOfAttempts.{AttemptCosts, EventsOfAttempt, HasFinished, ListsFailures, failures_of, is_end, no_entry}
+use Rattle.regress_bounded.specs.CostsOfAttempts.{AttemptCosts, EventsOfAttempt, HasFinished, IsListOfFailures, failures_of, is_end, no_entry}
 use Rattle.regress_bounded.specs.declared.pending_stack.StackEntry.{StackEntry}
 use Rattle.regress_search.specs.CostsOfSearches.{CostsMoreThanLeft, Failures, TakesExactCost}
-use Rattle.regress_bounded.specs.BoundedState.{HasAttemptState, StoppedForWork, AttemptEndsAt, AttemptResultIs, entry_of_current_thread}
-use Rattle.regress_bounded.specs.WorkOfCharLoopsAndAttempts.{HasMadeAttempts, IsWalked, AttemptIsUnderWay}
-use Rattle.regress_pikevm.specs.States.{state_of}
-use Rattle.regress_bounded.specs.WorkOfSuccessiveAttempts.{Walked, HasWalked as AreWalked}
+use Rattle.regress_bounded.specs.BoundedState.{HasAttemptState, AbortedBecauseWorkIsSpent, AttemptEndsAt, AttemptResultIs, entry_of_current_thread}
+use Rattle.regress_bounded.specs.WorkOfCharLoopsAndAttempts.{HasMadeAttempts, AttemptsHaveKnownKeys, AttemptIsUnderWay}
+use Rattle.regress_pikevm.specs.States.{machine_state_of}
+use Rattle.regress_bounded.specs.WorkOfSuccessiveAttempts.{Walked, AttemptsLeaveEnoughWork as AreWalked}
 use Rattle.regress_bounded.proofs.StepKindByInstruction.{ends-itself}
 use Rattle.regress_bounded.proofs.SearchEventCostLemmas.{event-comes}
 use Rattle.regress_bounded.proofs.SuccessiveAttemptLemmas.{memory-of, then-starts, in-order, still-onward, so-far, behind-end, then-ends, then-none}
@@ -52,14 +52,14 @@ use Rattle.regress_bounded.proofs.BoundedStateLemmas as standing
 -- ---- The initial state
 
 module _ {P : Type 0} {offset : P → ℕ} {program : Program} {text : Text} where
-  pub begins-stands : {at : ℕ} {c : MemoAndWorkBudget} {b : BoundedAttempt} (start : State P) → HasRisingPlaceOffsets text → IsBoundary text at → state_of offset start ≡ state_before_first_insn program at → BoundedAttemptBegins program text at c b
+  pub begins-stands : {at : ℕ} {c : MemoAndWorkBudget} {b : BoundedAttempt} (start : State P) → HasRisingPlaceOffsets text → IsBoundary text at → machine_state_of offset start ≡ state_before_first_insn program at → BoundedAttemptBegins program text at c b
       → AttemptHasState offset program text b (entry_of_current_thread offset (Some start)) [] c
   begins-stands {at} {c} {b} start is_text on is h =
       let right = h.right in
       let paid = right.paid in
       let t = c.memo.memo_analysis in
       let inside' : b.at ≤ units text = subst (λ n. n ≤ units text) (sym h.at) (boundary_inside text is_text at on) in
-      let same : state_before_first_insn program b.at ≡ state_of offset start = ap (state_before_first_insn program) h.at ∙ sym is in
+      let same : state_before_first_insn program b.at ≡ machine_state_of offset start = ap (state_before_first_insn program) h.at ∙ sym is in
       record {
         right = right;
         inside = inside';
@@ -101,19 +101,19 @@ module _ {P : Type 0} (offset : P → ℕ) (program : Program) (text : Text) whe
         standing.then-none program text c.memo.memo_analysis h.right.paid b h.is_memory h.answers h.work h.now
         (subst (ReachesEntries program text c.memo.memo_analysis rightwards b.memory (thread_entries (initial_threads program b.at)) h.work h.now) none (standing.come offset program text b h))
 
-    end-found : (end : State P) → AttemptEndsAt offset program text b end c → b.found.end ≡ Some (state_of offset end)
+    end-found : (end : State P) → AttemptEndsAt offset program text b end c → b.found.end ≡ Some (machine_state_of offset end)
     end-found end h =
         let s = h.stands in
-        standing.then-ends program text c.memo.memo_analysis s.right.paid b s.is_memory s.answers s.work s.now h.from (state_of offset end) s.row (standing.come offset program text b s) h.ends
+        standing.then-ends program text c.memo.memo_analysis s.right.paid b s.is_memory s.answers s.work s.now h.from (machine_state_of offset end) s.row (standing.come offset program text b s) h.ends
 
   -- The end of a match lies inside the text.
   end-inside : (b : BoundedAttempt) (c : MemoAndWorkBudget) (end : State P) → AttemptEndsAt offset program text b end c → offset end.pos ≤ units text
   end-inside b c end h =
-      let own : offset end.pos ≡ h.from.pos = ap (λ (u : machine.State). u.pos) (ends-itself program text rightwards h.from (state_of offset end) h.ends) in
+      let own : offset end.pos ≡ h.from.pos = ap (λ (u : machine.State). u.pos) (ends-itself program text rightwards h.from (machine_state_of offset end) h.ends) in
       let within = standing.inside offset program text b h.from h.stands in
       omega (arith, own, within)
 
-  runs-found : (b : BoundedAttempt) (c : MemoAndWorkBudget) (end : Option (State P)) → AttemptResultIs offset program text b (Ok end) c → b.found.end ≡ option_map (λ e. state_of offset e) end
+  runs-found : (b : BoundedAttempt) (c : MemoAndWorkBudget) (end : Option (State P)) → AttemptResultIs offset program text b (Ok end) c → b.found.end ≡ option_map (λ e. machine_state_of offset e) end
   runs-found b c None h = nothing-found b c h
   runs-found b c (Some e) h = end-found b c e h
 
@@ -166,7 +166,7 @@ module _ {P : Type 0} (offset : P → ℕ) (program : Program) (text : Text) whe
       walked-found : (end : State P) → AttemptEndsAt offset program text its end new → Walked program text new (least_offset_after_match at (offset end.pos))
       walked-found end h =
           let s = h.stands in
-          let own : offset end.pos ≡ h.from.pos = ap (λ (u : machine.State). u.pos) (ends-itself program text rightwards h.from (state_of offset end) h.ends) in
+          let own : offset end.pos ≡ h.from.pos = ap (λ (u : machine.State). u.pos) (ends-itself program text rightwards h.from (machine_state_of offset end) h.ends) in
           let order : at ≤ h.from.pos = in-order program t paid.memo_analysis text paid.is_text paid.bytes paid.short at its.memory s.work s.now (running h.from) s.row (standing.come offset program text its s) in
           let on = behind-end at (offset end.pos) (omega (arith, own, order)) in
           record {
@@ -178,7 +178,7 @@ module _ {P : Type 0} (offset : P → ℕ) (program : Program) (text : Text) whe
           }
 
       -- An attempt with enough work at its start does not stop for lack of work.
-      never-over : StoppedForWork offset program text its new → ⊥
+      never-over : AbortedBecauseWorkIsSpent offset program text its new → ⊥
       never-over h =
           let x = h.short in
           let before = h.stands in
@@ -210,7 +210,7 @@ module _ (program : Program) (text : Text) (is_text : HasRisingPlaceOffsets text
   pub begun-walked : (left : ℕ) → work_per_unit t * (units text + 1) ≤ left → Walked program text (record { memo = m; left = left }) 0
   begun-walked left enough = record {
     done = 0;
-    walked = subst (λ t. IsWalked program text t (has_failure m) 0 0) (sym begun.memo_analysis)
+    walked = subst (λ t. AttemptsHaveKnownKeys program text t (has_failure m) 0 0) (sym begun.memo_analysis)
         (then-starts program t has.memo_analysis text is_text bytes short (has_failure m) (memory-of t (units text + 1) false m begun) 0);
     enough = (let same = ap (λ t. work_per_unit t * (units text + 1)) begun.memo_analysis in omega (arith, same, enough));
   }
@@ -228,7 +228,7 @@ module _ {P : Type 0} (offset : P → ℕ) {tree : Tree} {text : Text} (can : Tr
   first right = attempt-begins offset (compiled tree) text at (steps_for_attempt tree text at) old right (begins tree text at can on).answers
 
   -- The initial state of the executor is a state of an attempt.
-  pub attempt-stands : HasRisingPlaceOffsets text → IsMemoRight (compiled tree) text old.memo → (start : State P) → state_of offset start ≡ state_before_first_insn (compiled tree) at
+  pub attempt-stands : HasRisingPlaceOffsets text → IsMemoRight (compiled tree) text old.memo → (start : State P) → machine_state_of offset start ≡ state_before_first_insn (compiled tree) at
       → HasAttemptState offset (compiled tree) text (entry_of_current_thread offset (Some start)) [] old
   attempt-stands is knows start begun = ∥∥₁_map knows (λ right. let x = first right in record { begin = x.begin; stands = begins-stands start is on begun x.begins })
 
@@ -304,7 +304,7 @@ module _ {P : Type 0} (offset : P → ℕ) {tree : Tree} {text : Text} (can : Tr
     -- The events that lead to a state give its cost and its known failures.
     events-of : {front : List Entry} {stack : List (StackEntry P)} {c : MemoAndWorkBudget} → AttemptHasState offset (compiled tree) text b front stack c → (cost : ℕ) (now : List Key) (row : List Entry)
         → Costs (compiled tree) text c.memo.memo_analysis rightwards b.memory (thread_entries (initial_threads (compiled tree) b.at)) cost now row
-        → (after : Option Failures) → IfSome after (λ failures. HasFinished (compiled tree) text row × ListsFailures failures now)
+        → (after : Option Failures) → IfSome after (λ failures. HasFinished (compiled tree) text row × IsListOfFailures failures now)
         → EventsOfAttempt tree text (failures_of old.memo) at cost after
     events-of {c = c} h cost now row costs after over = record {
       memo_analysis = c.memo.memo_analysis;
@@ -329,10 +329,10 @@ module _ {P : Type 0} (offset : P → ℕ) {tree : Tree} {text : Text} (can : Tr
     -- An attempt that has a result took exactly its cost.
     its-cost : (found : Option (State P)) → AttemptResultIs offset (compiled tree) text b (Ok found) new → TakesExactCost Spends old.left new.left (failures_of new.memo)
     its-cost None h = finished h (subst (HasFinished (compiled tree) text) (sym (row-none offset (compiled tree) text h.row h.is)) no_entry)
-    its-cost (Some end) h = finished h.stands (is_end h.from (state_of offset end) h.stands.row h.ends)
+    its-cost (Some end) h = finished h.stands (is_end h.from (machine_state_of offset end) h.stands.row h.ends)
 
     -- An attempt that stops for lack of work costs more than was left.
-    its-cost-more : StoppedForWork offset (compiled tree) text b new → CostsMoreThanLeft Spends old.left
+    its-cost-more : AbortedBecauseWorkIsSpent offset (compiled tree) text b new → CostsMoreThanLeft Spends old.left
     its-cost-more h =
         let s = h.stands in
         let x = h.short in ∣ (

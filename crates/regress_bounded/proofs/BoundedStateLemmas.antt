@@ -31,37 +31,37 @@ use Rattle.regress_pikevm.specs.declared.pikevm.states.State.{State}
 use Rattle.std.proofs.Math.Logic.{∥∥₁_map, ∥∥₁_elim}
 use Rattle.std.proofs.Props.{props}
 use Rattle.regress_bounded.specs.BoundedState.{AnalysisBoundsSearch, IsSoundMemo, IsMemoRight, HasAttemptState, BoundedAttempt}
-use Rattle.regress_bounded.specs.BoundedState.{IsRecordOf, StandsFor, StackStandsFor, IsStackOf, AttemptHasState}
-use Rattle.regress_bounded.specs.BoundedState.{TakesOneEvent, WorkIsTooLittle, MayBeNextEvent, entry_of_current_thread}
+use Rattle.regress_bounded.specs.BoundedState.{IsRecordOf, StackEntryStandsFor, StackStandsFor, IsStackOfEntriesFromTop, AttemptHasState}
+use Rattle.regress_bounded.specs.BoundedState.{TakesOneEvent, NextEventExceedsWorkLeft, MayBeNextSearchEvent, entry_of_current_thread}
 use Rattle.regress_bounded.specs.CostsOfSearchEvents.{Costs, IsSearchEvent, IsKnownToFail, reaches, resumes, then_happens}
 use Rattle.regress_bounded.proofs.SearchEventCostLemmas.{costs-come}
-use Rattle.regress_bounded.specs.BudgetSpending.{IsTakenFromBudget, WorkExceedsBudget}
-use Rattle.regress_pikevm.specs.States.{state_of}
+use Rattle.regress_bounded.specs.BudgetSpending.{LowersBudgetByWork, WorkExceedsBudget}
+use Rattle.regress_pikevm.specs.States.{machine_state_of}
 
 -- ---- Stacks and the entries that they stand for
 
 module _ {P : Type 0} (offset : P → ℕ) (program : Program) (text : Text) where
   -- Pushing a stack entry puts the entry that it stands for in front of the others.
-  pub row-push : (stack : List (StackEntry P)) (w : StackEntry P) (e : Entry) (row : List Entry) → StandsFor offset program text w e → IsStackOf offset program text stack row
-      → IsStackOf offset program text (stack ++ w ∷ []) (e ∷ row)
+  pub row-push : (stack : List (StackEntry P)) (w : StackEntry P) (e : Entry) (row : List Entry) → StackEntryStandsFor offset program text w e → IsStackOfEntriesFromTop offset program text stack row
+      → IsStackOfEntriesFromTop offset program text (stack ++ w ∷ []) (e ∷ row)
   row-push stack w e row s r = subst (λ l. StackStandsFor offset program text l (e ∷ row)) (sym (reverse-append stack (w ∷ []))) (s, r)
 
   pub record Popped (stack : List (StackEntry P)) (w : StackEntry P) (row : List Entry) : Type 0 where
     pub entry : Entry
     pub rest : List Entry
     pub is : row ≡ entry ∷ rest
-    pub stands : StandsFor offset program text w entry
-    pub below : IsStackOf offset program text stack rest
+    pub stands : StackEntryStandsFor offset program text w entry
+    pub below : IsStackOfEntriesFromTop offset program text stack rest
 
   -- Popping the last stack entry takes the first of the entries.
-  pub row-pop : (stack : List (StackEntry P)) (w : StackEntry P) (row : List Entry) → IsStackOf offset program text (stack ++ w ∷ []) row → Popped stack w row
+  pub row-pop : (stack : List (StackEntry P)) (w : StackEntry P) (row : List Entry) → IsStackOfEntriesFromTop offset program text (stack ++ w ∷ []) row → Popped stack w row
   row-pop stack w row r = by row (subst (λ l. StackStandsFor offset program text l row) (reverse-append stack (w ∷ [])) r)
     where
       by : (row : List Entry) → StackStandsFor offset program text (w ∷ reverse stack) row → Popped stack w row
       by [] h = absurd h
       by (e ∷ row) h = record { entry = e; rest = row; is = refl; stands = h.0; below = h.1 }
 
-  pub row-none : (row : List Entry) → IsStackOf offset program text [] row → row ≡ []
+  pub row-none : (row : List Entry) → IsStackOfEntriesFromTop offset program text [] row → row ≡ []
   row-none [] h = refl
   row-none (e ∷ row) h = absurd h
 
@@ -132,8 +132,8 @@ module _ {P : Type 0} (offset : P → ℕ) (program : Program) (text : Text) (b 
   known k fails = record { known = h.holds.all k fails; fails = h.right.is_true.fails k fails }
 
   -- An event takes its cost from the work that was left.
-  pub comes-on : (next : Option (State P)) (row' : List Entry) (stack' : List (StackEntry P)) (cost : ℕ) (c' : MemoAndWorkBudget) → MayBeNextEvent offset program text b h cost h.now (entry_of_current_thread offset next ++ row')
-      → IsStackOf offset program text stack' row' → c'.memo ≡ c.memo → IsTakenFromBudget cost c.left c'.left → TakesOneEvent offset program text b h next stack' c'
+  pub comes-on : (next : Option (State P)) (row' : List Entry) (stack' : List (StackEntry P)) (cost : ℕ) (c' : MemoAndWorkBudget) → MayBeNextSearchEvent offset program text b h cost h.now (entry_of_current_thread offset next ++ row')
+      → IsStackOfEntriesFromTop offset program text stack' row' → c'.memo ≡ c.memo → LowersBudgetByWork cost c.left c'.left → TakesOneEvent offset program text b h next stack' c'
   comes-on next row' stack' cost c' happens is same spent =
       subst (λ m. TakesOneEvent offset program text b h next stack' (record { memo = m; left = c'.left })) (sym same)
       (record {
@@ -160,16 +160,16 @@ module _ {P : Type 0} (offset : P → ℕ) (program : Program) (text : Text) (b 
     pub cost : ℕ
     pub now : List Key
     pub row : List Entry
-    pub happens : MayBeNextEvent offset program text b h cost now row
+    pub happens : MayBeNextSearchEvent offset program text b h cost now row
     pub more : work ≤ cost
 
   -- If the work left is less than the least cost of the next event, the work is too little.
-  pub falls-short : (work : ℕ) (c' : MemoAndWorkBudget) → CostsAtLeast work → WorkExceedsBudget work c.left c'.left → WorkIsTooLittle offset program text b h c'
+  pub falls-short : (work : ℕ) (c' : MemoAndWorkBudget) → CostsAtLeast work → WorkExceedsBudget work c.left c'.left → NextEventExceedsWorkLeft offset program text b h c'
   falls-short work c' x spent =
       record { cost = x.cost; now = x.now; row = x.row; happens = x.happens; over = (let s : c.left < work = spent.0 in let m = x.more in omega (arith, s, m)); none = spent.1 }
 
-  pub is-short : {now' : List Key} {row' : List Entry} (cost : ℕ) (c' : MemoAndWorkBudget) → MayBeNextEvent offset program text b h cost now' row' → WorkExceedsBudget cost c.left c'.left
-      → WorkIsTooLittle offset program text b h c'
+  pub is-short : {now' : List Key} {row' : List Entry} (cost : ℕ) (c' : MemoAndWorkBudget) → MayBeNextSearchEvent offset program text b h cost now' row' → WorkExceedsBudget cost c.left c'.left
+      → NextEventExceedsWorkLeft offset program text b h c'
   is-short {now'} {row'} cost c' happens spent = falls-short cost c' (record { cost = cost; now = now'; row = row'; happens = happens; more = omega arith }) spent
 
 -- The current thread is keyed, lies inside the text and is not stuck.
@@ -193,7 +193,7 @@ module _ {P : Type 0} (offset : P → ℕ) (program : Program) (text : Text) (b 
 
   -- An event of the popped entry may be the next event.
   pub happens-back : (e : Entry) → popped.entry ≡ e → {cost : ℕ} {now' : List Key} {row' : List Entry}
-      → IsSearchEvent program text c.memo.memo_analysis rightwards h.now cost (e ∷ popped.rest) now' row' → MayBeNextEvent offset program text b h cost now' row'
+      → IsSearchEvent program text c.memo.memo_analysis rightwards h.now cost (e ∷ popped.rest) now' row' → MayBeNextSearchEvent offset program text b h cost now' row'
   happens-back e is {cost} {now'} {row'} happens =
       subst (λ row. IsSearchEvent program text c.memo.memo_analysis rightwards h.now cost row now' row') (sym (popped.is ∙ ap (λ e. e ∷ popped.rest) is)) happens
 
@@ -205,18 +205,18 @@ module _ {P : Type 0} (offset : P → ℕ) (program : Program) (text : Text) (b 
 -- The popped entry is a thread, which becomes the current one.
 module _ {P : Type 0} {offset : P → ℕ} {program : Program} {text : Text} {b : BoundedAttempt} (stack : List (StackEntry P)) (w : StackEntry P) {c : MemoAndWorkBudget}
     (h : AttemptHasState offset program text b [] (stack ++ w ∷ []) c) (s : State P) (is : w ≡ AsThread s) where
-  taken-up : MayBeNextEvent offset program text b h 1 h.now (one_thread (running (state_of offset s)) ∷ (popped offset program text b stack w h).rest)
+  taken-up : MayBeNextSearchEvent offset program text b h 1 h.now (one_thread (running (machine_state_of offset s)) ∷ (popped offset program text b stack w h).rest)
   taken-up =
       let p = popped offset program text b stack w h in
-      let there : p.entry ≡ one_thread (waiting (state_of offset s)) = subst (λ w. StandsFor offset program text w p.entry) is p.stands in
-      happens-back offset program text b stack w h (one_thread (waiting (state_of offset s))) there (resumes (state_of offset s) p.rest)
+      let there : p.entry ≡ one_thread (waiting (machine_state_of offset s)) = subst (λ w. StackEntryStandsFor offset program text w p.entry) is p.stands in
+      happens-back offset program text b stack w h (one_thread (waiting (machine_state_of offset s))) there (resumes (machine_state_of offset s) p.rest)
 
-  pub thread-goes : (c' : MemoAndWorkBudget) → c'.memo ≡ c.memo → IsTakenFromBudget 1 c.left c'.left → TakesOneEvent offset program text b h (Some s) stack c'
+  pub thread-goes : (c' : MemoAndWorkBudget) → c'.memo ≡ c.memo → LowersBudgetByWork 1 c.left c'.left → TakesOneEvent offset program text b h (Some s) stack c'
   thread-goes c' same spent =
       let p = popped offset program text b stack w h in
       comes-on offset program text b h (Some s) p.rest stack 1 c' taken-up p.below same spent
 
-  pub thread-over : (c' : MemoAndWorkBudget) → WorkExceedsBudget 1 c.left c'.left → WorkIsTooLittle offset program text b h c'
+  pub thread-over : (c' : MemoAndWorkBudget) → WorkExceedsBudget 1 c.left c'.left → NextEventExceedsWorkLeft offset program text b h c'
   thread-over c' spent = is-short offset program text b h 1 c' taken-up spent
 
 -- The popped entry is a record, whose key is noted as failed.
@@ -226,7 +226,7 @@ module _ {P : Type 0} {offset : P → ℕ} {program : Program} {text : Text} {b 
   below = popped offset program text b stack w h
 
   abbrev pub stood : IsRecordOf offset program text (memo_key_as_spec k) below.entry
-  stood = subst (λ w. StandsFor offset program text w below.entry) is below.stands
+  stood = subst (λ w. StackEntryStandsFor offset program text w below.entry) is below.stands
 
   abbrev keys : Keys
   keys = analysis_keys program text c.memo.memo_analysis
@@ -248,10 +248,10 @@ module _ {P : Type 0} {offset : P → ℕ} {program : Program} {text : Text} {b 
       let s = served program text c.memo.memo_analysis h.right.paid in
       reached-fail program text (analysis_as_liveness c.memo.memo_analysis) keys s.plan.liveness s.serves.keys rightwards h.now (memo_key_as_spec k) stood.threads below.rest b.found record-finds
 
-  reached : MayBeNextEvent offset program text b h 1 (memo_key_as_spec k ∷ h.now) below.rest
+  reached : MayBeNextSearchEvent offset program text b h 1 (memo_key_as_spec k ∷ h.now) below.rest
   reached = happens-back offset program text b stack w h (key_record (memo_key_as_spec k) stood.threads) stood.is (reaches (memo_key_as_spec k) stood.threads below.rest)
 
-  pub record-over : (c' : MemoAndWorkBudget) → WorkExceedsBudget 1 c.left c'.left → WorkIsTooLittle offset program text b h c'
+  pub record-over : (c' : MemoAndWorkBudget) → WorkExceedsBudget 1 c.left c'.left → NextEventExceedsWorkLeft offset program text b h c'
   record-over c' spent = is-short offset program text b h 1 c' reached spent
 
   -- These facts hold with an analysis equal to that of the memo.
@@ -260,7 +260,7 @@ module _ {P : Type 0} {offset : P → ℕ} {program : Program} {text : Text} {b 
     memory : IsMemory program text (analysis_as_liveness t) (analysis_keys program text t) b.memory
     costs : Costs program text t rightwards b.memory (thread_entries (initial_threads program b.at)) (h.work + 1) (memo_key_as_spec k ∷ h.now) below.rest
 
-  noted-by : (m n : MemoView) → m ≡ c.memo → RecordsFailure (memo_key_as_spec k) m n → (left : ℕ) → IsTakenFromBudget 1 c.left left
+  noted-by : (m n : MemoView) → m ≡ c.memo → RecordsFailure (memo_key_as_spec k) m n → (left : ℕ) → LowersBudgetByWork 1 c.left left
       → IsSoundMemo program text n × TakesOneEvent offset program text b h None stack (record { memo = n; left = left })
   noted-by m n is notes left spent =
       let notes' : RecordsFailure (memo_key_as_spec k) c.memo n = subst (λ m. RecordsFailure (memo_key_as_spec k) m n) is notes in
@@ -289,10 +289,10 @@ module _ {P : Type 0} {offset : P → ℕ} {program : Program} {text : Text} {b 
         },
       )
 
-  pub record-right : (m n : MemoView) → m ≡ c.memo → RecordsFailure (memo_key_as_spec k) m n → (left : ℕ) → IsTakenFromBudget 1 c.left left → IsSoundMemo program text n
+  pub record-right : (m n : MemoView) → m ≡ c.memo → RecordsFailure (memo_key_as_spec k) m n → (left : ℕ) → LowersBudgetByWork 1 c.left left → IsSoundMemo program text n
   record-right m n is notes left spent = (noted-by m n is notes left spent).0
 
-  pub record-goes : (m : MemoView) (c' : MemoAndWorkBudget) → m ≡ c.memo → RecordsFailure (memo_key_as_spec k) m c'.memo → IsTakenFromBudget 1 c.left c'.left
+  pub record-goes : (m : MemoView) (c' : MemoAndWorkBudget) → m ≡ c.memo → RecordsFailure (memo_key_as_spec k) m c'.memo → LowersBudgetByWork 1 c.left c'.left
       → TakesOneEvent offset program text b h None stack c'
   record-goes m c' is notes spent = (noted-by m c'.memo is notes c'.left spent).1
 

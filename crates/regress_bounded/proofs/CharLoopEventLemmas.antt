@@ -18,12 +18,12 @@ use Rattle.regress_memo.specs.MemoContents.{has_failure}
 use Rattle.regress_search.proofs.CharLoopReach.{moved-more}
 use Rattle.regress_bounded.specs.declared.memo_and_work_budget.MemoAndWorkBudget.{MemoAndWorkBudget}
 use Rattle.regress_bounded.specs.declared.pending_stack.StackEntry.{StackEntry}
-use Rattle.regress_bounded.specs.declared.pending_stack.StackEntry.TheVariants.{Run as AsRun}
+use Rattle.regress_bounded.specs.declared.pending_stack.StackEntry.TheVariants.{PendingLazyLoop as AsRun}
 use Rattle.regress_pikevm.specs.declared.pikevm.states.State.{State}
 use Rattle.regress_bounded.specs.CostsOfSearchEvents.{ThreadsPendAbove, none_waits, some_wait, too_few, fails_from, takes_furthest}
-use Rattle.regress_bounded.specs.BoundedState.{BoundedAttempt, IsStackOf, IsPendingLazyLoop, AnalysisBoundsSearch, AttemptHasState, MayBeNextEvent, TakesNearestExit}
-use Rattle.regress_bounded.specs.WorkOfCharLoopsAndAttempts.{IsUnboundedCharLoop, key_after_chars, threads_after_chars, exits_with_records}
-use Rattle.regress_pikevm.specs.States.{state_of}
+use Rattle.regress_bounded.specs.BoundedState.{BoundedAttempt, IsStackOfEntriesFromTop, IsPendingLazyLoop, AnalysisBoundsSearch, AttemptHasState, MayBeNextSearchEvent, TakesNearestExit}
+use Rattle.regress_bounded.specs.WorkOfCharLoopsAndAttempts.{StateIsAtUnboundedCharLoop, key_after_chars, threads_after_chars, exits_with_records}
+use Rattle.regress_pikevm.specs.States.{machine_state_of}
 use Rattle.regress_bounded.proofs.CharLoopWorkLemmas.{lazy-later, lazy-last}
 use Rattle.regress_bounded.proofs.BoundedStateLemmas.{row-push, new, known, CostsAtLeast}
 
@@ -65,11 +65,11 @@ first-known known (suc count) from = by (known from) refl (first-known known cou
 module _ {P : Type 0} (offset : P → ℕ) (program : Program) (text : Text) (b : BoundedAttempt) (s : machine.State) {stack : List (StackEntry P)} {c : MemoAndWorkBudget}
     (h : AttemptHasState offset program text b (one_thread (running s) ∷ []) stack c) (test : ℕ → Bool) (least place : ℕ) where
   -- If too few characters pass, the loop fails.
-  pub few-happen : {greedy : Bool} → IsUnboundedCharLoop program s test least greedy → place_at text s.pos ≡ Some place → passing text test rightwards place < least
-      → MayBeNextEvent offset program text b h (passing text test rightwards place + 2) h.now h.row
+  pub few-happen : {greedy : Bool} → StateIsAtUnboundedCharLoop program s test least greedy → place_at text s.pos ≡ Some place → passing text test rightwards place < least
+      → MayBeNextSearchEvent offset program text b h (passing text test rightwards place + 2) h.now h.row
   few-happen {greedy} unbounded_loop at few = too_few s test least place greedy h.row unbounded_loop at few
 
-  module _ (unbounded_loop : IsUnboundedCharLoop program s test least true) (at : place_at text s.pos ≡ Some place) where
+  module _ (unbounded_loop : StateIsAtUnboundedCharLoop program s test least true) (at : place_at text s.pos ≡ Some place) where
     abbrev key-of : ℕ → Key
     key-of n = key_after_chars program text c.memo.memo_analysis rightwards test place s n
 
@@ -81,13 +81,13 @@ module _ {P : Type 0} (offset : P → ℕ) (program : Program) (text : Text) (b 
 
     -- If the key at an exit is known to fail, only the nearer exits are left.
     pub known-happens : (n : ℕ) → least ≤ n → n ≤ passing text test rightwards place → ExitKeysAreNew n → has_failure c.memo (key-of n) ≡ true
-        → MayBeNextEvent offset program text b h (n + 2) h.now (places-row n ++ h.row)
+        → MayBeNextSearchEvent offset program text b h (n + 2) h.now (places-row n ++ h.row)
     known-happens n le few unknown fails =
         fails_from s test least place n h.row unbounded_loop at le few (λ m first less. new offset program text b h (key-of m) (unknown m first less)) (known offset program text b h (key-of n) fails)
 
     -- If no key is known to fail, the furthest exit is taken.
     pub furthest-happens : (n : ℕ) → n ≡ passing text test rightwards place → least ≤ n → ExitKeysAreNew (n + 1)
-        → MayBeNextEvent offset program text b h (n + 2) h.now
+        → MayBeNextSearchEvent offset program text b h (n + 2) h.now
         (one_thread (running (behind text rightwards place s n)) ∷ key_record (key-of n) (threads_after_chars program text c.memo.memo_analysis rightwards test place s n) ∷ places-row n ++ h.row)
     furthest-happens n all le unknown =
         takes_furthest s test least place n h.row unbounded_loop at all le (λ m first less. new offset program text b h (key-of m) (unknown m first less))
@@ -135,12 +135,12 @@ inside-passing text test place inside n few = let left = passing-left text test 
 -- The threads behind a place start at the next place, or there are none.
 pub data Behind {P : Type 0} (offset : P → ℕ) (program : Program) (text : Text) (waits : List Thread) (old new : List (StackEntry P)) : Type 0 where
   none-waits : waits ≡ [] → new ≡ old → Behind offset program text waits old new
-  some-wait : (next : State P) → IsPendingLazyLoop offset program text (state_of offset next) (thread_group waits) → new ≡ old ++ AsRun next ∷ [] → Behind offset program text waits old new
+  some-wait : (next : State P) → IsPendingLazyLoop offset program text (machine_state_of offset next) (thread_group waits) → new ≡ old ++ AsRun next ∷ [] → Behind offset program text waits old new
 
 module _ {P : Type 0} (offset : P → ℕ) (program : Program) (text : Text) (t : MemoAnalysis) (paid : AnalysisBoundsSearch program text t) (test : ℕ → Bool) (least place : ℕ) (state : State P)
-    (unbounded_loop : IsUnboundedCharLoop program (state_of offset state) test least false) (inside : place ≤ last_place text) (n : ℕ) (few : n ≤ passing text test rightwards place) where
+    (unbounded_loop : StateIsAtUnboundedCharLoop program (machine_state_of offset state) test least false) (inside : place ≤ last_place text) (n : ℕ) (few : n ≤ passing text test rightwards place) where
   abbrev s : machine.State
-  s = state_of offset state
+  s = machine_state_of offset state
 
   abbrev waits : List Thread
   waits = pending_loop_threads text test rightwards (n + 1) place s
@@ -171,7 +171,7 @@ module _ {P : Type 0} (offset : P → ℕ) (program : Program) (text : Text) (t 
             test = test;
             least = least;
             place = on;
-            run = subst (λ u. IsUnboundedCharLoop program u test least false) (sym others.is) (record { run = unbounded_loop.run; body = unbounded_loop.body });
+            run = subst (λ u. StateIsAtUnboundedCharLoop program u test least false) (sym others.is) (record { run = unbounded_loop.run; body = unbounded_loop.body });
             at = ap (λ (u : machine.State). place_at text u.pos) others.is ∙ ap (λ q. place_at text (text_offset text q)) there ∙ place_at-offset text on paid.is_text within;
             is = ap thread_group (later ∙ ap (pending_loop_threads text test rightwards 0 on) (sym others.is));
           })
@@ -181,9 +181,9 @@ module _ {P : Type 0} (offset : P → ℕ) (program : Program) (text : Text) (t 
 pub record RowAbove {P : Type 0} (offset : P → ℕ) (program : Program) (text : Text) (waits : List Thread) (rest : List Entry) (stack : List (StackEntry P)) : Type 0 where
   pub row : List Entry
   pub above : ThreadsPendAbove waits rest row
-  pub is : IsStackOf offset program text stack row
+  pub is : IsStackOfEntriesFromTop offset program text stack row
 
-pub row-above : {P : Type 0} (offset : P → ℕ) (program : Program) (text : Text) (waits : List Thread) (rest : List Entry) (old new : List (StackEntry P)) → IsStackOf offset program text old rest
+pub row-above : {P : Type 0} (offset : P → ℕ) (program : Program) (text : Text) (waits : List Thread) (rest : List Entry) (old new : List (StackEntry P)) → IsStackOfEntriesFromTop offset program text old rest
     → Behind offset program text waits old new → RowAbove offset program text waits rest new
 row-above offset program text waits rest old new is (none-waits e same) =
     subst (RowAbove offset program text waits rest) (sym same) (record { row = rest; above = none_waits e; is = is })

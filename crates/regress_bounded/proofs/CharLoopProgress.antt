@@ -7,11 +7,11 @@ use Rattle.regress_input.specs.CharAndByteReadsFromOffset.{end_if_matched, past_
 use Rattle.regress_memo.specs.CharLoopExitThreadLists.{passing}
 use Rattle.regress_machine.proofs.NearestCharacterLemmas.{moved-zero}
 use Rattle.regress_search.proofs.CharLoopReach.{one-on, none-on}
-use Rattle.regress_bounded.specs.BoundedState.{IsAfterChars}
+use Rattle.regress_bounded.specs.BoundedState.{IsPositionAfterCharsOfClass}
 
 module _ {P : Type 0} (offset : P → ℕ) (text : Text) (is : HasRisingPlaceOffsets text) (test : ℕ → Bool) (place : ℕ) where
   abbrev pub At : (count : ℕ) → P → Type 0
-  At count pos = IsAfterChars offset text test place count pos
+  At count pos = IsPositionAfterCharsOfClass offset text test place count pos
 
   -- No character has been passed at the start.
   pub past-none : (pos : P) → place_at text (offset pos) ≡ Some place → At 0 pos
@@ -43,4 +43,4 @@ module _ {P : Type 0} (offset : P → ℕ) (text : Text) (is : HasRisingPlaceOff
 pub record HasPassed {P : Type 0} (offset : P → ℕ) (text : Text) (tests : Option (ℕ → Bool)) (least from count : ℕ) (pos : P) : Type 0 where
   pub boundary : IsBoundary text (offset pos)
   pub few : count ≤ least
-  pub past : (test : ℕ → Bool) (place : ℕ) → tests ≡ Some test → place_at text from ≡ Some place → IsAfterChars offset text test place count pos
+  pub past : (test : ℕ → Bool) (place : ℕ) → tests ≡ Some test → place_at text from ≡ Some place → IsPositionAfterCharsOfClass offset text test place count pos

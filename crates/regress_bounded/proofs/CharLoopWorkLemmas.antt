@@ -62,7 +62,7 @@ use Rattle.regress_memo.proofs.MemoTableLawLemmas.{keys-are-there, records-there
 use Rattle.regress_memo.proofs.AmortizedMemoSearchLemmas.{HasKey, has-key, no-key, keyed-joined}
 use Rattle.regress_search.proofs.CharLoopReach.{numbers-last}
 use Rattle.regress_search.proofs.StopByteScanLemmas.{places-few}
-use Rattle.regress_bounded.specs.WorkOfCharLoopsAndAttempts.{IsUnboundedCharLoop, key_after_chars, threads_after_chars, exits_with_records}
+use Rattle.regress_bounded.specs.WorkOfCharLoopsAndAttempts.{StateIsAtUnboundedCharLoop, key_after_chars, threads_after_chars, exits_with_records}
 
 -- ---- Numbers
 
@@ -225,7 +225,7 @@ module _ (program : Program) (t : MemoAnalysis) (of : IsAnalysisOf program t) (b
 -- ---- Loops without a maximum: their keys and the exits that they leave
 
 module _ (program : Program) (t : MemoAnalysis) (of : IsAnalysisOf program t) (bounded : IsWorkBounded t program) (text : Text) (is_text : HasRisingPlaceOffsets text) (bytes : ReadsAsBytes program text)
-    (less : units text < 2 ^ 63) (d : Direction) (s : State) (test : ℕ → Bool) (least : ℕ) (greedy : Bool) (unbounded_loop : IsUnboundedCharLoop program s test least greedy) where
+    (less : units text < 2 ^ 63) (d : Direction) (s : State) (test : ℕ → Bool) (least : ℕ) (greedy : Bool) (unbounded_loop : StateIsAtUnboundedCharLoop program s test least greedy) where
   abbrev serves-here : Serves program t text
   serves-here = served program t of bounded text is_text bytes less d
 
@@ -439,7 +439,7 @@ module _ (program : Program) (t : MemoAnalysis) (of : IsAnalysisOf program t) (b
 
   -- ---- A greedy loop without a maximum
 
-  module _ (s : State) (test : ℕ → Bool) (least place : ℕ) (unbounded_loop : IsUnboundedCharLoop program s test least true) (at : place_at text s.pos ≡ Some place) where
+  module _ (s : State) (test : ℕ → Bool) (least place : ℕ) (unbounded_loop : StateIsAtUnboundedCharLoop program s test least true) (at : place_at text s.pos ≡ Some place) where
     -- The keys of the exits from `least` characters up to `n` are new.
     abbrev pub New : (n : ℕ) → Type 0
     New n = ExitKeysAreNew program text (analysis_as_liveness t) (key_code_questions_of t) (insn_direction t) (recorded t) (plan_steps_below_record program) d test s now place least n
@@ -526,7 +526,7 @@ module _ (program : Program) (t : MemoAnalysis) (of : IsAnalysisOf program t) (b
 
   -- ---- A lazy loop
 
-  module _ (s : State) (test : ℕ → Bool) (least place : ℕ) (unbounded_loop : IsUnboundedCharLoop program s test least false) where
+  module _ (s : State) (test : ℕ → Bool) (least place : ℕ) (unbounded_loop : StateIsAtUnboundedCharLoop program s test least false) where
     abbrev lazy-ready : LazyLoopIsCovered program (potentials_of t) (key_cost_of t) (recorded t) least s.ip
     lazy-ready = (of.runs s.ip least unlimited false unbounded_loop.run).lazy refl refl
 

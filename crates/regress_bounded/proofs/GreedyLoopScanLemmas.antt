@@ -29,8 +29,8 @@ use Rattle.regress_bounded.specs.declared.pending_stack.UnboundedCharLoop.{Unbou
 use Rattle.regress_bounded.specs.declared.pending_stack.StackEntry.{StackEntry}
 use Rattle.regress_bounded.specs.declared.pending_stack.StackEntry.TheVariants.{Thread as AsThread, Record as AsRecord}
 use Rattle.regress_pikevm.specs.declared.pikevm.states.State.{State}
-use Rattle.regress_pikevm.specs.States.{state_of}
-use Rattle.regress_bounded.specs.BoundedState.{IsSoundMemo, IsMemoRight, IsStackOf, IsAtCharLoop, ExitsArePending, ScansWithMemo, IsAfterChars}
+use Rattle.regress_pikevm.specs.States.{machine_state_of}
+use Rattle.regress_bounded.specs.BoundedState.{IsSoundMemo, IsMemoRight, IsStackOfEntriesFromTop, IsStateAtUnboundedLoopOverInsn, ExitsArePending, ScansWithMemo, IsPositionAfterCharsOfClass}
 use Rattle.regress_bounded.specs.WorkOfCharLoopsAndAttempts.{key_after_chars, threads_after_chars, exits_with_records}
 use Rattle.regress_bounded.proofs.LazyLoopTurnsAndResumption.{unbounded_loop-by}
 use Rattle.regress_bounded.proofs.CharLoopProgress.{past-none, past-more, past-all}
@@ -70,7 +70,7 @@ module _ {P : Type 0} (offset : P → ℕ) (text : Text) (is : HasRisingPlaceOff
   further-by {tests} some at next found h passes led = let t = some-of tests some in one-further t.0 at next found h passes (led t.0 t.1)
 
   -- The number of characters passed is at most the offset behind them.
-  pub past-few : (test : ℕ → Bool) (place count : ℕ) (at : P) → IsAfterChars offset text test place count at → count ≤ offset at
+  pub past-few : (test : ℕ → Bool) (place count : ℕ) (at : P) → IsPositionAfterCharsOfClass offset text test place count at → count ≤ offset at
   past-few test place count at h =
       let few : place + count ≤ text_offset text (place + count) = places-few text is (place + count) h.within in
       let e : offset at ≡ text_offset text (place + count) = h.at in
@@ -79,7 +79,7 @@ module _ {P : Type 0} (offset : P → ℕ) (text : Text) (is : HasRisingPlaceOff
 -- All characters up to a position pass, and the exits before it wait.
 pub record Furthest {P : Type 0} (offset : P → ℕ) (program : Program) (text : Text) (m : MemoView) (s : machine.State) (least : ℕ) (test : ℕ → Bool) (place : ℕ)
     (old new : List (StackEntry P)) (at : P) (n : ℕ) : Type 0 where
-  pub past : IsAfterChars offset text test place n at
+  pub past : IsPositionAfterCharsOfClass offset text test place n at
   pub wait : ExitsArePending offset program text m.memo_analysis (has_failure m) test place s least old new n
 
 -- The same holds for any test and from any place where the loop may begin.
@@ -88,7 +88,7 @@ pub record HasGoneOver {P : Type 0} (offset : P → ℕ) (program : Program) (te
   pub boundary : IsBoundary text (offset at)
   pub few : n ≤ offset at
   pub paid : n ≤ left
-  pub going : (test : ℕ → Bool) (place : ℕ) → tests ≡ Some test → IsAfterChars offset text test place least from → Furthest offset program text m s least test place old new at n
+  pub going : (test : ℕ → Bool) (place : ℕ) → tests ≡ Some test → IsPositionAfterCharsOfClass offset text test place least from → Furthest offset program text m s least test place old new at n
 
 -- ---- Keys
 
@@ -100,9 +100,9 @@ same-keys j k ip at code =
     let c : record { ip = k.ip; at = k.at; code = j.code } ≡ k = ap (λ n. record { ip = k.ip; at = k.at; code = n }) code in
     a ∙ b ∙ c
 
-module _ {P : Type 0} {offset : P → ℕ} {program : Program} {text : Text} {run : UnboundedCharLoop} (state : State P) (here : IsAtCharLoop offset program text run true (state_of offset state)) where
+module _ {P : Type 0} {offset : P → ℕ} {program : Program} {text : Text} {run : UnboundedCharLoop} (state : State P) (here : IsStateAtUnboundedLoopOverInsn offset program text run true (machine_state_of offset state)) where
   abbrev s : machine.State
-  s = state_of offset state
+  s = machine_state_of offset state
 
   module _ {m : MemoView} (knows : IsMemoRight program text m) where
     abbrev key-of : (test : ℕ → Bool) (place n : ℕ) → Key
@@ -164,7 +164,7 @@ module _ {P : Type 0} {offset : P → ℕ} {program : Program} {text : Text} {ru
     places-row test place count = exits_with_records program text m.memo_analysis rightwards test place s run.least count
 
     -- No exit waits behind the required characters.
-    pub furthest-none : (test : ℕ → Bool) (place : ℕ) (old : List (StackEntry P)) (from : P) → IsAfterChars offset text test place run.least from → Goes test place old old from run.least
+    pub furthest-none : (test : ℕ → Bool) (place : ℕ) (old : List (StackEntry P)) (from : P) → IsPositionAfterCharsOfClass offset text test place run.least from → Goes test place old old from run.least
     furthest-none test place old from h =
         let none : run.least - run.least ≡ 0 = omega arith in
         let sum = h.sum in
@@ -174,7 +174,7 @@ module _ {P : Type 0} {offset : P → ℕ} {program : Program} {text : Text} {ru
             enough = omega arith;
             pass = omega (arith, sum);
             unknown = λ m le less. absurd (omega (arith, le, less));
-            rows = λ row r. subst (λ count. IsStackOf offset program text old (places-row test place count ++ row)) (sym none) r;
+            rows = λ row r. subst (λ count. IsStackOfEntriesFromTop offset program text old (places-row test place count ++ row)) (sym none) r;
           };
         }
 
@@ -187,11 +187,11 @@ module _ {P : Type 0} {offset : P → ℕ} {program : Program} {text : Text} {ru
 
     module _ (test : ℕ → Bool) (e : test_of program (Some (insn_as_spec_insn run.body)) ≡ Some test) (place : ℕ) (old mid : List (StackEntry P)) (at : P) (n : ℕ)
         (found : Option Stored) (key : Stored) (is_key : found ≡ Some key) (told : option_map memo_key_as_spec found ≡ memo_key_at m.memo_analysis (record s { ip = s.ip + 1; pos = offset at })) (h : Goes test place old mid at n) (unknown : has_failure m (memo_key_as_spec key) ≡ false)
-        (there : State P) (is_there : state_of offset there ≡ state_after_char_loop_to_offset (offset at) s) where
+        (there : State P) (is_there : machine_state_of offset there ≡ state_after_char_loop_to_offset (offset at) s) where
       its-key : memo_key_as_spec key ≡ key-of test place n
       its-key = key-found test e place n (offset at) found key is_key told h.past.at
 
-      place-behind : state_of offset there ≡ behind text rightwards place s n
+      place-behind : machine_state_of offset there ≡ behind text rightwards place s n
       place-behind = is_there ∙ ap (λ x. state_after_char_loop_to_offset x s) h.past.at
 
       more-unknown : (j : ℕ) → run.least ≤ j → j < n + 1 → has_failure m (key-of test place j) ≡ false
@@ -205,8 +205,8 @@ module _ {P : Type 0} {offset : P → ℕ} {program : Program} {text : Text} {ru
       abbrev recorded-row : Entry
       recorded-row = key_record (key-of test place n) (threads_after_chars program text m.memo_analysis rightwards test place s n)
 
-      with-record : (row : List Entry) → IsStackOf offset program text old row
-          → IsStackOf offset program text (mid ++ AsRecord key ∷ []) (recorded-row ∷ places-row test place (n - run.least) ++ row)
+      with-record : (row : List Entry) → IsStackOfEntriesFromTop offset program text old row
+          → IsStackOfEntriesFromTop offset program text (mid ++ AsRecord key ∷ []) (recorded-row ∷ places-row test place (n - run.least) ++ row)
       with-record row r =
           let threads = threads_after_chars program text m.memo_analysis rightwards test place s n in
           row-push offset program text mid (AsRecord key) recorded-row (places-row test place (n - run.least) ++ row)
@@ -223,7 +223,7 @@ module _ {P : Type 0} {offset : P → ℕ} {program : Program} {text : Text} {ru
             all = omega (arith, sum, none);
             unknown = more-unknown;
             is_here = place-behind;
-            rows = λ row r. subst (λ xs. IsStackOf offset program text xs (recorded-row ∷ places-row test place (n - run.least) ++ row)) (sym same) (with-record row r);
+            rows = λ row r. subst (λ xs. IsStackOfEntriesFromTop offset program text xs (recorded-row ∷ places-row test place (n - run.least) ++ row)) (sym same) (with-record row r);
           }
 
       -- If the next character passes, the place waits and the scan goes on from the next one.
@@ -242,16 +242,16 @@ module _ {P : Type 0} {offset : P → ℕ} {program : Program} {text : Text} {ru
               pass = omega (arith, sum);
               unknown = more-unknown;
               rows = λ row r.
-                  let both : IsStackOf offset program text ((mid ++ AsRecord key ∷ []) ++ AsThread there ∷ [])
+                  let both : IsStackOfEntriesFromTop offset program text ((mid ++ AsRecord key ∷ []) ++ AsThread there ∷ [])
                   (one_thread (waiting (behind text rightwards place s n)) ∷ recorded-row ∷ places-row test place (n - run.least) ++ row) =
                   row-push offset program text (mid ++ AsRecord key ∷ []) (AsThread there) (one_thread (waiting (behind text rightwards place s n)))
                   (recorded-row ∷ places-row test place (n - run.least) ++ row) (ap (λ u. one_thread (waiting u)) (sym place-behind)) (with-record row r) in
-                  let placed : IsStackOf offset program text ((mid ++ AsRecord key ∷ []) ++ AsThread there ∷ []) (places-row test place (suc (n - run.least)) ++ row) =
-                  subst (λ i. IsStackOf offset program text ((mid ++ AsRecord key ∷ []) ++ AsThread there ∷ [])
+                  let placed : IsStackOfEntriesFromTop offset program text ((mid ++ AsRecord key ∷ []) ++ AsThread there ∷ []) (places-row test place (suc (n - run.least)) ++ row) =
+                  subst (λ i. IsStackOfEntriesFromTop offset program text ((mid ++ AsRecord key ∷ []) ++ AsThread there ∷ [])
                   (one_thread (waiting (behind text rightwards place s i)) ∷ key_record (key-of test place i) (threads_after_chars program text m.memo_analysis rightwards test place s i)
                   ∷ places-row test place (n - run.least) ++ row)) last both in
-                  let counted : IsStackOf offset program text ((mid ++ AsRecord key ∷ []) ++ AsThread there ∷ []) (places-row test place (n + 1 - run.least) ++ row) =
-                  subst (λ i. IsStackOf offset program text ((mid ++ AsRecord key ∷ []) ++ AsThread there ∷ []) (places-row test place i ++ row)) (sym count) placed in
-                  subst (λ xs. IsStackOf offset program text xs (places-row test place (n + 1 - run.least) ++ row)) (sym same) counted;
+                  let counted : IsStackOfEntriesFromTop offset program text ((mid ++ AsRecord key ∷ []) ++ AsThread there ∷ []) (places-row test place (n + 1 - run.least) ++ row) =
+                  subst (λ i. IsStackOfEntriesFromTop offset program text ((mid ++ AsRecord key ∷ []) ++ AsThread there ∷ []) (places-row test place i ++ row)) (sym count) placed in
+                  subst (λ xs. IsStackOfEntriesFromTop offset program text xs (places-row test place (n + 1 - run.least) ++ row)) (sym same) counted;
             };
           }

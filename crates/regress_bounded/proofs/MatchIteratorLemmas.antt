@@ -9,7 +9,7 @@ use Rattle.regex_meaning.specs.Text.{Text}
 use Rattle.regex_meaning.specs.Tree.{Tree}
 use Rattle.regress_search.specs.MatchesWithinWork.{RemainingAnswersAndWork, is_work_enough}
 use Rattle.regress_search.specs.CostsOfSearches.{Failures}
-use Rattle.regress_bounded.specs.CostsOfAttempts.{BeginsSearches}
+use Rattle.regress_bounded.specs.CostsOfAttempts.{BeginsSearchesForTreeInText}
 use Rattle.regress_bounded.specs.WorkBoundForAllMatches.{ExecutorIsAtStart, YieldsMatchesIfWorkSuffices}
 
 -- An executor that has made no attempt has enough work for all of them, from any start.
@@ -33,13 +33,13 @@ begun-Yields {tree} {its_tree} {text} {its_text} {per_unit} {work} {budget} {eno
   text_end = b.2 ∙ ap units s.of_text;
   left = b.3 ∙ s.has_left;
   enough = λ e. b.4
-      ∙ fresh-enough enough ahead (nat_le start (units its_text)) start (s.is_enough ∙ le-leb (per_unit * (units text + 1)) work e) s.first;
+      ∙ fresh-enough enough ahead (nat_le start (units its_text)) start (s.is_work_enough_for_places ∙ le-leb (per_unit * (units text + 1)) work e) s.first;
 }
 
 -- The cost of the first call depends on the tree, the text, the failures and the position.
 pub begun-costs : {tree its_tree now_tree : Tree} {text its_text now_text : Text} {per_unit work : ℕ} {budget : Option ℕ} {enough : Bool} {ahead left start : ℕ} {failures now_failures : Failures} {position : Option ℕ}
     → ExecutorIsAtStart tree text per_unit work its_tree its_text budget enough ahead left failures → now_tree ≡ its_tree → now_text ≡ its_text → now_failures ≡ failures
-    → position ≡ (if nat_le start (units its_text) then Some start else None) → BeginsSearches tree text start now_tree now_text now_failures position
+    → position ≡ (if nat_le start (units its_text) then Some start else None) → BeginsSearchesForTreeInText tree text start now_tree now_text now_failures position
 begun-costs {start = start} s t x f at =
     record {
       of_tree = t ∙ s.of_tree;

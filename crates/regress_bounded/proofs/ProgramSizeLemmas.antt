@@ -6,11 +6,11 @@ use Rattle.std.proofs.lemmas.Bool.{leb-true}
 use Rattle.std.proofs.lemmas.List.Folds.{fold-map}
 use Rattle.regress_program.specs.InsnsAsSpec.{insn_as_spec_insn}
 use Rattle.regress_program.specs.declared.instructions.Insn.{Insn as Coded}
-use Rattle.regress_bounded.specs.WorkBoundForAllMatches.{size_of_insn}
+use Rattle.regress_bounded.specs.WorkBoundForAllMatches.{work_size_of_insn}
 
 -- Coded instructions have the size of the instructions that they specify.
-pub size-coded : (insns : List Coded) → sum_by (λ x. size_of_insn (insn_as_spec_insn x)) insns ≡ sum_by size_of_insn (map insn_as_spec_insn insns)
-size-coded insns = sym (fold-map (λ n x. n + size_of_insn x) insn_as_spec_insn 0 insns)
+pub size-coded : (insns : List Coded) → sum_by (λ x. work_size_of_insn (insn_as_spec_insn x)) insns ≡ sum_by work_size_of_insn (map insn_as_spec_insn insns)
+size-coded insns = sym (fold-map (λ n x. n + work_size_of_insn x) insn_as_spec_insn 0 insns)
 
 -- A bound that holds by the saturated size holds by the exact size.
 pub few-by : (per_unit size number codes : ℕ) → number ≡ min size (2 ^ 64 - 1) → nat_le per_unit (64 * (number * codes)) ≡ true → per_unit ≤ 64 * (size * codes)

@@ -17,9 +17,9 @@ use Rattle.regress_memo.specs.AmortizedMemoSearchSteps.{ReachesEntries, StepsRea
 use Rattle.regress_memo.proofs.AmortizedMemoSearchLemmas.{searches-are-paid}
 use Rattle.regress_bounded.specs.CostsOfSearchEvents.{IsSearchEvent, Costs, ThreadsPendAbove, none_waits, some_wait, drops, turns, tries_chars, too_few, fails_from, takes_furthest}
 use Rattle.regress_bounded.specs.CostsOfSearchEvents.{takes_nearest, drops_loop, resumes_loop, resumes, reaches, nothing_yet, then_happens}
-use Rattle.regress_bounded.specs.CostsOfSearchEvents.{IsNewIfAny, with_record_of}
+use Rattle.regress_bounded.specs.CostsOfSearchEvents.{IsKeyNewIfAny, entries_with_record_of_state}
 use Rattle.regress_bounded.specs.BoundedState.{AnalysisBoundsSearch}
-use Rattle.regress_bounded.specs.WorkOfCharLoopsAndAttempts.{IsUnboundedCharLoop}
+use Rattle.regress_bounded.specs.WorkOfCharLoopsAndAttempts.{StateIsAtUnboundedCharLoop}
 use Rattle.regress_bounded.proofs.CharLoopWorkLemmas.{limited-turned, limited-recorded, greedy-none, greedy-known, greedy-all, lazy-none, lazy-first, lazy-known, lazy-again}
 use Rattle.regress_bounded.proofs.CharLoopWorkLemmas.{kept-none}
 
@@ -84,7 +84,7 @@ module _ (program : Program) (text : Text) (t : MemoAnalysis) (paid : AnalysisBo
   waits-above work now r ts rest row some_wait h = h
 
   turned : (work : ℕ) (now : List Key) (rest : List Entry) (s : State) (ts : List Thread) (key : Option Key) → act program text rightwards s ≡ goes ts
-      → memo_key_at t s ≡ key → IsNewIfAny key now → Come work now (one_thread (running s) ∷ rest) → Come (work + 1) now (thread_entries ts ++ with_record_of s key rest)
+      → memo_key_at t s ≡ key → IsKeyNewIfAny key now → Come work now (one_thread (running s) ∷ rest) → Come (work + 1) now (thread_entries ts ++ entries_with_record_of_state s key rest)
   turned work now rest s ts None acts is new h = (laws work now rest).turned s ts acts is h
   turned work now rest s ts (Some k) acts is new h = (laws work now rest).recorded s ts k acts is new h
 
@@ -93,7 +93,7 @@ module _ (program : Program) (text : Text) (t : MemoAnalysis) (paid : AnalysisBo
     its : ScansAt program text s
     its = scans-at program text s least most greedy run (subst IsNotStuck (sym acts) tt)
 
-    tried-chars : (key : Option Key) → memo_key_at t s ≡ key → IsNewIfAny key now → Come work now (one_thread (running s) ∷ rest) → Come (work + (n + 1)) now (thread_entries ts ++ with_record_of s key rest)
+    tried-chars : (key : Option Key) → memo_key_at t s ≡ key → IsKeyNewIfAny key now → Come work now (one_thread (running s) ∷ rest) → Come (work + (n + 1)) now (thread_entries ts ++ entries_with_record_of_state s key rest)
     tried-chars None is new h =
         limited-turned program t paid.memo_analysis paid.bounded text paid.is_text paid.bytes paid.short rightwards memory first work now rest
         s least most greedy run its.test its.body its.place its.at (not-unlimited most limited) n ts acts is h
@@ -101,7 +101,7 @@ module _ (program : Program) (text : Text) (t : MemoAnalysis) (paid : AnalysisBo
         limited-recorded program t paid.memo_analysis paid.bounded text paid.is_text paid.bytes paid.short rightwards memory first work now rest
         s least most greedy run its.test its.body its.place its.at (not-unlimited most limited) n ts acts k is new h
 
-  had-too-few : (work : ℕ) (now : List Key) (rest : List Entry) (s : State) (test : ℕ → Bool) (least place : ℕ) (greedy : Bool) → IsUnboundedCharLoop program s test least greedy → place_at text s.pos ≡ Some place
+  had-too-few : (work : ℕ) (now : List Key) (rest : List Entry) (s : State) (test : ℕ → Bool) (least place : ℕ) (greedy : Bool) → StateIsAtUnboundedCharLoop program s test least greedy → place_at text s.pos ≡ Some place
       → passing text test rightwards place < least → Come work now (one_thread (running s) ∷ rest) → Come (work + (passing text test rightwards place + 2)) now rest
   had-too-few work now rest s test least place true unbounded_loop at few h =
       greedy-none program t paid.memo_analysis paid.bounded text paid.is_text paid.bytes paid.short rightwards memory first work now rest s test least place unbounded_loop at few h

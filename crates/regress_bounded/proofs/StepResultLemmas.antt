@@ -10,9 +10,9 @@ use Rattle.regress_bounded.specs.declared.memo_and_work_budget.AttemptAbortReaso
 use Rattle.regress_bounded.specs.declared.memo_and_work_budget.AttemptAbortReason.TheVariants.{Memory, Work}
 use Rattle.regress_bounded.specs.declared.pending_stack.StackEntry.{StackEntry}
 use Rattle.regress_bounded.specs.declared.thread_steps_and_backtracking.StepResult.{StepResult}
-use Rattle.regress_bounded.specs.declared.thread_steps_and_backtracking.StepResult.TheVariants.{On, End}
-use Rattle.regress_bounded.specs.BoundedState.{BoundedAttempt, AttemptHasState, HasAttemptState, WorkIsTooLittle, MayStop, TakesOneEvent, ContinuesOrStops, AttemptEndsAt, StepResultIs}
-use Rattle.regress_bounded.specs.BoundedState.{StepResultFrom, AttemptResultIs}
+use Rattle.regress_bounded.specs.declared.thread_steps_and_backtracking.StepResult.TheVariants.{ContinueWith, End}
+use Rattle.regress_bounded.specs.BoundedState.{BoundedAttempt, AttemptHasState, HasAttemptState, NextEventExceedsWorkLeft, MayAbortAttempt, TakesOneEvent, ContinuesOrStops, AttemptEndsAt, StepResultIs}
+use Rattle.regress_bounded.specs.BoundedState.{StepResultInEachAttempt, AttemptResultIs}
 use Rattle.regress_bounded.proofs.SearchEventCostLemmas.{cost-some}
 
 -- A property of an error holds for the result that hands the error on.
@@ -31,30 +31,30 @@ module _ {P : Type 0} {offset : P → ℕ} {program : Program} {text : Text} {b 
   comes-less {after = after} x = let e : c.left ≡ x.cost + after.left = x.spent in let some = cost-some x.happens in omega (arith, e, some)
 
   -- An attempt may stop if the next event costs more than the work left.
-  pub may-stop : (e : AttemptAbortReason) (after : MemoAndWorkBudget) → (e ≡ Work → WorkIsTooLittle offset program text b h after) → MayStop offset program text b h e after
+  pub may-stop : (e : AttemptAbortReason) (after : MemoAndWorkBudget) → (e ≡ Work → NextEventExceedsWorkLeft offset program text b h after) → MayAbortAttempt offset program text b h e after
   may-stop Memory after short = tt
   may-stop Work after short = short refl
 
   module _ (stack' : List (StackEntry P)) (after : MemoAndWorkBudget) where
-    pub goes-short : (r : Result (Option (State P)) AttemptAbortReason) (e : AttemptAbortReason) → IsErrAnd r (λ f. f ≡ e) → e ≡ Work → WorkIsTooLittle offset program text b h after
+    pub goes-short : (r : Result (Option (State P)) AttemptAbortReason) (e : AttemptAbortReason) → IsErrAnd r (λ f. f ≡ e) → e ≡ Work → NextEventExceedsWorkLeft offset program text b h after
         → ContinuesOrStops offset program text b h r stack' after
     goes-short r e handed is short = handed-on (λ r. ContinuesOrStops offset program text b h r stack' after) r e handed (may-stop e after (λ is. short))
 
-    pub turns-handed : (r : Result (StepResult P) AttemptAbortReason) (e : AttemptAbortReason) → IsErrAnd r (λ f. f ≡ e) → MayStop offset program text b h e after
+    pub turns-handed : (r : Result (StepResult P) AttemptAbortReason) (e : AttemptAbortReason) → IsErrAnd r (λ f. f ≡ e) → MayAbortAttempt offset program text b h e after
         → StepResultIs offset program text b h r stack' after
     turns-handed r e handed stops = handed-on (λ r. StepResultIs offset program text b h r stack' after) r e handed stops
 
-    pub turns-short : (r : Result (StepResult P) AttemptAbortReason) (e : AttemptAbortReason) → IsErrAnd r (λ f. f ≡ e) → (e ≡ Work → WorkIsTooLittle offset program text b h after)
+    pub turns-short : (r : Result (StepResult P) AttemptAbortReason) (e : AttemptAbortReason) → IsErrAnd r (λ f. f ≡ e) → (e ≡ Work → NextEventExceedsWorkLeft offset program text b h after)
         → StepResultIs offset program text b h r stack' after
     turns-short r e handed short = turns-handed r e handed (may-stop e after short)
 
   -- An error in a part of an attempt is the error of the attempt.
-  stops-all : (after : MemoAndWorkBudget) → after.memo.memo_analysis ≡ c.memo.memo_analysis → (e : AttemptAbortReason) → MayStop offset program text b h e after → AttemptResultIs offset program text b (Err e) after
+  stops-all : (after : MemoAndWorkBudget) → after.memo.memo_analysis ≡ c.memo.memo_analysis → (e : AttemptAbortReason) → MayAbortAttempt offset program text b h e after → AttemptResultIs offset program text b (Err e) after
   stops-all after same Memory stops = tt
   stops-all after same Work stops = record { front = front; stack = stack; before = c; stands = h; same = same; short = stops }
 
   pub runs-stopped : (after : MemoAndWorkBudget) → after.memo.memo_analysis ≡ c.memo.memo_analysis → (r : Result (Option (State P)) AttemptAbortReason) (e : AttemptAbortReason) → IsErrAnd r (λ f. f ≡ e)
-      → MayStop offset program text b h e after → AttemptResultIs offset program text b r after
+      → MayAbortAttempt offset program text b h e after → AttemptResultIs offset program text b r after
   runs-stopped after same r e handed stops = handed-on (λ r. AttemptResultIs offset program text b r after) r e handed (stops-all after same e stops)
 
 -- An error of an attempt is handed on.
@@ -65,10 +65,10 @@ runs-handed offset program text b after r e handed stops = handed-on (λ r. Atte
 -- These lemmas are about the result of a turn.
 module _ {P : Type 0} {offset : P → ℕ} {program : Program} {text : Text} {front : List Entry} {old : List (StackEntry P)} {before : MemoAndWorkBudget}
     (there : HasAttemptState offset program text front old before) (new : List (StackEntry P)) (behind : MemoAndWorkBudget) {came : StepResult P} where
-  pub came-on : {next : Option (State P)} → came ≡ On next → StepResultFrom offset program text front old before (Ok came) new behind
+  pub came-on : {next : Option (State P)} → came ≡ ContinueWith next → StepResultInEachAttempt offset program text front old before (Ok came) new behind
       → (b : BoundedAttempt) (h : AttemptHasState offset program text b front old before) → TakesOneEvent offset program text b h next new behind
   came-on is goes b h = subst (λ came. StepResultIs offset program text b h (Ok came) new behind) is (goes b h)
 
-  pub came-end : {end : State P} → came ≡ End end → StepResultFrom offset program text front old before (Ok came) new behind
+  pub came-end : {end : State P} → came ≡ End end → StepResultInEachAttempt offset program text front old before (Ok came) new behind
       → (b : BoundedAttempt) → AttemptHasState offset program text b front old before → AttemptEndsAt offset program text b end behind
   came-end is goes b h = subst (λ came. StepResultIs offset program text b h (Ok came) new behind) is (goes b h)

@@ -13,7 +13,7 @@ use Rattle.regress_memo.specs.LoopDataKeyCodes.{plan_codes}
 use Rattle.regress_memo.specs.DistinctLists.{IsIn}
 use Rattle.regress_memo.specs.AmortizedStepCosts.{potential_by}
 use Rattle.regress_memo.specs.SuccessiveMatches.{at_first, passed, failed, found}
-use Rattle.regress_memo.specs.MemoSearch.{Key, Entry, one_thread, thread_entries, keys_in, at_of, AreOnward, Answers, IsMemory}
+use Rattle.regress_memo.specs.MemoSearch.{Key, Entry, one_thread, thread_entries, keys_in, offset_of_thread, AreOnward, Answers, IsMemory}
 use Rattle.regress_memo.specs.MemoSearch as turns
 use Rattle.regress_memo.proofs.DistinctListLemmas.{Each-right, distinct-right}
 use Rattle.regress_memo.proofs.StepCostLemmas.{one-weighs}
@@ -32,7 +32,7 @@ use Rattle.regress_memo.specs.MemoContractView.{MemoView}
 use Rattle.regress_memo.specs.AmortizedMemoSearchSteps.{ReachesEntries}
 use Rattle.regress_memo.proofs.MemoTableLawLemmas.{memos-hold}
 use Rattle.regress_memo.proofs.AmortizedMemoSearchLemmas.{searches-are-paid}
-use Rattle.regress_bounded.specs.WorkOfCharLoopsAndAttempts.{HasMadeAttempts, IsWalked, AttemptIsUnderWay}
+use Rattle.regress_bounded.specs.WorkOfCharLoopsAndAttempts.{HasMadeAttempts, AttemptsHaveKnownKeys, AttemptIsUnderWay}
 
 -- ---- Known failures
 
@@ -102,7 +102,7 @@ module _ (program : Program) (t : MemoAnalysis) (of : IsAnalysisOf program t) (t
   first-onward at = (omega arith, tt, tt)
 
   -- All threads of an attempt are at or behind its start.
-  pub in-order : (at : ℕ) (memory : List Key) (work : ℕ) (now : List Key) (u : Thread) (rest : List Entry) → Come at memory work now (one_thread u ∷ rest) → at ≤ at_of u
+  pub in-order : (at : ℕ) (memory : List Key) (work : ℕ) (now : List Key) (u : Thread) (rest : List Entry) → Come at memory work now (one_thread u ∷ rest) → at ≤ offset_of_thread u
   in-order at memory work now u rest h =
       (turns-go-on program text (analysis_as_liveness t) (analysis_keys program text t) rightwards price weight memory (initial_threads program at) at work now (one_thread u ∷ rest) refl (first-onward at) h.comes).0
 
@@ -176,7 +176,7 @@ module _ (program : Program) (t : MemoAnalysis) (of : IsAnalysisOf program t) (t
 
   -- If the current thread ends, the next attempt begins there or behind an empty match.
   pub then-found : (at done : ℕ) (memory : List Key) → Walked at done memory → Answered at → (more : ℕ) (now : List Key) (u : Thread) (rest : List Entry)
-      → Come at memory more now (one_thread u ∷ rest) → (on : ℕ) → at_of u ≤ on → at < on → Walked on (done + more) now
+      → Come at memory more now (one_thread u ∷ rest) → (on : ℕ) → offset_of_thread u ≤ on → at < on → Walked on (done + more) now
   then-found at done memory w answers more now u rest h on le further = let order = w.order in record {
     from = on;
     looks = w.looks + 1;
@@ -190,7 +190,7 @@ module _ (program : Program) (t : MemoAnalysis) (of : IsAnalysisOf program t) (t
 
   module _ (known : Key → Bool) where
     abbrev Behind : (ahead done : ℕ) → Type 0
-    Behind ahead done = IsWalked program text t known ahead done
+    Behind ahead done = AttemptsHaveKnownKeys program text t known ahead done
 
     abbrev Trying : (at done work : ℕ) → List Entry → Type 0
     Trying at done work row = AttemptIsUnderWay program text t known at done work row
@@ -200,7 +200,7 @@ module _ (program : Program) (t : MemoAnalysis) (of : IsAnalysisOf program t) (t
 
     -- If a match is found, the next attempt begins behind it.
     pub then-ends : (at done work : ℕ) (u : Thread) (rest : List Entry) → Answered at → Trying at done work (one_thread u ∷ rest)
-        → (on : ℕ) → at_of u ≤ on → at < on → Behind on (done + work)
+        → (on : ℕ) → offset_of_thread u ≤ on → at < on → Behind on (done + work)
     then-ends at done work u rest answers b on le further = record {
       memory = b.now;
       has = then-found at done b.memory b.has answers work b.now u rest b.comes on le further;

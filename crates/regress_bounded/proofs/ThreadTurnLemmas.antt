@@ -29,13 +29,13 @@ use Rattle.regress_bounded.specs.declared.pending_stack.StackEntry.{StackEntry}
 use Rattle.regress_bounded.specs.declared.pending_stack.StackEntry.TheVariants.{Thread as AsThread, Record as AsRecord}
 use Rattle.regress_pikevm.specs.declared.pikevm.states.State.{State}
 use Rattle.regress_pikevm.specs.declared.pikevm.states.NextStates.{NextStates}
-use Rattle.regress_bounded.specs.CostsOfSearchEvents.{LeavesThreads, IsNewIfAny, chars_tried, work_of, threads_left, with_record_of, drops, turns, tries_chars}
+use Rattle.regress_bounded.specs.CostsOfSearchEvents.{StepLeavesOnlyThreads, IsKeyNewIfAny, tested_char_count_of_step, work_of_machine_step, threads_after_step, entries_with_record_of_state, drops, turns, tries_chars}
 use Rattle.regress_bounded.specs.BoundedState.{BoundedAttempt, IsUnfailedStateKeyIfAny, IsNotUnboundedCharLoop, char_loop_max}
 use Rattle.regress_bounded.specs.BoundedState.{is_goal_insn}
-use Rattle.regress_bounded.specs.BoundedState.{HasAttemptState, IsStackOf, AttemptHasState, MayBeNextEvent, TakesOneEvent, WorkIsTooLittle, HasTaken, TakesPreferredThread, HasPassedOver}
-use Rattle.regress_bounded.specs.BoundedState.{IsAtCharLoop, entry_of_current_thread, is_known_key, stack_with_record, min_and_greed_of_loop}
-use Rattle.regress_bounded.specs.BudgetSpending.{IsTakenFromBudget, IsWorkOrMoreThanLeft, WorkExceedsBudget}
-use Rattle.regress_pikevm.specs.States.{state_of, effect_of_next_states, states_by_priority, waiting_threads}
+use Rattle.regress_bounded.specs.BoundedState.{HasAttemptState, IsStackOfEntriesFromTop, AttemptHasState, MayBeNextSearchEvent, TakesOneEvent, NextEventExceedsWorkLeft, TakesPreferredState, TakesPreferredThread, HasPassedRequiredChars}
+use Rattle.regress_bounded.specs.BoundedState.{IsStateAtUnboundedLoopOverInsn, entry_of_current_thread, is_known_key, stack_with_record_if_any, min_and_greed_of_loop}
+use Rattle.regress_bounded.specs.BudgetSpending.{LowersBudgetByWork, IsWorkOrMoreThanLeft, WorkExceedsBudget}
+use Rattle.regress_pikevm.specs.States.{machine_state_of, effect_of_next_states, states_by_priority, threads_of_stack}
 use Rattle.regress_pikevm.proofs.InsnFetchLemmas.{insn-here}
 use Rattle.regress_pikevm.proofs.ExecutorTurnLemmas.{scan-threads, waiting-append}
 use Rattle.regress_bounded.proofs.CharLoopBodyInsns.{body-tested, body-insn, body-below}
@@ -95,13 +95,13 @@ known-key test (Some k) o e h = record { key = memo_key_as_spec k; is = sym e; k
 module _ {P : Type 0} {offset : P → ℕ} {program : Program} {text : Text} {b : BoundedAttempt} {s : machine.State} {stack : List (StackEntry P)} {c : MemoAndWorkBudget}
     (h : AttemptHasState offset program text b (one_thread (running s) ∷ []) stack c) (key : Option Stored) (its : option_map memo_key_as_spec key ≡ memo_key_at c.memo.memo_analysis s)
     (fails : is_known_key (has_failure c.memo) (option_map memo_key_as_spec key) ≡ true) where
-  known-happens : MayBeNextEvent offset program text b h 1 h.now h.row
+  known-happens : MayBeNextSearchEvent offset program text b h 1 h.now h.row
   known-happens = let k = known-key (has_failure c.memo) key (memo_key_at c.memo.memo_analysis s) its fails in drops s k.key h.row k.is (known offset program text b h k.key k.known)
 
-  pub known-over : (c' : MemoAndWorkBudget) → WorkExceedsBudget 1 c.left c'.left → WorkIsTooLittle offset program text b h c'
+  pub known-over : (c' : MemoAndWorkBudget) → WorkExceedsBudget 1 c.left c'.left → NextEventExceedsWorkLeft offset program text b h c'
   known-over c' spent = is-short offset program text b h 1 c' known-happens spent
 
-  pub known-goes : (c' : MemoAndWorkBudget) → c'.memo ≡ c.memo → IsTakenFromBudget 1 c.left c'.left → TakesOneEvent offset program text b h None stack c'
+  pub known-goes : (c' : MemoAndWorkBudget) → c'.memo ≡ c.memo → LowersBudgetByWork 1 c.left c'.left → TakesOneEvent offset program text b h None stack c'
   known-goes c' same spent = comes-on offset program text b h None h.row stack 1 c' known-happens h.is same spent
 
 -- ---- The current instruction
@@ -155,7 +155,7 @@ module _ {P : Type 0} (offset : P → ℕ) (re : Regex) (text : Text) (insns : L
     pub below : s.ip + 1 < length insns
     pub reads : (body : Coded) → body ≡ get_or insns (s.ip + 1) body → slice_get (compiled (tree_of re)).insns (s.ip + 1) ≡ Some (insn_as_spec_insn body)
     pub here : (body : Coded) → body ≡ get_or insns (s.ip + 1) body
-        → IsAtCharLoop offset (compiled (tree_of re)) text (record { body = body; least = least; greedy = greedy }) greedy s
+        → IsStateAtUnboundedLoopOverInsn offset (compiled (tree_of re)) text (record { body = body; least = least; greedy = greedy }) greedy s
 
 module _ (re : Regex) (text : Text) (insns : List Coded) (code : map insn_as_spec_insn insns ≡ (compiled (tree_of re)).insns) (s : machine.State)
     (can : IsNotStuck (act (compiled (tree_of re)) text rightwards s)) where
@@ -221,10 +221,10 @@ goal-ends re text s insn here goal =
 -- A turn that is not at a goal leaves threads.
 module _ {P : Type 0} {offset : P → ℕ} {program : Program} {text : Text} {s : machine.State} {stack : List (StackEntry P)} {c : MemoAndWorkBudget}
     (there : HasAttemptState offset program text (one_thread (running s) ∷ []) stack c) where
-  pub leads-on : (insn : Insn) → slice_get program.insns s.ip ≡ Some insn → false ≡ is_goal_insn insn → LeavesThreads (act program text rightwards s)
+  pub leads-on : (insn : Insn) → slice_get program.insns s.ip ≡ Some insn → false ≡ is_goal_insn insn → StepLeavesOnlyThreads (act program text rightwards s)
   leads-on insn here other = by (act program text rightwards s) refl (standing-can there)
     where
-      by : (x : Next) → act program text rightwards s ≡ x → IsNotStuck x → LeavesThreads x
+      by : (x : Next) → act program text rightwards s ≡ x → IsNotStuck x → StepLeavesOnlyThreads x
       by (goes ts) is can = tt
       by (scans tries ts) is can = tt
       by (ends t) is can = absurd (never-ends program text rightwards s insn here (sym other) t is)
@@ -234,10 +234,10 @@ module _ {P : Type 0} {offset : P → ℕ} {program : Program} {text : Text} {s 
 
 -- A turn that is not at a char loop tries no character.
 pub other-work : (program : Program) (text : Text) (s : machine.State) (x : Insn) → slice_get program.insns s.ip ≡ Some x → None ≡ char_loop_max x → (left : ℕ)
-    → IsWorkOrMoreThanLeft left (work_of (act program text rightwards s)) 1
+    → IsWorkOrMoreThanLeft left (work_of_machine_step (act program text rightwards s)) 1
 other-work program text s x here none left = inl (by (act program text rightwards s) refl)
   where
-    by : (n : Next) → act program text rightwards s ≡ n → 1 ≡ work_of n
+    by : (n : Next) → act program text rightwards s ≡ n → 1 ≡ work_of_machine_step n
     by (scans n ts) is =
         let r = scans-run program text rightwards s n ts is in
         let never : None ≡ Some r.most = none ∙ ap char_loop_max (some-key (sym here ∙ r.is)) in
@@ -250,17 +250,17 @@ other-work program text s x here none left = inl (by (act program text rightward
 -- A turn at a char loop does this much work for the characters that pass up to a limit.
 pub run-work : (program : Program) (text : Text) (s : machine.State) → HasRisingPlaceOffsets text → (test : ℕ → Bool) (place least most : ℕ) (greedy : Bool)
     → slice_get program.insns s.ip ≡ Some (Loop1CharBody least most greedy) → test_of program (slice_get program.insns (s.ip + 1)) ≡ Some test → place_at text s.pos ≡ Some place
-    → {P : Type 0} (offset : P → ℕ) (left passed : ℕ) (pos : P) → HasPassedOver offset text test (min most (left - 1)) place passed pos
-    → IsWorkOrMoreThanLeft left (work_of (act program text rightwards s)) (min most (passed + 1) + 1)
+    → {P : Type 0} (offset : P → ℕ) (left passed : ℕ) (pos : P) → HasPassedRequiredChars offset text test (min most (left - 1)) place passed pos
+    → IsWorkOrMoreThanLeft left (work_of_machine_step (act program text rightwards s)) (min most (passed + 1) + 1)
 run-work program text s is_text test place least most greedy run body at offset left passed pos over = by (cases_lt passed (min most (left - 1)))
   where
     all : ℕ
     all = passing text test rightwards place
 
-    tries_are : chars_tried (act program text rightwards s) ≡ min most (all + 1)
-    tries_are = ap chars_tried (run-turn program text rightwards place s least most greedy test run body at)
+    tries_are : tested_char_count_of_step (act program text rightwards s) ≡ min most (all + 1)
+    tries_are = ap tested_char_count_of_step (run-turn program text rightwards place s least most greedy test run body at)
 
-    by : (passed < min most (left - 1)) ⊎ (min most (left - 1) ≤ passed) → IsWorkOrMoreThanLeft left (work_of (act program text rightwards s)) (min most (passed + 1) + 1)
+    by : (passed < min most (left - 1)) ⊎ (min most (left - 1) ≤ passed) → IsWorkOrMoreThanLeft left (work_of_machine_step (act program text rightwards s)) (min most (passed + 1) + 1)
     by (inl few) =
         let none = over.all few in
         let sum = over.past.sum in
@@ -276,7 +276,7 @@ run-work program text s is_text test place least most greedy run body at offset 
 
 -- ---- The threads that a turn leaves
 
-pub leads-can : (x : Next) → LeavesThreads x → IsNotStuck x
+pub leads-can : (x : Next) → StepLeavesOnlyThreads x → IsNotStuck x
 leads-can (goes ts) leads = tt
 leads-can (scans tries ts) leads = tt
 leads-can (ends t) leads = absurd leads
@@ -285,15 +285,15 @@ leads-can stuck leads = absurd leads
 
 -- The lemmas below carry the facts of a turn to the value that the executor returns.
 module _ {P : Type 0} (offset : P → ℕ) {step : Next} {t x : NextStates P} (turned : effect_of_next_states offset t ≡ step) (is : t ≡ x) where
-  pub arm-leads : LeavesThreads step → LeavesThreads (effect_of_next_states offset x)
-  arm-leads leads = subst LeavesThreads (sym turned ∙ ap (effect_of_next_states offset) is) leads
+  pub arm-leads : StepLeavesOnlyThreads step → StepLeavesOnlyThreads (effect_of_next_states offset x)
+  arm-leads leads = subst StepLeavesOnlyThreads (sym turned ∙ ap (effect_of_next_states offset) is) leads
 
-  pub arm-threads : threads_left step ≡ threads_left (effect_of_next_states offset x)
-  arm-threads = ap threads_left (sym turned ∙ ap (effect_of_next_states offset) is)
+  pub arm-threads : threads_after_step step ≡ threads_after_step (effect_of_next_states offset x)
+  arm-threads = ap threads_after_step (sym turned ∙ ap (effect_of_next_states offset) is)
 
 -- The same holds if the states are given.
 pub taken-threads : {P E : Type 0} (offset : P → ℕ) (ts : List Thread) (states : List (State P)) (old last : List (StackEntry P)) → ts ≡ first_running_and_others_waiting (states_by_priority offset states)
-    → (r : Result (Option (State P)) E) → IfOk r (λ next. HasTaken offset states old next last) → IfOk r (λ next. TakesPreferredThread offset ts old next last)
+    → (r : Result (Option (State P)) E) → IfOk r (λ next. TakesPreferredState offset states old next last) → IfOk r (λ next. TakesPreferredThread offset ts old next last)
 taken-threads offset ts states old last are (Ok next) h = record { states = states; are = are; taken = h }
 taken-threads offset ts states old last are (Err e) h = tt
 
@@ -304,57 +304,57 @@ tries-on (v ∷ us) u row = ap (λ l. one_thread v ∷ l) (tries-on us u row)
 
 module _ {P : Type 0} (offset : P → ℕ) (program : Program) (text : Text) where
   -- The other states wait on the stack, the last one first.
-  rows-push : (others : List (State P)) (old : List (StackEntry P)) (row : List Entry) → IsStackOf offset program text old row
-      → IsStackOf offset program text (old ++ map (λ o. AsThread o) others) (thread_entries (waiting_threads offset others) ++ row)
-  rows-push [] old row r = subst (λ l. IsStackOf offset program text l row) (sym (append-nil old)) r
+  rows-push : (others : List (State P)) (old : List (StackEntry P)) (row : List Entry) → IsStackOfEntriesFromTop offset program text old row
+      → IsStackOfEntriesFromTop offset program text (old ++ map (λ o. AsThread o) others) (thread_entries (threads_of_stack offset others) ++ row)
+  rows-push [] old row r = subst (λ l. IsStackOfEntriesFromTop offset program text l row) (sym (append-nil old)) r
   rows-push (s ∷ others) old row r =
-      let more = row-push offset program text old (AsThread s) (one_thread (waiting (state_of offset s))) row refl r in
-      let all = rows-push others (old ++ AsThread s ∷ []) (one_thread (waiting (state_of offset s)) ∷ row) more in
-      let order : thread_entries (waiting_threads offset (s ∷ others)) ++ row ≡ thread_entries (waiting_threads offset others) ++ one_thread (waiting (state_of offset s)) ∷ row =
-      ap (λ us. thread_entries us ++ row) (waiting-append offset (s ∷ []) others) ∙ tries-on (waiting_threads offset others) (waiting (state_of offset s)) row in
-      subst (λ l. IsStackOf offset program text (old ++ map (λ o. AsThread o) (s ∷ others)) l) (sym order)
-      (subst (λ l. IsStackOf offset program text l (thread_entries (waiting_threads offset others) ++ one_thread (waiting (state_of offset s)) ∷ row))
+      let more = row-push offset program text old (AsThread s) (one_thread (waiting (machine_state_of offset s))) row refl r in
+      let all = rows-push others (old ++ AsThread s ∷ []) (one_thread (waiting (machine_state_of offset s)) ∷ row) more in
+      let order : thread_entries (threads_of_stack offset (s ∷ others)) ++ row ≡ thread_entries (threads_of_stack offset others) ++ one_thread (waiting (machine_state_of offset s)) ∷ row =
+      ap (λ us. thread_entries us ++ row) (waiting-append offset (s ∷ []) others) ∙ tries-on (threads_of_stack offset others) (waiting (machine_state_of offset s)) row in
+      subst (λ l. IsStackOfEntriesFromTop offset program text (old ++ map (λ o. AsThread o) (s ∷ others)) l) (sym order)
+      (subst (λ l. IsStackOfEntriesFromTop offset program text l (thread_entries (threads_of_stack offset others) ++ one_thread (waiting (machine_state_of offset s)) ∷ row))
       (append_assoc old (AsThread s ∷ []) (map (λ o. AsThread o) others)) all)
 
   -- The preferred state is taken, and the others wait above the entries below.
   record TakenAbove (ts : List Thread) (below : List Entry) (next : Option (State P)) (stack : List (StackEntry P)) : Type 0 where
     row : List Entry
     same : thread_entries ts ++ below ≡ entry_of_current_thread offset next ++ row
-    is : IsStackOf offset program text stack row
+    is : IsStackOfEntriesFromTop offset program text stack row
 
-  taken-above : (ts : List Thread) (below : List Entry) (old last : List (StackEntry P)) → IsStackOf offset program text old below → (next : Option (State P)) → TakesPreferredThread offset ts old next last
+  taken-above : (ts : List Thread) (below : List Entry) (old last : List (StackEntry P)) → IsStackOfEntriesFromTop offset program text old below → (next : Option (State P)) → TakesPreferredThread offset ts old next last
       → TakenAbove ts below next last
   taken-above ts below old last is next t = by next t.taken
     where
-      by : (next : Option (State P)) → HasTaken offset t.states old next last → TakenAbove ts below next last
+      by : (next : Option (State P)) → TakesPreferredState offset t.states old next last → TakenAbove ts below next last
       by None h = record {
         row = below;
         same = ap (λ us. thread_entries us ++ below) (t.are ∙ ap (λ l. first_running_and_others_waiting (states_by_priority offset l)) h.0);
-        is = subst (λ l. IsStackOf offset program text l below) (sym h.1) is;
+        is = subst (λ l. IsStackOfEntriesFromTop offset program text l below) (sym h.1) is;
       }
       by (Some s) h =
-          let order : ts ≡ running (state_of offset s) ∷ waiting_threads offset h.others =
+          let order : ts ≡ running (machine_state_of offset s) ∷ threads_of_stack offset h.others =
           t.are ∙ sym (append-nil (first_running_and_others_waiting (states_by_priority offset t.states))) ∙ sym (scan-threads offset t.states h.others [] s h.is) in
           record {
-            row = thread_entries (waiting_threads offset h.others) ++ below;
+            row = thread_entries (threads_of_stack offset h.others) ++ below;
             same = ap (λ us. thread_entries us ++ below) order;
-            is = subst (λ l. IsStackOf offset program text l (thread_entries (waiting_threads offset h.others) ++ below)) (sym h.wait) (rows-push h.others old below is);
+            is = subst (λ l. IsStackOfEntriesFromTop offset program text l (thread_entries (threads_of_stack offset h.others) ++ below)) (sym h.wait) (rows-push h.others old below is);
           }
 
 module _ {P : Type 0} {offset : P → ℕ} {program : Program} {text : Text} {b : BoundedAttempt} {s : machine.State} {stack : List (StackEntry P)} {c : MemoAndWorkBudget}
     (h : AttemptHasState offset program text b (one_thread (running s) ∷ []) stack c) (limited : IsNotUnboundedCharLoop program s.ip) {key : Option Stored} (k : IsUnfailedStateKeyIfAny c.memo s key)
-    (leads : LeavesThreads (act program text rightwards s)) where
+    (leads : StepLeavesOnlyThreads (act program text rightwards s)) where
   abbrev recorded : List Entry
-  recorded = with_record_of s (option_map memo_key_as_spec key) h.row
+  recorded = entries_with_record_of_state s (option_map memo_key_as_spec key) h.row
 
-  turn-happens : MayBeNextEvent offset program text b h (work_of (act program text rightwards s)) h.now (thread_entries (threads_left (act program text rightwards s)) ++ recorded)
+  turn-happens : MayBeNextSearchEvent offset program text b h (work_of_machine_step (act program text rightwards s)) h.now (thread_entries (threads_after_step (act program text rightwards s)) ++ recorded)
   turn-happens = by (act program text rightwards s) refl leads
     where
-      new-key : (key : Option Stored) → IfSome key (λ k. has_failure c.memo (memo_key_as_spec k) ≡ false) → IsNewIfAny (option_map memo_key_as_spec key) h.now
+      new-key : (key : Option Stored) → IfSome key (λ k. has_failure c.memo (memo_key_as_spec k) ≡ false) → IsKeyNewIfAny (option_map memo_key_as_spec key) h.now
       new-key None unknown = tt
       new-key (Some k) unknown = new offset program text b h (memo_key_as_spec k) unknown
 
-      by : (x : Next) → act program text rightwards s ≡ x → LeavesThreads x → MayBeNextEvent offset program text b h (work_of x) h.now (thread_entries (threads_left x) ++ recorded)
+      by : (x : Next) → act program text rightwards s ≡ x → StepLeavesOnlyThreads x → MayBeNextSearchEvent offset program text b h (work_of_machine_step x) h.now (thread_entries (threads_after_step x) ++ recorded)
       by (goes ts) is leads = turns s ts (option_map memo_key_as_spec key) h.row is k.is (new-key key k.unknown)
       by (scans n ts) is leads =
           let r = scans-run program text rightwards s n ts is in
@@ -364,30 +364,30 @@ module _ {P : Type 0} {offset : P → ℕ} {program : Program} {text : Text} {b 
       by stuck is leads = absurd leads
 
   -- If the work of the turn exceeds the work left, the work is too little.
-  pub turn-over : (number : ℕ) → IsWorkOrMoreThanLeft c.left (work_of (act program text rightwards s)) number → (c' : MemoAndWorkBudget) → WorkExceedsBudget number c.left c'.left
-      → WorkIsTooLittle offset program text b h c'
-  turn-over number (inl same) c' spent = is-short offset program text b h (work_of (act program text rightwards s)) c' turn-happens (subst (λ n. WorkExceedsBudget n c.left c'.left) same spent)
-  turn-over number (inr more) c' spent = is-short offset program text b h (work_of (act program text rightwards s)) c' turn-happens (more.1, spent.1)
+  pub turn-over : (number : ℕ) → IsWorkOrMoreThanLeft c.left (work_of_machine_step (act program text rightwards s)) number → (c' : MemoAndWorkBudget) → WorkExceedsBudget number c.left c'.left
+      → NextEventExceedsWorkLeft offset program text b h c'
+  turn-over number (inl same) c' spent = is-short offset program text b h (work_of_machine_step (act program text rightwards s)) c' turn-happens (subst (λ n. WorkExceedsBudget n c.left c'.left) same spent)
+  turn-over number (inr more) c' spent = is-short offset program text b h (work_of_machine_step (act program text rightwards s)) c' turn-happens (more.1, spent.1)
 
   -- The record of the current thread's key waits on the stack.
-  record-waits : (mid : List (StackEntry P)) → mid ≡ stack_with_record key stack → IsStackOf offset program text mid recorded
-  record-waits mid pushed = subst (λ xs. IsStackOf offset program text xs recorded) (sym pushed) (by key)
+  record-waits : (mid : List (StackEntry P)) → mid ≡ stack_with_record_if_any key stack → IsStackOfEntriesFromTop offset program text mid recorded
+  record-waits mid pushed = subst (λ xs. IsStackOfEntriesFromTop offset program text xs recorded) (sym pushed) (by key)
     where
-      by : (key : Option Stored) → IsStackOf offset program text (stack_with_record key stack) (with_record_of s (option_map memo_key_as_spec key) h.row)
+      by : (key : Option Stored) → IsStackOfEntriesFromTop offset program text (stack_with_record_if_any key stack) (entries_with_record_of_state s (option_map memo_key_as_spec key) h.row)
       by None = h.is
       by (Some k) =
           row-push offset program text stack (AsRecord k) (key_record (memo_key_as_spec k) (running s ∷ [])) h.row (record { threads = running s ∷ []; is = refl }) h.is
 
-  pub turn-goes : (number : ℕ) → IsWorkOrMoreThanLeft c.left (work_of (act program text rightwards s)) number → (mid last : List (StackEntry P)) → mid ≡ stack_with_record key stack
-      → (next : Option (State P)) → TakesPreferredThread offset (threads_left (act program text rightwards s)) mid next last
-      → (c' : MemoAndWorkBudget) → c'.memo ≡ c.memo → IsTakenFromBudget number c.left c'.left → TakesOneEvent offset program text b h next last c'
+  pub turn-goes : (number : ℕ) → IsWorkOrMoreThanLeft c.left (work_of_machine_step (act program text rightwards s)) number → (mid last : List (StackEntry P)) → mid ≡ stack_with_record_if_any key stack
+      → (next : Option (State P)) → TakesPreferredThread offset (threads_after_step (act program text rightwards s)) mid next last
+      → (c' : MemoAndWorkBudget) → c'.memo ≡ c.memo → LowersBudgetByWork number c.left c'.left → TakesOneEvent offset program text b h next last c'
   turn-goes number works mid last pushed next taken c' same spent =
-      let x = taken-above offset program text (threads_left (act program text rightwards s)) recorded mid last (record-waits mid pushed) next taken in
-      let work = work_of (act program text rightwards s) in
+      let x = taken-above offset program text (threads_after_step (act program text rightwards s)) recorded mid last (record-waits mid pushed) next taken in
+      let work = work_of_machine_step (act program text rightwards s) in
       let exact : number ≡ work = by works in
-      comes-on offset program text b h next x.row last work c' (subst (λ row. MayBeNextEvent offset program text b h work h.now row) x.same turn-happens) x.is same
-      (subst (λ n. IsTakenFromBudget n c.left c'.left) exact spent)
+      comes-on offset program text b h next x.row last work c' (subst (λ row. MayBeNextSearchEvent offset program text b h work h.now row) x.same turn-happens) x.is same
+      (subst (λ n. LowersBudgetByWork n c.left c'.left) exact spent)
     where
-      by : IsWorkOrMoreThanLeft c.left (work_of (act program text rightwards s)) number → number ≡ work_of (act program text rightwards s)
+      by : IsWorkOrMoreThanLeft c.left (work_of_machine_step (act program text rightwards s)) number → number ≡ work_of_machine_step (act program text rightwards s)
       by (inl same) = same
       by (inr more) = absurd (let left : c.left ≡ number + c'.left = spent in let over = more.0 in omega (arith, left, over))

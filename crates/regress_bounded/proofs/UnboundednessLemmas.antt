@@ -11,7 +11,7 @@ use Rattle.regress_program.specs.CompilationOfTreesAsFunction.{compiled}
 use Rattle.regress_program.specs.InsnsAsSpec.{insn_as_spec_insn}
 use Rattle.regress_program.specs.declared.instructions.Insn.{Insn}
 use Rattle.regress_bounded.proofs.LookaroundsAndBackrefsInCode.{has-code}
-use Rattle.regress_bounded.specs.Unboundedness.{HasNoLookaroundOrBackreference, IsReasonForUnboundedness, has_lookaround, is_unbounded_insn, is_unbounded_node}
+use Rattle.regress_bounded.specs.Unboundedness.{HasNoLookaroundOrBackreference, IsReasonForUnboundedness, has_lookaround, is_lookaround_or_backref_insn, is_lookaround_or_backref_node}
 use Rattle.regress_bounded.specs.declared.work_bound.Unbounded.{Unbounded}
 use Rattle.regress_bounded.specs.declared.work_bound.Unbounded.TheVariants.{Memory}
 
@@ -21,20 +21,20 @@ any-map test f (x ∷ xs) = ap (λ b. test (f x) || b) (any-map test f xs)
 
 -- A test of the code's instructions tells whether the tree has such a node.
 pub tree-has : (looks : Bool) (insns : List Insn) (tree : Tree) (found : Bool) → map insn_as_spec_insn insns ≡ (compiled tree).insns
-    → found ≡ list_any (λ x. is_unbounded_insn looks (insn_as_spec_insn x)) insns → fold_nodes ◌||◌ (is_unbounded_node looks) tree.root ≡ found
+    → found ≡ list_any (λ x. is_lookaround_or_backref_insn looks (insn_as_spec_insn x)) insns → fold_nodes ◌||◌ (is_lookaround_or_backref_node looks) tree.root ≡ found
 unfolding compiled
 tree-has looks insns tree found code is =
-    sym (has-code looks tree.flags.unicode false tree.root 0 0 0) ∙ ap (list_any (is_unbounded_insn looks)) (sym code) ∙ any-map (is_unbounded_insn looks) insn_as_spec_insn insns ∙ sym is
+    sym (has-code looks tree.flags.unicode false tree.root 0 0 0) ∙ ap (list_any (is_lookaround_or_backref_insn looks)) (sym code) ∙ any-map (is_lookaround_or_backref_insn looks) insn_as_spec_insn insns ∙ sym is
 
 -- The code of a tree that has no lookaround has none.
-pub code-has-none : (tree : Tree) → has_lookaround tree ≡ false → list_any (is_unbounded_insn true) (compiled tree).insns ≡ false
+pub code-has-none : (tree : Tree) → has_lookaround tree ≡ false → list_any (is_lookaround_or_backref_insn true) (compiled tree).insns ≡ false
 unfolding compiled
 code-has-none tree none = has-code true tree.flags.unicode false tree.root 0 0 0 ∙ none
 
 -- A tree whose code has no lookaround and no backreference has neither.
 pub plain-by : (insns : List Insn) (tree : Tree) (look back : Bool) → map insn_as_spec_insn insns ≡ (compiled tree).insns
-    → look ≡ list_any (λ x. is_unbounded_insn true (insn_as_spec_insn x)) insns → look ≡ false
-    → back ≡ list_any (λ x. is_unbounded_insn false (insn_as_spec_insn x)) insns → back ≡ false → HasNoLookaroundOrBackreference tree
+    → look ≡ list_any (λ x. is_lookaround_or_backref_insn true (insn_as_spec_insn x)) insns → look ≡ false
+    → back ≡ list_any (λ x. is_lookaround_or_backref_insn false (insn_as_spec_insn x)) insns → back ≡ false → HasNoLookaroundOrBackreference tree
 plain-by insns tree look back code looks no_look backs no_back = record {
   no_lookaround = tree-has true insns tree look code looks ∙ no_look;
   no_backreference = tree-has false insns tree back code backs ∙ no_back;
@@ -46,11 +46,11 @@ memory-refused tree (Ok x) h plain = tt
 memory-refused tree (Err e) h plain = subst (IsReasonForUnboundedness tree) (sym h) plain
 
 -- If no instruction is a lookaround, no instruction at an address is one.
-pub no-looks : (insns : List layout.Insn) → list_any (is_unbounded_insn true) insns ≡ false → (ip : ℕ) → lookaround_at (slice_get insns ip) ≡ None
+pub no-looks : (insns : List layout.Insn) → list_any (is_lookaround_or_backref_insn true) insns ≡ false → (ip : ℕ) → lookaround_at (slice_get insns ip) ≡ None
 no-looks insns none ip = by (slice_get insns ip) refl
   where
-    other : (x : layout.Insn) → slice_get insns ip ≡ Some x → is_unbounded_insn true x ≡ true → ⊥
-    other x e is = let some : list_any (is_unbounded_insn true) insns ≡ true = any_passes_from_place (is_unbounded_insn true) insns ip x e is in absurd (cc)
+    other : (x : layout.Insn) → slice_get insns ip ≡ Some x → is_lookaround_or_backref_insn true x ≡ true → ⊥
+    other x e is = let some : list_any (is_lookaround_or_backref_insn true) insns ≡ true = any_passes_from_place (is_lookaround_or_backref_insn true) insns ip x e is in absurd (cc)
 
     by : (o : Option layout.Insn) → slice_get insns ip ≡ o → lookaround_at o ≡ None
     by None e = refl

@@ -31,19 +31,19 @@ use Rattle.regress_bounded.specs.declared.memo_and_work_budget.AttemptAbortReaso
 use Rattle.regress_bounded.specs.declared.memo_and_work_budget.AttemptAbortReason.TheVariants.{Memory, Work}
 use Rattle.regress_bounded.specs.declared.pending_stack.UnboundedCharLoop.{UnboundedCharLoop}
 use Rattle.regress_bounded.specs.declared.pending_stack.StackEntry.{StackEntry}
-use Rattle.regress_bounded.specs.declared.pending_stack.StackEntry.TheVariants.{Thread as AsThread, Run as AsRun, Record as AsRecord}
+use Rattle.regress_bounded.specs.declared.pending_stack.StackEntry.TheVariants.{Thread as AsThread, PendingLazyLoop as AsRun, Record as AsRecord}
 use Rattle.regress_bounded.specs.declared.thread_steps_and_backtracking.StepResult.{StepResult}
-use Rattle.regress_bounded.specs.declared.thread_steps_and_backtracking.StepResult.TheVariants.{On, End}
+use Rattle.regress_bounded.specs.declared.thread_steps_and_backtracking.StepResult.TheVariants.{ContinueWith, End}
 use Rattle.regress_pikevm.specs.declared.pikevm.states.State.{State}
-use Rattle.regress_bounded.specs.BudgetSpending.{IsTakenFromBudget}
+use Rattle.regress_bounded.specs.BudgetSpending.{LowersBudgetByWork}
 use Rattle.regress_bounded.specs.CostsOfSearchEvents.{Costs, IsSearchEvent}
-use Rattle.regress_bounded.specs.WorkOfCharLoopsAndAttempts.{IsUnboundedCharLoop, key_after_chars, threads_after_chars, exits_with_records}
-use Rattle.regress_pikevm.specs.States.{state_of, states_by_priority, current_thread_if_any}
+use Rattle.regress_bounded.specs.WorkOfCharLoopsAndAttempts.{StateIsAtUnboundedCharLoop, key_after_chars, threads_after_chars, exits_with_records}
+use Rattle.regress_pikevm.specs.States.{machine_state_of, states_by_priority, current_thread_if_any}
 
 -- The stack with a record of the key on top. If there is no key, the stack is unchanged.
-abbrev pub stack_with_record : {P : Type 0} → Option Stored → List (StackEntry P) → List (StackEntry P)
-stack_with_record None stack = stack
-stack_with_record (Some key) stack = stack ++ AsRecord key ∷ []
+abbrev pub stack_with_record_if_any : {P : Type 0} → Option Stored → List (StackEntry P) → List (StackEntry P)
+stack_with_record_if_any None stack = stack
+stack_with_record_if_any (Some key) stack = stack ++ AsRecord key ∷ []
 
 module _ (program : Program) (text : Text) where
   -- The memo analysis bounds the searches of this text with the program, which has no lookarounds.
@@ -132,7 +132,7 @@ module _ {P : Type 0} (offset : P → ℕ) where
       pub test : ℕ → Bool
       pub least : ℕ
       pub place : ℕ
-      pub run : IsUnboundedCharLoop program s test least false
+      pub run : StateIsAtUnboundedCharLoop program s test least false
       pub at : place_at text s.pos ≡ Some place
       pub is : e ≡ thread_group (pending_loop_threads text test rightwards 0 place s)
 
@@ -142,20 +142,20 @@ module _ {P : Type 0} (offset : P → ℕ) where
       pub is : e ≡ key_record k threads
 
     -- The search entry that a stack entry represents.
-    abbrev pub StandsFor : StackEntry P → Entry → Type 0
-    StandsFor (AsThread s) e = e ≡ one_thread (waiting (state_of offset s))
-    StandsFor (AsRun s) e = IsPendingLazyLoop (state_of offset s) e
-    StandsFor (AsRecord k) e = IsRecordOf (memo_key_as_spec k) e
+    abbrev pub StackEntryStandsFor : StackEntry P → Entry → Type 0
+    StackEntryStandsFor (AsThread s) e = e ≡ one_thread (waiting (machine_state_of offset s))
+    StackEntryStandsFor (AsRun s) e = IsPendingLazyLoop (machine_state_of offset s) e
+    StackEntryStandsFor (AsRecord k) e = IsRecordOf (memo_key_as_spec k) e
 
     -- Stack entries and search entries correspond one to one, in the same order.
     abbrev pub StackStandsFor : List (StackEntry P) → List Entry → Type 0
     StackStandsFor [] [] = Unit {0}
-    StackStandsFor (w ∷ ws) (e ∷ row) = StandsFor w e × StackStandsFor ws row
+    StackStandsFor (w ∷ ws) (e ∷ row) = StackEntryStandsFor w e × StackStandsFor ws row
     StackStandsFor _ _ = ⊥
 
     -- A stack represents a list of search entries, which begins with the top of the stack.
-    abbrev pub IsStackOf : List (StackEntry P) → List Entry → Type 0
-    IsStackOf stack row = StackStandsFor (reverse stack) row
+    abbrev pub IsStackOfEntriesFromTop : List (StackEntry P) → List Entry → Type 0
+    IsStackOfEntriesFromTop stack row = StackStandsFor (reverse stack) row
 
     -- ---- The state of an attempt
 
@@ -175,7 +175,7 @@ module _ {P : Type 0} (offset : P → ℕ) where
       pub row : List Entry
       pub costs : Costs program text c.memo.memo_analysis rightwards b.memory
           (thread_entries (initial_threads program b.at)) work now (front ++ row)
-      pub is : IsStackOf stack row
+      pub is : IsStackOfEntriesFromTop stack row
       pub holds : ListsExactlyKnownKeys (has_failure c.memo) now
       pub spent : work + c.left ≡ b.total
 
@@ -192,16 +192,16 @@ module _ {P : Type 0} (offset : P → ℕ) where
     module _ (b : BoundedAttempt) {front : List Entry} {stack : List (StackEntry P)} {c : MemoAndWorkBudget}
         (h : AttemptHasState b front stack c) where
       -- An event that may happen next, with its cost.
-      abbrev pub MayBeNextEvent : (cost : ℕ) → List Key → List Entry → Type 0
-      MayBeNextEvent cost now row =
+      abbrev pub MayBeNextSearchEvent : (cost : ℕ) → List Key → List Entry → Type 0
+      MayBeNextSearchEvent cost now row =
           IsSearchEvent program text c.memo.memo_analysis rightwards h.now cost (front ++ h.row) now row
 
       -- The next event costs more than the work left. Afterwards, no work is left.
-      pub record WorkIsTooLittle (after : MemoAndWorkBudget) : Type 0 where
+      pub record NextEventExceedsWorkLeft (after : MemoAndWorkBudget) : Type 0 where
         pub cost : ℕ
         pub now : List Key
         pub row : List Entry
-        pub happens : MayBeNextEvent cost now row
+        pub happens : MayBeNextSearchEvent cost now row
         pub over : c.left < cost
         pub none : after.left ≡ 0
 
@@ -210,27 +210,27 @@ module _ {P : Type 0} (offset : P → ℕ) where
           0 where
         pub stands : AttemptHasState b (entry_of_current_thread next) new after
         pub cost : ℕ
-        pub happens : MayBeNextEvent cost stands.now (entry_of_current_thread next ++ stands.row)
-        pub spent : IsTakenFromBudget cost c.left after.left
+        pub happens : MayBeNextSearchEvent cost stands.now (entry_of_current_thread next ++ stands.row)
+        pub spent : LowersBudgetByWork cost c.left after.left
 
       -- When an attempt may be aborted. `Memory`: at any time. `Work`: only if the next event costs
       -- more than the work left.
-      abbrev pub MayStop : AttemptAbortReason → MemoAndWorkBudget → Type 0
-      MayStop Memory after = Unit {0}
-      MayStop Work after = WorkIsTooLittle after
+      abbrev pub MayAbortAttempt : AttemptAbortReason → MemoAndWorkBudget → Type 0
+      MayAbortAttempt Memory after = Unit {0}
+      MayAbortAttempt Work after = NextEventExceedsWorkLeft after
 
       -- The result of a part of an attempt: the attempt continues with the next thread, or is
       -- aborted.
       abbrev pub ContinuesOrStops : Result (Option (State P)) AttemptAbortReason → List (StackEntry P)
           → MemoAndWorkBudget → Type 0
       ContinuesOrStops (Ok next) new after = TakesOneEvent next new after
-      ContinuesOrStops (Err e) new after = MayStop e after
+      ContinuesOrStops (Err e) new after = MayAbortAttempt e after
 
     -- `ContinuesOrStops` for each attempt that was in this state.
-    abbrev pub PartResultFrom : (front : List Entry) (old : List (StackEntry P)) → MemoAndWorkBudget
+    abbrev pub ContinuesOrStopsInEachAttempt : (front : List Entry) (old : List (StackEntry P)) → MemoAndWorkBudget
         → Result (Option (State P)) AttemptAbortReason
         → (new : List (StackEntry P)) → MemoAndWorkBudget → Type 0
-    PartResultFrom front old c r new after = (b : BoundedAttempt) (h : AttemptHasState b front old c)
+    ContinuesOrStopsInEachAttempt front old c r new after = (b : BoundedAttempt) (h : AttemptHasState b front old c)
         → ContinuesOrStops b h r new after
 
     -- The step of the current thread ends the search.
@@ -238,32 +238,32 @@ module _ {P : Type 0} (offset : P → ℕ) where
       pub stack : List (StackEntry P)
       pub from : machine.State
       pub stands : AttemptHasState b (one_thread (running from) ∷ []) stack c
-      pub ends : act program text rightwards from ≡ ends (state_of offset end)
+      pub ends : act program text rightwards from ≡ ends (machine_state_of offset end)
 
     -- The result of a step: the attempt continues, ends, or is aborted.
     abbrev pub StepResultIs : (b : BoundedAttempt) {front : List Entry} {stack : List (StackEntry P)}
         {c : MemoAndWorkBudget} → AttemptHasState b front stack c
         → Result (StepResult P) AttemptAbortReason → List (StackEntry P) → MemoAndWorkBudget → Type 0
-    StepResultIs b h (Ok (On next)) new after = TakesOneEvent b h next new after
+    StepResultIs b h (Ok (ContinueWith next)) new after = TakesOneEvent b h next new after
     StepResultIs b h (Ok (End s)) new after = AttemptEndsAt b s after
-    StepResultIs b h (Err e) new after = MayStop b h e after
+    StepResultIs b h (Err e) new after = MayAbortAttempt b h e after
 
     -- `StepResultIs` for each attempt that was in this state.
-    abbrev pub StepResultFrom : (front : List Entry) (old : List (StackEntry P)) → MemoAndWorkBudget
+    abbrev pub StepResultInEachAttempt : (front : List Entry) (old : List (StackEntry P)) → MemoAndWorkBudget
         → Result (StepResult P) AttemptAbortReason
         → (new : List (StackEntry P)) → MemoAndWorkBudget → Type 0
-    StepResultFrom front old c r new after = (b : BoundedAttempt) (h : AttemptHasState b front old c)
+    StepResultInEachAttempt front old c r new after = (b : BoundedAttempt) (h : AttemptHasState b front old c)
         → StepResultIs b h r new after
 
     -- The attempt was aborted before an event that costs more than the work left. Now no work is
     -- left.
-    pub record StoppedForWork (b : BoundedAttempt) (c : MemoAndWorkBudget) : Type 0 where
+    pub record AbortedBecauseWorkIsSpent (b : BoundedAttempt) (c : MemoAndWorkBudget) : Type 0 where
       pub front : List Entry
       pub stack : List (StackEntry P)
       pub before : MemoAndWorkBudget
       pub stands : AttemptHasState b front stack before
       pub same : c.memo.memo_analysis ≡ before.memo.memo_analysis
-      pub short : WorkIsTooLittle b stands c
+      pub short : NextEventExceedsWorkLeft b stands c
 
     -- The result of an attempt: no entry is left, an end was found, or the attempt was aborted.
     abbrev pub AttemptResultIs : BoundedAttempt → Result (Option (State P)) AttemptAbortReason → MemoAndWorkBudget
@@ -271,38 +271,41 @@ module _ {P : Type 0} (offset : P → ℕ) where
     AttemptResultIs b (Ok None) c = AttemptHasState b [] [] c
     AttemptResultIs b (Ok (Some s)) c = AttemptEndsAt b s c
     AttemptResultIs b (Err Memory) c = Unit {0}
-    AttemptResultIs b (Err Work) c = StoppedForWork b c
+    AttemptResultIs b (Err Work) c = AbortedBecauseWorkIsSpent b c
 
     -- ---- Char loops without a maximum
 
     -- The char loop at a state, and the instruction that reads its characters.
-    pub record IsAtCharLoop (run : UnboundedCharLoop) (greedy : Bool) (s : machine.State) : Type 0 where
-      pub insn : slice_get program.insns s.ip ≡ Some (Loop1CharBody run.least unlimited greedy)
-      pub body : slice_get program.insns (s.ip + 1) ≡ Some (insn_as_spec_insn run.body)
+    pub record IsStateAtUnboundedLoopOverInsn (run : UnboundedCharLoop) (greedy : Bool) (s : machine.State) : Type 0
+      where
+        pub insn : slice_get program.insns s.ip ≡ Some (Loop1CharBody run.least unlimited greedy)
+        pub body : slice_get program.insns (s.ip + 1) ≡ Some (insn_as_spec_insn run.body)
 
     module _ (t : MemoAnalysis) (known : Key → Bool) (test : ℕ → Bool) (place : ℕ) (s : machine.State) (least : ℕ) where
       -- The key of the loop after `n` characters.
-      abbrev pub key_of_place : (n : ℕ) → Key
-      key_of_place n = key_after_chars program text t rightwards test place s n
+      abbrev pub loop_key_after_chars : (n : ℕ) → Key
+      loop_key_after_chars n = key_after_chars program text t rightwards test place s n
 
       -- The exits after at least `least` and fewer than `n` characters are pending, each with its
       -- record.
       pub record ExitsArePending (old new : List (StackEntry P)) (n : ℕ) : Type 0 where
         pub enough : least ≤ n
         pub pass : n ≤ passing text test rightwards place
-        pub unknown : (m : ℕ) → least ≤ m → m < n → known (key_of_place m) ≡ false
-        pub rows : (row : List Entry) → IsStackOf old row
-            → IsStackOf new (exits_with_records program text t rightwards test place s least (n - least) ++ row)
+        pub unknown : (m : ℕ) → least ≤ m → m < n → known (loop_key_after_chars m) ≡ false
+        pub rows : (row : List Entry) → IsStackOfEntriesFromTop old row
+            → IsStackOfEntriesFromTop new (exits_with_records program text t rightwards test place s least
+            (n - least) ++ row)
 
       -- All exits before the furthest one are pending with their records, and the thread at the
       -- furthest exit is current.
       pub record AllExitsArePending (old new : List (StackEntry P)) (here : State P) (n : ℕ) : Type 0 where
         pub enough : least ≤ n
         pub all : n ≡ passing text test rightwards place
-        pub unknown : (m : ℕ) → least ≤ m → m < n + 1 → known (key_of_place m) ≡ false
-        pub is_here : state_of offset here ≡ behind text rightwards place s n
-        pub rows : (row : List Entry) → IsStackOf old row
-            → IsStackOf new (key_record (key_of_place n) (threads_after_chars program text t rightwards test place s n)
+        pub unknown : (m : ℕ) → least ≤ m → m < n + 1 → known (loop_key_after_chars m) ≡ false
+        pub is_here : machine_state_of offset here ≡ behind text rightwards place s n
+        pub rows : (row : List Entry) → IsStackOfEntriesFromTop old row
+            → IsStackOfEntriesFromTop new (key_record (loop_key_after_chars n)
+            (threads_after_chars program text t rightwards test place s n)
             ∷ exits_with_records program text t rightwards test place s least (n - least) ++ row)
 
       -- How a scan ends. Without a thread, it stopped after `n` characters, because the loop is
@@ -310,13 +313,13 @@ module _ {P : Type 0} (offset : P → ℕ) where
       -- scanned to its end.
       abbrev pub ScansWithMemo : (left : ℕ) (old new : List (StackEntry P)) → Option (State P) × ℕ → Type 0
       ScansWithMemo left old new (None, n) = ExitsArePending old new n
-          × ((known (key_of_place n) ≡ true) ⊎ (left < n + 2))
+          × ((known (loop_key_after_chars n) ≡ true) ⊎ (left < n + 2))
       ScansWithMemo left old new (Some here, n) = AllExitsArePending old new here n
 
   -- ---- Characters read
 
   -- The position is `count` characters after a place, and all of these characters pass the test.
-  pub record IsAfterChars (text : Text) (test : ℕ → Bool) (place count : ℕ) (pos : P) : Type 0 where
+  pub record IsPositionAfterCharsOfClass (text : Text) (test : ℕ → Bool) (place count : ℕ) (pos : P) : Type 0 where
     pub at : offset pos ≡ text_offset text (moved text rightwards count place)
     pub within : moved text rightwards count place ≤ last_place text
     pub sum : passing text test rightwards place ≡ count + passing text test rightwards
@@ -324,43 +327,44 @@ module _ {P : Type 0} (offset : P → ℕ) where
 
   -- `count` characters, at most `least`, pass the test. If there are fewer than `least`, the next
   -- one does not pass.
-  pub record HasPassedOver (text : Text) (test : ℕ → Bool) (least place count : ℕ) (pos : P) : Type 0 where
+  pub record HasPassedRequiredChars (text : Text) (test : ℕ → Bool) (least place count : ℕ) (pos : P) : Type 0 where
     pub few : count ≤ least
-    pub past : IsAfterChars text test place count pos
+    pub past : IsPositionAfterCharsOfClass text test place count pos
     pub all : count < least → passing text test rightwards (moved text rightwards count place) ≡ 0
 
   -- The pending entry of a lazy loop that continues after the next character.
-  pub record LaterExitsPend (text : Text) (place : ℕ) (s : State P) (old new : List (StackEntry P)) : Type 0 where
-    pub next : State P
-    pub is : state_of offset next ≡ record (state_of offset s) {
-      pos =
-          text_offset text (moved text rightwards 1 place);
-    }
-    pub waits : new ≡ old ++ AsRun next ∷ []
+  pub record LaterLazyExitsArePending (text : Text) (place : ℕ) (s : State P) (old new : List (StackEntry P)) : Type 0
+    where
+      pub next : State P
+      pub is : machine_state_of offset next ≡ record (machine_state_of offset s) {
+        pos =
+            text_offset text (moved text rightwards 1 place);
+      }
+      pub waits : new ≡ old ++ AsRun next ∷ []
 
   -- The thread at the nearest exit of a lazy loop. If there are further exits, they are pending.
   pub record TakesNearestExit (text : Text) (test : ℕ → Bool) (place : ℕ) (at : P) (s here : State P)
       (old new : List (StackEntry P)) : Type 0 where
-    pub is_here : state_of offset here ≡ state_after_char_loop_to_offset (offset at) (state_of offset s)
+    pub is_here : machine_state_of offset here ≡ state_after_char_loop_to_offset (offset at) (machine_state_of offset s)
     pub alone : passing text test rightwards place ≡ 0 → new ≡ old
-    pub others : 1 ≤ passing text test rightwards place → LaterExitsPend text place s old new
+    pub others : 1 ≤ passing text test rightwards place → LaterLazyExitsArePending text place s old new
 
   -- The last state becomes current, and the others are pushed.
-  pub record TakesLast (states : List (State P)) (old : List (StackEntry P)) (s : State P)
+  pub record TakesLastState (states : List (State P)) (old : List (StackEntry P)) (s : State P)
       (new : List (StackEntry P)) : Type 0 where
     pub others : List (State P)
     pub is : states ≡ others ++ s ∷ []
     pub wait : new ≡ old ++ map (λ o. AsThread o) others
 
   -- The preferred state becomes current if there is one, and the others are pushed.
-  abbrev pub HasTaken : (states : List (State P)) (old : List (StackEntry P)) → Option (State P)
+  abbrev pub TakesPreferredState : (states : List (State P)) (old : List (StackEntry P)) → Option (State P)
       → (new : List (StackEntry P)) → Type 0
-  HasTaken states old None new = (states ≡ []) × (new ≡ old)
-  HasTaken states old (Some s) new = TakesLast states old s new
+  TakesPreferredState states old None new = (states ≡ []) × (new ≡ old)
+  TakesPreferredState states old (Some s) new = TakesLastState states old s new
 
   -- The preferred thread becomes current, and the others are pushed.
   pub record TakesPreferredThread (ts : List Thread) (old : List (StackEntry P)) (next : Option (State P))
       (new : List (StackEntry P)) : Type 0 where
     pub states : List (State P)
     pub are : ts ≡ first_running_and_others_waiting (states_by_priority offset states)
-    pub taken : HasTaken states old next new
+    pub taken : TakesPreferredState states old next new

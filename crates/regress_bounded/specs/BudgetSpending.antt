@@ -2,8 +2,8 @@
 use Rattle.std.specs.Prelude.{◌≡◌, ◌<◌, ◌⊎◌, ℕ, ◌+◌}
 
 -- The budget is lowered by `work`.
-abbrev pub IsTakenFromBudget : (work old new : ℕ) → Type 0
-IsTakenFromBudget work old new = old ≡ work + new
+abbrev pub LowersBudgetByWork : (work old new : ℕ) → Type 0
+LowersBudgetByWork work old new = old ≡ work + new
 
 -- The budget is less than `work`, so it is lowered to 0.
 abbrev pub WorkExceedsBudget : (work old new : ℕ) → Type 0

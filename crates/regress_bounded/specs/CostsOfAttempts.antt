@@ -24,8 +24,8 @@ abbrev pub failures_of : MemoView → Failures
 failures_of m ip at code = has_failure m (record { ip = ip; at = at; code = code })
 
 -- The list contains exactly the keys that are known to fail.
-abbrev pub ListsFailures : Failures → List Key → Type 0
-ListsFailures failures memory = ListsExactlyKnownKeys (λ k. failures k.ip k.at k.code) memory
+abbrev pub IsListOfFailures : Failures → List Key → Type 0
+IsListOfFailures failures memory = ListsExactlyKnownKeys (λ k. failures k.ip k.at k.code) memory
 
 -- A search is over if no entry is left, or if the operation of the current thread ends it.
 pub data HasFinished (program : Program) (text : Text) : List Entry → Type 0 where
@@ -41,12 +41,12 @@ pub record EventsOfAttempt (tree : Tree) (text : Text) (before : Failures) (at c
   pub memo_analysis : MemoAnalysis
   pub is_analysis : IsAnalysisOf (compiled tree) memo_analysis
   pub memory : List Key
-  pub lists : ListsFailures before memory
+  pub lists : IsListOfFailures before memory
   pub now : List Key
   pub row : List Entry
   pub costs : Costs (compiled tree) text memo_analysis rightwards memory
       (thread_entries (initial_threads (compiled tree) at)) cost now row
-  pub over : IfSome after (λ failures. HasFinished (compiled tree) text row × ListsFailures failures now)
+  pub over : IfSome after (λ failures. HasFinished (compiled tree) text row × IsListOfFailures failures now)
 
 -- The attempt, or a first part of it, has this cost (as a proposition).
 abbrev pub AttemptCosts : (tree : Tree) (text : Text) (before : Failures) (at cost : ℕ) (after : Option Failures)
@@ -59,15 +59,16 @@ NoFailuresAreKnown failures = (ip at code : ℕ) → failures ip at code ≡ fal
 
 -- What determines the cost of an iterator's first call: it searches this text with the tree's
 -- program from `start`, and no failure is known.
-pub record BeginsSearches (tree : Tree) (text : Text) (start : ℕ) (its_tree : Tree) (its_text : Text)
+pub record BeginsSearchesForTreeInText (tree : Tree) (text : Text) (start : ℕ) (its_tree : Tree) (its_text : Text)
     (its_failures : Failures) (its_position : Option ℕ) : Type 0 where
   pub of_tree : its_tree ≡ tree
   pub of_text : its_text ≡ text
   pub fresh : NoFailuresAreKnown its_failures
   pub position : its_position ≡ offset_within text start
 
--- `BeginsSearches` for an iterator, stated by the ghost state of its producer.
+-- `BeginsSearchesForTreeInText` for an iterator, stated by the ghost state of its producer.
 abbrev pub IteratorBeginsSearches : {E Q : Type 0} (e : Ghosts E Q) (tree : Tree) (text : Text) (start : ℕ)
     → WorkMatchesView E → Type 0
 IteratorBeginsSearches e tree text start it =
-    BeginsSearches tree text start (e.tree it.producer) (e.text it.producer) (e.failures it.producer) it.position
+    BeginsSearchesForTreeInText tree text start (e.tree it.producer) (e.text it.producer) (e.failures it.producer)
+    it.position

@@ -17,42 +17,42 @@ use Rattle.regress_memo.specs.declared.analysis_result.MemoAnalysis.{MemoAnalysi
 use Rattle.regress_memo.specs.AnalysisChecks.{unlimited}
 use Rattle.regress_memo.specs.Laws.{KeyFails}
 use Rattle.regress_memo.specs.MemoContents.{memo_key_at}
-use Rattle.regress_bounded.specs.WorkOfCharLoopsAndAttempts.{IsUnboundedCharLoop, key_after_chars, threads_after_chars, exits_with_records}
+use Rattle.regress_bounded.specs.WorkOfCharLoopsAndAttempts.{StateIsAtUnboundedCharLoop, key_after_chars, threads_after_chars, exits_with_records}
 
 -- ---- Steps of the machine
 
 -- The number of characters that a step tests.
-abbrev pub chars_tried : Next → ℕ
-chars_tried (scans tries ts) = tries
-chars_tried _ = 0
+abbrev pub tested_char_count_of_step : Next → ℕ
+tested_char_count_of_step (scans tries ts) = tries
+tested_char_count_of_step _ = 0
 
 -- The work of a step: 1, plus 1 for each character that it tests.
-abbrev pub work_of : Next → ℕ
-work_of step = chars_tried step + 1
+abbrev pub work_of_machine_step : Next → ℕ
+work_of_machine_step step = tested_char_count_of_step step + 1
 
 -- The threads that a step leaves.
-abbrev pub threads_left : Next → List Thread
-threads_left (goes ts) = ts
-threads_left (scans tries ts) = ts
-threads_left _ = []
+abbrev pub threads_after_step : Next → List Thread
+threads_after_step (goes ts) = ts
+threads_after_step (scans tries ts) = ts
+threads_after_step _ = []
 
 -- The step leaves threads: it neither ends the search nor starts another one.
-abbrev pub LeavesThreads : Next → Type 0
-LeavesThreads (goes ts) = Unit {0}
-LeavesThreads (scans tries ts) = Unit {0}
-LeavesThreads _ = ⊥
+abbrev pub StepLeavesOnlyThreads : Next → Type 0
+StepLeavesOnlyThreads (goes ts) = Unit {0}
+StepLeavesOnlyThreads (scans tries ts) = Unit {0}
+StepLeavesOnlyThreads _ = ⊥
 
 -- ---- Events
 
 -- The entries `row` with a record of the state on top. If the state has no key, only `row`.
-abbrev pub with_record_of : State → Option Key → List Entry → List Entry
-with_record_of s None row = row
-with_record_of s (Some k) row = key_record k (running s ∷ []) ∷ row
+abbrev pub entries_with_record_of_state : State → Option Key → List Entry → List Entry
+entries_with_record_of_state s None row = row
+entries_with_record_of_state s (Some k) row = key_record k (running s ∷ []) ∷ row
 
 -- The key is not in the memory. Holds if there is no key.
-abbrev pub IsNewIfAny : Option Key → List Key → Type 0
-IsNewIfAny None memory = Unit {0}
-IsNewIfAny (Some k) memory = IsNew k memory
+abbrev pub IsKeyNewIfAny : Option Key → List Key → Type 0
+IsKeyNewIfAny None memory = Unit {0}
+IsKeyNewIfAny (Some k) memory = IsNew k memory
 
 -- The threads `ts` wait together above the entries `row`. If there are none, there is no entry for
 -- them.
@@ -74,25 +74,26 @@ module _ (program : Program) (text : Text) (t : MemoAnalysis) (d : Direction) wh
         → IsSearchEvent memory 1 (one_thread (running s) ∷ rest) memory rest
     -- A thread executes an operation.
     turns : (s : State) (ts : List Thread) (key : Option Key) (rest : List Entry) → act program text d s ≡ goes ts
-        → memo_key_at t s ≡ key → IsNewIfAny key memory
-        → IsSearchEvent memory 1 (one_thread (running s) ∷ rest) memory (thread_entries ts ++ with_record_of s key rest)
+        → memo_key_at t s ≡ key → IsKeyNewIfAny key memory
+        → IsSearchEvent memory 1 (one_thread (running s) ∷ rest) memory
+        (thread_entries ts ++ entries_with_record_of_state s key rest)
     -- A thread executes a char loop with a maximum, which tests `n` characters.
     tries_chars : (s : State) (least most : ℕ) (greedy : Bool) (n : ℕ) (ts : List Thread) (key : Option Key)
         (rest : List Entry) → slice_get program.insns s.ip ≡ Some (Loop1CharBody least most greedy)
         → (most == unlimited) ≡ false
-        → act program text d s ≡ scans n ts → memo_key_at t s ≡ key → IsNewIfAny key memory
+        → act program text d s ≡ scans n ts → memo_key_at t s ≡ key → IsKeyNewIfAny key memory
         → IsSearchEvent memory (n + 1) (one_thread (running s) ∷ rest) memory
-        (thread_entries ts ++ with_record_of s key rest)
+        (thread_entries ts ++ entries_with_record_of_state s key rest)
     -- A thread executes a char loop without a maximum, which accepts fewer characters than it
     -- requires.
     too_few : (s : State) (test : ℕ → Bool) (least place : ℕ) (greedy : Bool) (rest : List Entry)
-        → IsUnboundedCharLoop program s test least greedy → place_at text s.pos ≡ Some place
+        → StateIsAtUnboundedCharLoop program s test least greedy → place_at text s.pos ≡ Some place
         → passing text test d place < least
         → IsSearchEvent memory (passing text test d place + 2) (one_thread (running s) ∷ rest) memory rest
     -- A greedy loop is known to fail from its exit after `n` characters. The cost is the same as if
     -- the next character were tested.
     fails_from : (s : State) (test : ℕ → Bool) (least place n : ℕ) (rest : List Entry)
-        → IsUnboundedCharLoop program s test least true → place_at text s.pos ≡ Some place
+        → StateIsAtUnboundedCharLoop program s test least true → place_at text s.pos ≡ Some place
         → least ≤ n → n ≤ passing text test d place
         → ((m : ℕ) → least ≤ m → m < n → IsNew (key_after_chars program text t d test place s m) memory)
         → IsKnownToFail (key_after_chars program text t d test place s n) memory
@@ -101,7 +102,7 @@ module _ (program : Program) (text : Text) (t : MemoAnalysis) (d : Direction) wh
     -- A greedy loop continues at its furthest exit. `n` characters are accepted, and one more is
     -- tested.
     takes_furthest : (s : State) (test : ℕ → Bool) (least place n : ℕ) (rest : List Entry)
-        → IsUnboundedCharLoop program s test least true → place_at text s.pos ≡ Some place
+        → StateIsAtUnboundedCharLoop program s test least true → place_at text s.pos ≡ Some place
         → n ≡ passing text test d place → least ≤ n
         → ((m : ℕ) → least ≤ m → m < n + 1 → IsNew (key_after_chars program text t d test place s m) memory)
         → IsSearchEvent memory (n + 2) (one_thread (running s) ∷ rest) memory
@@ -111,19 +112,19 @@ module _ (program : Program) (text : Text) (t : MemoAnalysis) (d : Direction) wh
         ∷ exits_with_records program text t d test place s least (n - least) ++ rest)
     -- A lazy loop continues at its nearest exit, and tests one more character.
     takes_nearest : (s : State) (test : ℕ → Bool) (least place : ℕ) (rest row : List Entry)
-        → IsUnboundedCharLoop program s test least false → place_at text s.pos ≡ Some place
+        → StateIsAtUnboundedCharLoop program s test least false → place_at text s.pos ≡ Some place
         → least ≤ passing text test d place
         → ThreadsPendAbove (pending_loop_threads text test d (least + 1) place s) rest row
         → IsSearchEvent memory (least + 2) (one_thread (running s) ∷ rest) memory
         (one_thread (running (behind text d place s least)) ∷ row)
     -- A waiting lazy loop is dropped, because it is known to fail from its position.
     drops_loop : (s : State) (test : ℕ → Bool) (least place : ℕ) (rest : List Entry)
-        → IsUnboundedCharLoop program s test least false → place_at text s.pos ≡ Some place
+        → StateIsAtUnboundedCharLoop program s test least false → place_at text s.pos ≡ Some place
         → IsKnownToFail (key_after_chars program text t d test place s 0) memory
         → IsSearchEvent memory 1 (thread_group (pending_loop_threads text test d 0 place s) ∷ rest) memory rest
     -- A waiting lazy loop continues at its next exit, and tests one more character.
     resumes_loop : (s : State) (test : ℕ → Bool) (least place : ℕ) (rest row : List Entry)
-        → IsUnboundedCharLoop program s test least false → place_at text s.pos ≡ Some place
+        → StateIsAtUnboundedCharLoop program s test least false → place_at text s.pos ≡ Some place
         → IsNew (key_after_chars program text t d test place s 0) memory
         → ThreadsPendAbove (pending_loop_threads text test d 1 place s)
         (key_record (key_after_chars program text t d test place s 0)

@@ -26,13 +26,13 @@ work_per_unit t = 1 + (work_per_position t + work_per_position t / 3)
 
 -- The size of an instruction. That of a char loop is 1 plus its maximum, or 1 plus its minimum if
 -- it has no maximum. That of other instructions is 1.
-abbrev pub size_of_insn : Insn → ℕ
-size_of_insn (Loop1CharBody least most greedy) = 1 + (if most == unlimited then least else most)
-size_of_insn _ = 1
+abbrev pub work_size_of_insn : Insn → ℕ
+work_size_of_insn (Loop1CharBody least most greedy) = 1 + (if most == unlimited then least else most)
+work_size_of_insn _ = 1
 
 -- The size of a program.
 abbrev pub program_size : Program → ℕ
-program_size program = sum_by size_of_insn program.insns
+program_size program = sum_by work_size_of_insn program.insns
 
 -- The largest number of codes at an instruction.
 abbrev pub most_memo_codes_per_insn : MemoAnalysis → ℕ
@@ -68,7 +68,7 @@ pub record ExecutorIsAtStart (tree : Tree) (text : Text) (per_unit work : ℕ)
   pub of_tree : its_tree ≡ tree
   pub of_text : its_text ≡ text
   pub unlimited : budget ≡ None
-  pub is_enough : enough ≡ is_work_enough_for_text per_unit text work
+  pub is_work_enough_for_places : enough ≡ is_work_enough_for_text per_unit text work
   pub first : ahead ≡ 0
   pub has_left : left ≡ work
   pub fresh : NoFailuresAreKnown failures

@@ -21,7 +21,8 @@ use Rattle.regress_memo.specs.AmortizedMemoSearchSteps.{ReachesEntries}
 -- ---- Char loops
 
 -- A state at a char loop without a maximum, whose body tests characters with `test`.
-pub record IsUnboundedCharLoop (program : Program) (s : State) (test : ℕ → Bool) (least : ℕ) (greedy : Bool) : Type 0
+pub record StateIsAtUnboundedCharLoop (program : Program) (s : State) (test : ℕ → Bool) (least : ℕ)
+    (greedy : Bool) : Type 0
   where
     pub run : slice_get program.insns s.ip ≡ Some (Loop1CharBody least unlimited greedy)
     pub body : test_of program (slice_get program.insns (s.ip + 1)) ≡ Some test
@@ -66,7 +67,7 @@ module _ (program : Program) (text : Text) (t : MemoAnalysis) where
     pub is : IsMemory program text (analysis_as_liveness t) (analysis_keys program text t) memory
 
   -- Such attempts whose memory is the list of known keys.
-  pub record IsWalked (known : Key → Bool) (ahead done : ℕ) : Type 0 where
+  pub record AttemptsHaveKnownKeys (known : Key → Bool) (ahead done : ℕ) : Type 0 where
     pub memory : List Key
     pub has : HasMadeAttempts ahead done memory
     pub holds : ListsExactlyKnownKeys known memory

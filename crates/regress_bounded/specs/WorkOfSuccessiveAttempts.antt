@@ -7,16 +7,16 @@ use Rattle.regex_meaning.specs.CompilationRelation.{Program}
 use Rattle.regress_memo.specs.MemoContents.{has_failure}
 use Rattle.regress_bounded.specs.declared.memo_and_work_budget.MemoAndWorkBudget.{MemoAndWorkBudget}
 use Rattle.regress_bounded.specs.WorkBoundForAllMatches.{work_per_unit}
-use Rattle.regress_bounded.specs.WorkOfCharLoopsAndAttempts.{IsWalked}
+use Rattle.regress_bounded.specs.WorkOfCharLoopsAndAttempts.{AttemptsHaveKnownKeys}
 
 module _ (program : Program) (text : Text) (c : MemoAndWorkBudget) (ahead : ℕ) where
   -- No attempt was made at `ahead` or later. The work done and the work left together suffice for
   -- all attempts.
   pub record Walked : Type 0 where
     pub done : ℕ
-    pub walked : IsWalked program text c.memo.memo_analysis (has_failure c.memo) ahead done
+    pub walked : AttemptsHaveKnownKeys program text c.memo.memo_analysis (has_failure c.memo) ahead done
     pub enough : work_per_unit c.memo.memo_analysis * (units text + 1) ≤ done + c.left
 
   -- `Walked` as a proposition.
-  abbrev pub HasWalked : Type 0
-  HasWalked = ∥ Walked ∥₁
+  abbrev pub AttemptsLeaveEnoughWork : Type 0
+  AttemptsLeaveEnoughWork = ∥ Walked ∥₁

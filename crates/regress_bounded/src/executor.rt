@@ -9,17 +9,19 @@ ghost use Rattle.regress_search.specs.{AttemptsAndStarts.{match_end_and_groups_a
 ghost use Rattle.regress_search.specs.CostsOfCalls.{without_costs};
 ghost use Rattle.regress_search.specs.declared.exec.SearchError.TheVariants.{Memory};
 ghost use Rattle.regress_program.specs.CompilationOfTreesAsFunction.{compiled};
-ghost use Rattle.regress_pikevm.specs.{InsnEffects.{end_and_groups}, States.{groups_of}};
+ghost use Rattle.regress_pikevm.specs.{InsnEffects.{end_and_groups}, States.{groups_as_offset_ranges}};
 ghost use Rattle.regress_bounded.specs.WorkBoundForAllMatches.{TreeHasWorkBound, HasMadeNoAttempt};
 ghost use Rattle.regress_bounded.specs.WorkBoundForAllMatches.{YieldsMatchesIfWorkSuffices, is_work_enough_for_text};
 ghost use Rattle.regress_bounded.specs.BoundedState.{BoundedAttempt, BoundedAttemptBegins, IsMemoRightForRegex, AttemptHasState};
 ghost use Rattle.regress_bounded.specs.BoundedState.{HasAttemptState, AttemptResultIs, entry_of_current_thread};
-ghost use Rattle.regress_bounded.specs.WorkOfSuccessiveAttempts.{HasWalked};
+ghost use Rattle.regress_bounded.specs.WorkOfSuccessiveAttempts.{AttemptsLeaveEnoughWork};
 ghost use Rattle.regress_bounded.specs.CostsOfAttempts.{NoFailuresAreKnown, AttemptCosts, IteratorBeginsSearches, failures_of};
 
 use crate::memo_and_work_budget::{AttemptAbortReason, MemoAndWorkBudget};
 use crate::pending_stack::StackEntry;
-use crate::thread_steps_and_backtracking::{StepResult, execute_thread_step, resume_or_record};
+use crate::thread_steps_and_backtracking::{
+    StepResult, backtrack_to_pending_entry, execute_thread_step,
+};
 use crate::work_bound::WorkBound;
 use regress_input::indexing::{AsciiInput, InputIndexer, Ucs2Input, Utf8Input, Utf16Input};
 use regress_input::position::PositionType;
@@ -27,7 +29,7 @@ use regress_pikevm::pikevm::states::{State, initial_state};
 use regress_program::insn::{CompiledRegex, CompiledRegexFor16BitUnits, Program};
 use regress_search::exec::{MatchProducer, SearchError, WorkLimitedProducer, WorkMatches};
 use regress_search::program_and_input::ProgramAndInput;
-use regress_search::search_loop::{SingleAttemptExecutor, group_at};
+use regress_search::search_loop::{SingleAttemptExecutor, position_range_of_group};
 
 /// Searches a text with a program that has a work bound. A limited amount of work is shared by all
 /// matches.
@@ -56,7 +58,7 @@ pub struct BoundedExecutor<'r, Input: InputIndexer> {
     ghost right: { IsMemoRightForRegex searched.program.now (Input.text searched.input)
         progress.memo } by { Prim.hlevel props },
     ghost walked: { enough ≡ true
-        → HasWalked (compiled (tree_of searched.program.now)) (Input.text searched.input) progress
+        → AttemptsLeaveEnoughWork (compiled (tree_of searched.program.now)) (Input.text searched.input) progress
         ahead } by { Prim.hlevel props },
     ghost spent: { out ≡ true → progress.left ≡ 0 } by { Prim.hlevel props },
 }
@@ -86,11 +88,13 @@ fn run<Input: InputIndexer>(
     'search: loop {
         next = match next {
             Some(state) => match execute_thread_step(searched, insns, state, stack, progress)? {
-                StepResult::On(next) => next,
+                StepResult::ContinueWith(next) => next,
                 StepResult::End(end) => return Ok(Some(end)),
             },
             None => match stack.pop() {
-                Some(waiting) => resume_or_record(searched, insns, waiting, stack, progress)?,
+                Some(waiting) => backtrack_to_pending_entry(
+                    searched, insns, waiting, stack, progress,
+                )?,
                 None => return Ok(None),
             },
         };
@@ -99,6 +103,9 @@ fn run<Input: InputIndexer>(
 
 // Returns the end state of the preferred match that begins at a position, within the budget.
 // Returns `None` if there is none.
+// Contract: `found` says which end and groups are returned, and `runs` says what the attempt did
+// with the budget and the memo table. `sound` and `memo_analysis` say that the table stays right
+// and keeps its analysis. `left` says that the work that is left does not grow.
 fn preferred_final_state<Input: InputIndexer>(
     searched: &ProgramAndInput<'_, Input>,
     stack: &mut Vec<StackEntry<Input::Position>>,
@@ -131,7 +138,7 @@ impl<'r, Input: InputIndexer> SingleAttemptExecutor for BoundedExecutor<'r, Inpu
 
     ghost is_text = { λ e. Input.is_text e.searched.input };
 
-    ghost groups = { λ e. groups_of Input.Position.offset e.groups.items };
+    ghost groups = { λ e. groups_as_offset_ranges Input.Position.offset e.groups.items };
 
     ghost enough = { λ e. e.enough };
 
@@ -183,7 +190,7 @@ impl<'r, Input: InputIndexer> SingleAttemptExecutor for BoundedExecutor<'r, Inpu
     }
 
     fn group(&self, id: usize) -> Option<(Input::Position, Input::Position)> {
-        group_at(&self.groups, id)
+        position_range_of_group(&self.groups, id)
     }
 
     fn first_start_to_try_from(&self, pos: Input::Position) -> Option<Input::Position> {
@@ -217,6 +224,9 @@ impl<'r, Input: InputIndexer> WorkLimitedProducer for BoundedExecutor<'r, Input>
 
 impl<'r, Input: InputIndexer> BoundedExecutor<'r, Input> {
     // Creates an executor that has made no attempt.
+    // Contract: `bound` is a work bound of the program's tree, and `refused` says that an error is
+    // an allocation failure. The other clauses say what the executor has: this text, this work,
+    // whether it suffices for all matches, attempts from offset 0 on, and no known failures.
     fn over(
         searched: ProgramAndInput<'r, Input>,
         bound: &WorkBound,
@@ -236,7 +246,7 @@ impl<'r, Input: InputIndexer> BoundedExecutor<'r, Input> {
         let Some(memo) = bound.empty_memo_table(alloc, places)? else {
             return Err(SearchError::Memory);
         };
-        let enough = is_enough(bound.per_unit(), places, work);
+        let enough = is_work_enough_for_places(bound.per_unit(), places, work);
         Ok(BoundedExecutor {
             searched,
             stack: Vec::new(alloc),
@@ -250,7 +260,7 @@ impl<'r, Input: InputIndexer> BoundedExecutor<'r, Input> {
 }
 
 // Checks whether `work` suffices for a text with this number of positions.
-fn is_enough(per_unit: u64, places: usize, work: u64) -> bool
+fn is_work_enough_for_places(per_unit: u64, places: usize, work: u64) -> bool
     ensures { result ≡ nat_le (per_unit * places) work }
 {
     match per_unit.checked_mul(places as u64) {
@@ -263,6 +273,11 @@ impl<'r, 't> BoundedExecutor<'r, Ucs2Input<'t>> {
     /// Returns an iterator over the matches of the program `re` in a UCS-2 text, from offset
     /// `start` (in code units) on. All matches together take at most `work` units of work. `start`
     /// is a boundary or past the end.
+    ///
+    /// The clause `yields` says that the iterator yields the list of matches, and when the work
+    /// suffices for all of it. The clause `begins` says what determines the cost of its first call.
+    /// The other clauses say whether it has ended at once, what an error means, and what the
+    /// arguments have to be.
     ///
     /// # Errors
     ///
@@ -310,6 +325,11 @@ impl<'r, 't> BoundedExecutor<'r, Utf8Input<'t>> {
     /// `start` (in code units) on. All matches together take at most `work` units of work. `start`
     /// is a boundary or past the end.
     ///
+    /// The clause `yields` says that the iterator yields the list of matches, and when the work
+    /// suffices for all of it. The clause `begins` says what determines the cost of its first call.
+    /// The other clauses say whether it has ended at once, what an error means, and what the
+    /// arguments have to be.
+    ///
     /// # Errors
     ///
     /// Returns `Memory` if the memo table cannot be allocated.
@@ -355,6 +375,11 @@ impl<'r, 't> BoundedExecutor<'r, AsciiInput<'t>> {
     /// Returns an iterator over the matches of the program `re` in an ASCII text (`is_ascii`), from
     /// offset `start` (in code units) on. All matches together take at most `work` units of work.
     /// `start` is a boundary or past the end.
+    ///
+    /// The clause `yields` says that the iterator yields the list of matches, and when the work
+    /// suffices for all of it. The clause `begins` says what determines the cost of its first call.
+    /// The other clauses say whether it has ended at once, what an error means, and what the
+    /// arguments have to be.
     ///
     /// # Errors
     ///
@@ -403,6 +428,11 @@ impl<'r, 't> BoundedExecutor<'r, Utf16Input<'t>> {
     /// Returns an iterator over the matches of the program `re` in a UTF-16 text, from offset
     /// `start` (in code units) on. All matches together take at most `work` units of work. `start`
     /// is a boundary or past the end.
+    ///
+    /// The clause `yields` says that the iterator yields the list of matches, and when the work
+    /// suffices for all of it. The clause `begins` says what determines the cost of its first call.
+    /// The other clauses say whether it has ended at once, what an error means, and what the
+    /// arguments have to be.
     ///
     /// # Errors
     ///

@@ -3,9 +3,9 @@
 ghost use Rattle.std.specs.Prelude.{◌≡◌, ◌<◌, ◌≤◌, ◌-◌, min, OnOk, IfErr, IfSome, option_map};
 ghost use Rattle.regress_memo.specs.CheckedAnalysis.{IsRecordableMemoKey};
 ghost use Rattle.regress_memo.specs.MemoContents.{memo_key_as_spec, memo_key_at as key_of_state};
-ghost use Rattle.regress_pikevm.specs.States.{state_of};
+ghost use Rattle.regress_pikevm.specs.States.{machine_state_of};
 ghost use Rattle.regress_bounded.specs.declared.memo_and_work_budget.AttemptAbortReason.TheVariants.{Memory, Work};
-ghost use Rattle.regress_bounded.specs.BudgetSpending.{IsTakenFromBudget, WorkExceedsBudget};
+ghost use Rattle.regress_bounded.specs.BudgetSpending.{LowersBudgetByWork, WorkExceedsBudget};
 
 use crate::pending_stack::ThreadLoopStates;
 use regress_input::position::PositionType;
@@ -43,7 +43,7 @@ impl MemoAndWorkBudget {
     pub(crate) fn spend(&mut self, work: u64) -> Result<(), AttemptAbortReason>
         ensures memo { self.new.memo ≡ self.old.memo }
         ensures left { self.new.left ≤ self.old.left }
-        ensures spent { OnOk result (IsTakenFromBudget work self.old.left self.new.left) }
+        ensures spent { OnOk result (LowersBudgetByWork work self.old.left self.new.left) }
         ensures over { IfErr result (λ e. (e ≡ Work) × WorkExceedsBudget work self.old.left self.new.left) }
     {
         if self.left < work {
@@ -73,7 +73,7 @@ impl MemoAndWorkBudget {
         state: &State<P>,
     ) -> Option<ThreadMemoKey>
         ensures key { option_map memo_key_as_spec result ≡ key_of_state self.now.memo.memo_analysis
-            (record (state_of P.offset state.now) { ip = ip; pos = P.offset at }) }
+            (record (machine_state_of P.offset state.now) { ip = ip; pos = P.offset at }) }
         ensures bit { P.offset at < self.now.memo.places
             → IfSome result (λ key. IsRecordableMemoKey self.now.memo.memo_analysis self.now.memo.places
             (memo_key_as_spec key)) }

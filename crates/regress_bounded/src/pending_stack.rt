@@ -1,7 +1,7 @@
 //! The stack of pending entries below the current thread: threads, lazy loops, and records.
 
 ghost use Rattle.std.specs.Prelude.{◌≡◌, ◌++◌, ◌∷◌, [], map, OnOk};
-ghost use Rattle.regress_pikevm.specs.States.{loop_of};
+ghost use Rattle.regress_pikevm.specs.States.{loop_data_in_offsets};
 
 use regress_input::front::LoopID;
 use regress_input::position::PositionType;
@@ -16,7 +16,7 @@ use std::alloc::AllocError;
 pub(crate) enum StackEntry<P> {
     Thread(State<P>),
     /// A lazy char loop without a maximum, at the position where it continues.
-    Run(State<P>),
+    PendingLazyLoop(State<P>),
     /// The record of a key. When it is popped, all entries that were above it have failed.
     Record(ThreadMemoKey),
 }
@@ -48,7 +48,7 @@ pub(crate) struct ThreadLoopStates<'s, P> {
 }
 
 impl<P: PositionType> IterationStatesOfAllLoops for ThreadLoopStates<'_, P> {
-    ghost rounds = { λ l. map (loop_of P.offset) l.state.now.loops.items };
+    ghost rounds = { λ l. map (loop_data_in_offsets P.offset) l.state.now.loops.items };
 
     fn iteration_state_of_loop(&self, id: LoopID) -> Option<LoopCountAndIterationStart> {
         match self.state.loops.get(usize::from(id)) {

@@ -8,13 +8,13 @@ ghost use Rattle.regress_machine.specs.{InsnEffects.{IsNotStuck}, Machine.{act, 
 ghost use Rattle.regress_memo.specs.MemoContents.{memo_key_as_spec, has_failure};
 ghost use Rattle.regress_program.specs.{CompilationOfTreesAsFunction.{compiled}, InsnsAsSpec.{insn_as_spec_insn}};
 ghost use Rattle.regress_memo.specs.CheckedAnalysis.{IsRecordableMemoKey};
-ghost use Rattle.regress_bounded.specs.CostsOfSearchEvents.{LeavesThreads, threads_left, work_of};
+ghost use Rattle.regress_bounded.specs.CostsOfSearchEvents.{StepLeavesOnlyThreads, threads_after_step, work_of_machine_step};
 ghost use Rattle.regress_bounded.specs.BoundedState.{IsMemoRightForRegex, IsUnfailedStateKeyIfAny, char_loop_max, is_goal_insn};
 ghost use Rattle.regress_bounded.specs.BoundedState.{IsNotUnboundedCharLoop, is_known_key, min_and_greed_of_loop};
-ghost use Rattle.regress_bounded.specs.BoundedState.{HasAttemptState, PartResultFrom, StepResultFrom, HasTaken, TakesPreferredThread, stack_with_record};
-ghost use Rattle.regress_bounded.specs.BudgetSpending.{IsTakenFromBudget, IsWorkOrMoreThanLeft, WorkExceedsBudget};
+ghost use Rattle.regress_bounded.specs.BoundedState.{HasAttemptState, ContinuesOrStopsInEachAttempt, StepResultInEachAttempt, TakesPreferredState, TakesPreferredThread, stack_with_record_if_any};
+ghost use Rattle.regress_bounded.specs.BudgetSpending.{LowersBudgetByWork, IsWorkOrMoreThanLeft, WorkExceedsBudget};
 ghost use Rattle.regress_bounded.specs.declared.memo_and_work_budget.AttemptAbortReason.TheVariants.{Work};
-ghost use Rattle.regress_pikevm.specs.States.{state_of};
+ghost use Rattle.regress_pikevm.specs.States.{machine_state_of};
 
 use crate::memo_and_work_budget::{AttemptAbortReason, MemoAndWorkBudget};
 use crate::pending_stack::{StackEntry, UnboundedCharLoop, push_entry};
@@ -34,7 +34,7 @@ use std::alloc::AllocError;
 /// The result of a step: the thread that continues (if there is one), or the end of the search.
 #[derive(Drop)]
 pub(crate) enum StepResult<P> {
-    On(Option<State<P>>),
+    ContinueWith(Option<State<P>>),
     End(State<P>),
 }
 
@@ -49,18 +49,18 @@ pub(crate) fn execute_thread_step<Input: InputIndexer>(
     requires code { map insn_as_spec_insn insns.now ≡ (compiled (tree_of searched.now.program.now)).insns }
     requires stands { let s = searched.now in
         HasAttemptState Input.Position.offset (compiled (tree_of s.program.now)) (Input.text s.input)
-        (one_thread (running (state_of Input.Position.offset state)) ∷ []) stack.old.items progress.old }
+        (one_thread (running (machine_state_of Input.Position.offset state)) ∷ []) stack.old.items progress.old }
     ensures memo { progress.new.memo ≡ progress.old.memo }
     ensures left { progress.new.left ≤ progress.old.left }
     ensures continues { let at = Input.Position.offset in let s = searched.now in
-        StepResultFrom at (compiled (tree_of s.program.now)) (Input.text s.input)
-        (one_thread (running (state_of at state)) ∷ []) stack.old.items progress.old result stack.new.items
+        StepResultInEachAttempt at (compiled (tree_of s.program.now)) (Input.text s.input)
+        (one_thread (running (machine_state_of at state)) ∷ []) stack.old.items progress.old result stack.new.items
         progress.new }
 {
     let key = progress.key_at(state.ip, state.pos, &state);
-    if is_known(key, progress) {
+    if is_key_known_to_fail(key, progress) {
         progress.spend(1)?;
-        return Ok(StepResult::On(None));
+        return Ok(StepResult::ContinueWith(None));
     }
     let Some((least, greedy)) = unbounded_loop(insns[state.ip]) else {
         return execute_with_record(searched, insns, key, state, stack, progress);
@@ -71,7 +71,7 @@ pub(crate) fn execute_thread_step<Input: InputIndexer>(
         greedy,
     };
     let next = unbounded_char_loop_with_memo(searched, run, state, stack, progress)?;
-    Ok(StepResult::On(next))
+    Ok(StepResult::ContinueWith(next))
 }
 
 // Returns the minimum of a char loop without a maximum, and whether the loop is greedy. Returns
@@ -97,7 +97,7 @@ fn unbounded_loop(insn: Insn) -> Option<(usize, bool)>
 
 // Checks whether the key exists and is known to fail.
 #[inline(always)]
-fn is_known(key: Option<ThreadMemoKey>, progress: &MemoAndWorkBudget) -> bool
+fn is_key_known_to_fail(key: Option<ThreadMemoKey>, progress: &MemoAndWorkBudget) -> bool
     requires { IfSome key (λ k. IsRecordableMemoKey progress.now.memo.memo_analysis progress.now.memo.places
         (memo_key_as_spec k)) }
     ensures { result ≡ is_known_key (has_failure progress.now.memo) (option_map memo_key_as_spec key) }
@@ -110,6 +110,10 @@ fn is_known(key: Option<ThreadMemoKey>, progress: &MemoAndWorkBudget) -> bool
 
 // Takes the work of an instruction from the budget, and executes it. If there is a key, pushes its
 // record below the threads that the instruction leaves.
+// Contract: `stands` says that an attempt is at this state, and `continues` says how that attempt
+// goes on. `code`, `key` and `limited` say that `insns` is the program's code, that `key` is the
+// state's key and not known to fail, and that no char loop without a maximum is executed. `memo`,
+// `left` and `refused` say what stays the same, and that the work left does not grow.
 fn execute_with_record<Input: InputIndexer>(
     searched: &ProgramAndInput<'_, Input>,
     insns: &[Insn],
@@ -121,15 +125,15 @@ fn execute_with_record<Input: InputIndexer>(
     requires code { map insn_as_spec_insn insns.now ≡ (compiled (tree_of searched.now.program.now)).insns }
     requires stands { let s = searched.now in
         HasAttemptState Input.Position.offset (compiled (tree_of s.program.now)) (Input.text s.input)
-        (one_thread (running (state_of Input.Position.offset state)) ∷ []) stack.old.items progress.old }
-    requires key { IsUnfailedStateKeyIfAny progress.old.memo (state_of Input.Position.offset state) key }
+        (one_thread (running (machine_state_of Input.Position.offset state)) ∷ []) stack.old.items progress.old }
+    requires key { IsUnfailedStateKeyIfAny progress.old.memo (machine_state_of Input.Position.offset state) key }
     requires limited { IsNotUnboundedCharLoop (compiled (tree_of searched.now.program.now)) state.ip }
     ensures memo { progress.new.memo ≡ progress.old.memo }
     ensures left { progress.new.left ≤ progress.old.left }
     ensures refused { IfErr result (λ e. e ≡ Work → stack.new.items ≡ stack.old.items) }
     ensures continues { let at = Input.Position.offset in let s = searched.now in
-        StepResultFrom at (compiled (tree_of s.program.now)) (Input.text s.input)
-        (one_thread (running (state_of at state)) ∷ []) stack.old.items progress.old result stack.new.items
+        StepResultInEachAttempt at (compiled (tree_of s.program.now)) (Input.text s.input)
+        (one_thread (running (machine_state_of at state)) ∷ []) stack.old.items progress.old result stack.new.items
         progress.new }
 {
     if is_goal(insns[state.ip]) {
@@ -138,7 +142,7 @@ fn execute_with_record<Input: InputIndexer>(
     let work = work_of_step(searched, insns, &state, progress);
     spend_and_push_record(key, work, stack, progress)?;
     let next = push_threads_of_step(searched, insns, state, stack)?;
-    Ok(StepResult::On(next))
+    Ok(StepResult::ContinueWith(next))
 }
 
 // Checks whether an instruction ends the search.
@@ -160,10 +164,10 @@ fn work_of_step<Input: InputIndexer>(
 ) -> u64
     requires code { map insn_as_spec_insn insns.now ≡ (compiled (tree_of searched.now.program.now)).insns }
     requires executable { let s = searched.now in IsNotStuck (act (compiled (tree_of s.program.now))
-        (Input.text s.input) rightwards (state_of Input.Position.offset state.now)) }
-    ensures { let s = searched.now in IsWorkOrMoreThanLeft progress.now.left (work_of (act
+        (Input.text s.input) rightwards (machine_state_of Input.Position.offset state.now)) }
+    ensures { let s = searched.now in IsWorkOrMoreThanLeft progress.now.left (work_of_machine_step (act
         (compiled (tree_of s.program.now)) (Input.text s.input) rightwards
-        (state_of Input.Position.offset state.now))) result }
+        (machine_state_of Input.Position.offset state.now))) result }
 {
     let Some(most) = char_loop_max(insns[state.ip]) else {
         return 1;
@@ -194,11 +198,11 @@ fn push_threads_of_step<Input: InputIndexer>(
 ) -> Result<Option<State<Input::Position>>, AllocError>
     requires code { map insn_as_spec_insn insns.now ≡ (compiled (tree_of searched.now.program.now)).insns }
     requires inside { Input.Position.offset state.pos ≤ units (Input.text searched.now.input) }
-    requires leads { let s = searched.now in LeavesThreads (act (compiled (tree_of s.program.now)) (Input.text s.input)
-        rightwards (state_of Input.Position.offset state)) }
+    requires leads { let s = searched.now in StepLeavesOnlyThreads (act (compiled (tree_of s.program.now)) (Input.text s.input)
+        rightwards (machine_state_of Input.Position.offset state)) }
     ensures { let s = searched.now in IfOk result (λ next. TakesPreferredThread Input.Position.offset
-        (threads_left (act (compiled (tree_of s.program.now)) (Input.text s.input) rightwards
-        (state_of Input.Position.offset state))) stack.old.items next stack.new.items) }
+        (threads_after_step (act (compiled (tree_of s.program.now)) (Input.text s.input) rightwards
+        (machine_state_of Input.Position.offset state))) stack.old.items next stack.new.items) }
 {
     match execute_insn(searched, insns, Forward, state)? {
         NextStates::Dead => Ok(None),
@@ -207,7 +211,7 @@ fn push_threads_of_step<Input: InputIndexer>(
             push_entry(StackEntry::Thread(other), stack)?;
             Ok(Some(next))
         }
-        NextStates::CharLoopExits(_, states) => take_first(states, stack),
+        NextStates::CharLoopExits(_, states) => take_preferred_and_push_others(states, stack),
         NextStates::Lookaround { .. } => unreachable!(),
         NextStates::Accept(_) => unreachable!(),
     }
@@ -222,8 +226,8 @@ fn spend_and_push_record<P: PositionType>(
 ) -> Result<(), AttemptAbortReason>
     ensures memo { progress.new.memo ≡ progress.old.memo }
     ensures left { progress.new.left ≤ progress.old.left }
-    ensures spent { OnOk result (IsTakenFromBudget work progress.old.left progress.new.left) }
-    ensures pushed { OnOk result (stack.new.items ≡ stack_with_record key stack.old.items) }
+    ensures spent { OnOk result (LowersBudgetByWork work progress.old.left progress.new.left) }
+    ensures pushed { OnOk result (stack.new.items ≡ stack_with_record_if_any key stack.old.items) }
     ensures over { IfErr result (λ e. e ≡ Work
         → WorkExceedsBudget work progress.old.left progress.new.left × (stack.new.items ≡ stack.old.items)) }
 {
@@ -235,11 +239,11 @@ fn spend_and_push_record<P: PositionType>(
 }
 
 // Returns the preferred state, and pushes the others.
-fn take_first<P: PositionType>(
+fn take_preferred_and_push_others<P: PositionType>(
     mut states: Vec<State<P>>,
     stack: &mut Vec<StackEntry<P>>,
 ) -> Result<Option<State<P>>, AllocError>
-    ensures { IfOk result (λ next. HasTaken P.offset states.items stack.old.items next stack.new.items) }
+    ensures { IfOk result (λ next. TakesPreferredState P.offset states.items stack.old.items next stack.new.items) }
 {
     let Some(first) = states.pop() else {
         return Ok(None);
@@ -253,7 +257,12 @@ fn take_first<P: PositionType>(
 
 /// Backtracks to a pending entry: resumes a thread or a loop, or reaches a record. When a record is
 /// reached, all threads above it have failed, so its failure is stored.
-pub(crate) fn resume_or_record<Input: InputIndexer>(
+///
+/// The clause `stands` says that an attempt has this entry on top, and `continues` says how that
+/// attempt goes on. The clauses `sound` and `memo_analysis` say that the memo table is right and
+/// keeps its analysis. The clauses `left` and `refused` say that the work left does not grow, and
+/// that the stack stays the same if the work does not suffice.
+pub(crate) fn backtrack_to_pending_entry<Input: InputIndexer>(
     searched: &ProgramAndInput<'_, Input>,
     insns: &[Insn],
     waiting: StackEntry<Input::Position>,
@@ -269,7 +278,7 @@ pub(crate) fn resume_or_record<Input: InputIndexer>(
     ensures left { progress.new.left ≤ progress.old.left }
     ensures refused { IfErr result (λ e. e ≡ Work → stack.new.items ≡ stack.old.items) }
     ensures continues { let at = Input.Position.offset in let s = searched.now in
-        PartResultFrom at (compiled (tree_of s.program.now)) (Input.text s.input) []
+        ContinuesOrStopsInEachAttempt at (compiled (tree_of s.program.now)) (Input.text s.input) []
         (stack.old.items ++ waiting ∷ []) progress.old result stack.new.items progress.new }
 {
     match waiting {
@@ -277,7 +286,9 @@ pub(crate) fn resume_or_record<Input: InputIndexer>(
             progress.spend(1)?;
             Ok(Some(state))
         }
-        StackEntry::Run(state) => resume_lazy_char_loop(searched, insns, state, stack, progress),
+        StackEntry::PendingLazyLoop(state) => resume_lazy_char_loop(
+            searched, insns, state, stack, progress,
+        ),
         StackEntry::Record(key) => {
             progress.spend(1)?;
             progress.memo.record_failure(key);

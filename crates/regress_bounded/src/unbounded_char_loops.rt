@@ -8,11 +8,11 @@ ghost use Rattle.regress_machine.specs.Machine.{running};
 ghost use Rattle.regress_memo.specs.MemoContents.{has_failure};
 ghost use Rattle.regress_program.specs.{CompilationOfTreesAsFunction.{compiled}, InsnsAsSpec.{insn_as_spec_insn}};
 ghost use Rattle.regress_search.specs.OffsetsAfterMatchedInsns.{ByteInsnHasByteText, char_test_of_insn};
-ghost use Rattle.regress_bounded.specs.BoundedState.{IsMemoRightForRegex, IsAtCharLoop, HasAttemptState, PartResultFrom, ScansWithMemo, HasPassedOver, IsAfterChars};
+ghost use Rattle.regress_bounded.specs.BoundedState.{IsMemoRightForRegex, IsStateAtUnboundedLoopOverInsn, HasAttemptState, ContinuesOrStopsInEachAttempt, ScansWithMemo, HasPassedRequiredChars, IsPositionAfterCharsOfClass};
 ghost use Rattle.regress_bounded.specs.BoundedState.{TakesNearestExit};
 ghost use Rattle.regress_bounded.specs.declared.memo_and_work_budget.AttemptAbortReason.TheVariants.{Work};
-ghost use Rattle.regress_bounded.specs.declared.pending_stack.StackEntry.TheVariants.{Run as AsRun};
-ghost use Rattle.regress_pikevm.specs.States.{state_of};
+ghost use Rattle.regress_bounded.specs.declared.pending_stack.StackEntry.TheVariants.{PendingLazyLoop as AsRun};
+ghost use Rattle.regress_pikevm.specs.States.{machine_state_of};
 
 use crate::memo_and_work_budget::{AttemptAbortReason, MemoAndWorkBudget};
 use crate::pending_stack::{StackEntry, UnboundedCharLoop, push_entry};
@@ -42,14 +42,14 @@ pub(crate) fn read_chars_within_budget<Input: InputIndexer>(
     ensures at { IsBoundary (Input.text searched.now.input) (Input.Position.offset pos.new) }
     ensures passed { let s = searched.now in let text = Input.text s.input in (test : ℕ → Bool) (place : ℕ)
         → char_test_of_insn s.program.now body ≡ Some test → place_at text
-        (Input.Position.offset pos.old) ≡ Some place → HasPassedOver Input.Position.offset text
+        (Input.Position.offset pos.old) ≡ Some place → HasPassedRequiredChars Input.Position.offset text
         test (min most (progress.now.left - 1)) place result pos.new }
 {
     let limit = progress.chars_within_budget(most);
     let mut count = 0;
     'characters: while count < limit {
         let mut next = *pos;
-        if !insn_matchers::insn_accepts_next_char(searched, body, Forward, &mut next) {
+        if !insn_matchers::consume_next_char_if_accepted(searched, body, Forward, &mut next) {
             break;
         }
         *pos = next;
@@ -63,6 +63,11 @@ pub(crate) fn read_chars_within_budget<Input: InputIndexer>(
 /// A greedy loop continues at its furthest exit, and pushes the nearer ones. It stops at a position
 /// from which it is known to fail. A lazy loop continues at its nearest exit, and pushes one entry
 /// for all others. It reads no more characters than the budget allows.
+///
+/// The clauses `run` and `stands` say that an attempt is at this loop, and `continues` says how
+/// that attempt goes on. The clauses `memo`, `left` and `refused` say what stays the same, and that
+/// the work left does not grow. The clauses `bytes` and `within` say that an instruction on bytes
+/// has a text of bytes, and that the loop's index is in range.
 pub(crate) fn unbounded_char_loop_with_memo<Input: InputIndexer>(
     searched: &ProgramAndInput<'_, Input>,
     run: UnboundedCharLoop,
@@ -70,19 +75,19 @@ pub(crate) fn unbounded_char_loop_with_memo<Input: InputIndexer>(
     stack: &mut Vec<StackEntry<Input::Position>>,
     progress: &mut MemoAndWorkBudget,
 ) -> Result<Option<State<Input::Position>>, AttemptAbortReason>
-    requires run { let s = searched.now in IsAtCharLoop Input.Position.offset (compiled (tree_of s.program.now))
-        (Input.text s.input) run run.greedy (state_of Input.Position.offset state) }
+    requires run { let s = searched.now in IsStateAtUnboundedLoopOverInsn Input.Position.offset (compiled (tree_of s.program.now))
+        (Input.text s.input) run run.greedy (machine_state_of Input.Position.offset state) }
     requires bytes { ByteInsnHasByteText run.body (Input.text searched.now.input) Input.Units.ARE_BYTES }
     requires within { state.ip + 2 < 2 ^ 64 }
     requires stands { let s = searched.now in
         HasAttemptState Input.Position.offset (compiled (tree_of s.program.now)) (Input.text s.input)
-        (one_thread (running (state_of Input.Position.offset state)) ∷ []) stack.old.items progress.old }
+        (one_thread (running (machine_state_of Input.Position.offset state)) ∷ []) stack.old.items progress.old }
     ensures memo { progress.new.memo ≡ progress.old.memo }
     ensures left { progress.new.left ≤ progress.old.left }
     ensures refused { IfErr result (λ e. e ≡ Work → run.greedy ≡ false → stack.new.items ≡ stack.old.items) }
     ensures continues { let at = Input.Position.offset in let s = searched.now in
-        PartResultFrom at (compiled (tree_of s.program.now)) (Input.text s.input)
-        (one_thread (running (state_of at state)) ∷ []) stack.old.items progress.old result stack.new.items
+        ContinuesOrStopsInEachAttempt at (compiled (tree_of s.program.now)) (Input.text s.input)
+        (one_thread (running (machine_state_of at state)) ∷ []) stack.old.items progress.old result stack.new.items
         progress.new }
 {
     let mut at = state.pos;
@@ -92,7 +97,7 @@ pub(crate) fn unbounded_char_loop_with_memo<Input: InputIndexer>(
         return Ok(None);
     }
     if run.greedy {
-        let (next, count) = scan_with_memo(searched, run, at, &state, stack, progress)?;
+        let (next, count) = scan_greedy_loop_with_memo(searched, run, at, &state, stack, progress)?;
         progress.spend(count as u64 + 2)?;
         return Ok(next);
     }
@@ -104,7 +109,11 @@ pub(crate) fn unbounded_char_loop_with_memo<Input: InputIndexer>(
 // Scans a greedy loop from its nearest exit on. Returns the thread at the furthest exit and the
 // number of accepted characters. The thread is `None` if the loop is known to fail from some
 // position, or if the work left does not suffice.
-fn scan_with_memo<Input: InputIndexer>(
+// Contract: `scans` says how the scan ends and which exits are pushed, if `from` is the nearest
+// exit. The `ensures` clause `paid` says that at most as many characters are accepted as work is
+// left. The `requires` clauses say that the memo table is right, and that the loop and its nearest
+// exit are as described.
+fn scan_greedy_loop_with_memo<Input: InputIndexer>(
     searched: &ProgramAndInput<'_, Input>,
     run: UnboundedCharLoop,
     from: Input::Position,
@@ -113,8 +122,8 @@ fn scan_with_memo<Input: InputIndexer>(
     progress: &MemoAndWorkBudget,
 ) -> Result<(Option<State<Input::Position>>, usize), AllocError>
     requires sound { let s = searched.now in IsMemoRightForRegex s.program.now (Input.text s.input) progress.now.memo }
-    requires run { let s = searched.now in IsAtCharLoop Input.Position.offset (compiled (tree_of s.program.now))
-        (Input.text s.input) run true (state_of Input.Position.offset state.now) }
+    requires run { let s = searched.now in IsStateAtUnboundedLoopOverInsn Input.Position.offset (compiled (tree_of s.program.now))
+        (Input.text s.input) run true (machine_state_of Input.Position.offset state.now) }
     requires bytes { ByteInsnHasByteText run.body (Input.text searched.now.input) Input.Units.ARE_BYTES }
     requires within { state.now.ip + 2 < 2 ^ 64 }
     requires test { IsSome (char_test_of_insn searched.now.program.now run.body) }
@@ -124,9 +133,9 @@ fn scan_with_memo<Input: InputIndexer>(
     ensures paid { IfOk result (λ r. r.1 ≤ progress.now.left) }
     ensures scans { let at = Input.Position.offset in let s = searched.now in let text = Input.text s.input in
         (test : ℕ → Bool) (place : ℕ) → char_test_of_insn s.program.now run.body ≡ Some test
-        → IsAfterChars at text test place run.least from
+        → IsPositionAfterCharsOfClass at text test place run.least from
         → IfOk result (ScansWithMemo at (compiled (tree_of s.program.now)) text progress.now.memo.memo_analysis
-        (has_failure progress.now.memo) test place (state_of at state.now) run.least progress.now.left
+        (has_failure progress.now.memo) test place (machine_state_of at state.now) run.least progress.now.left
         stack.old.items stack.new.items) }
 {
     let mut at = from;
@@ -143,7 +152,7 @@ fn scan_with_memo<Input: InputIndexer>(
         }
         let here = copy_state_after_char_loop(at, state)?;
         push_entry(StackEntry::Record(key), stack)?;
-        if !insn_matchers::insn_accepts_next_char(searched, run.body, Forward, &mut at) {
+        if !insn_matchers::consume_next_char_if_accepted(searched, run.body, Forward, &mut at) {
             return Ok((Some(here), count));
         }
         push_entry(StackEntry::Thread(here), stack)?;
@@ -171,14 +180,18 @@ fn nearest<Input: InputIndexer>(
 {
     let here = copy_state_after_char_loop(at, &state)?;
     let mut next = at;
-    if insn_matchers::insn_accepts_next_char(searched, body, Forward, &mut next) {
+    if insn_matchers::consume_next_char_if_accepted(searched, body, Forward, &mut next) {
         state.pos = next;
-        push_entry(StackEntry::Run(state), stack)?;
+        push_entry(StackEntry::PendingLazyLoop(state), stack)?;
     }
     Ok(here)
 }
 
 /// Continues a lazy loop at the position of its pending entry.
+///
+/// The clause `stands` says that an attempt has this entry on top, and `continues` says how that
+/// attempt goes on. The clauses `memo`, `left` and `refused` say what stays the same, and that the
+/// work left does not grow. The clause `code` says that `insns` is the program's code.
 pub(crate) fn resume_lazy_char_loop<Input: InputIndexer>(
     searched: &ProgramAndInput<'_, Input>,
     insns: &[Insn],
@@ -194,7 +207,7 @@ pub(crate) fn resume_lazy_char_loop<Input: InputIndexer>(
     ensures left { progress.new.left ≤ progress.old.left }
     ensures refused { IfErr result (λ e. e ≡ Work → stack.new.items ≡ stack.old.items) }
     ensures continues { let at = Input.Position.offset in let s = searched.now in
-        PartResultFrom at (compiled (tree_of s.program.now)) (Input.text s.input) []
+        ContinuesOrStopsInEachAttempt at (compiled (tree_of s.program.now)) (Input.text s.input) []
         (stack.old.items ++ AsRun state ∷ []) progress.old result stack.new.items progress.new }
 {
     let at = state.pos;

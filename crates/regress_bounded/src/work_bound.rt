@@ -7,8 +7,8 @@ ghost use Rattle.regex_pattern_front.specs.AstToSpecTree.{tree_of};
 ghost use Rattle.regress_memo.specs.CheckedAnalysis.{HasDisjointCodes};
 ghost use Rattle.regress_memo.specs.MemoContents.{IsEmptyMemo};
 ghost use Rattle.regress_program.specs.InsnsAsSpec.{insn_as_spec_insn};
-ghost use Rattle.regress_bounded.specs.Unboundedness.{HasNoLookaroundOrBackreference, IsReasonForUnboundedness, is_unbounded_insn};
-ghost use Rattle.regress_bounded.specs.WorkBoundForAllMatches.{TreeHasWorkBound, most_memo_codes_per_insn, size_of_insn};
+ghost use Rattle.regress_bounded.specs.Unboundedness.{HasNoLookaroundOrBackreference, IsReasonForUnboundedness, is_lookaround_or_backref_insn};
+ghost use Rattle.regress_bounded.specs.WorkBoundForAllMatches.{TreeHasWorkBound, most_memo_codes_per_insn, work_size_of_insn};
 
 use regress_memo::analysis_result::MemoAnalysis;
 use regress_memo::loop_data_key_codes::MOST_CODES;
@@ -23,10 +23,10 @@ use thiserror::Error;
 const MAX_BOUND_PER_SIZE_AND_CODE: u64 = 64;
 
 // A loop over one character with this maximum or a larger one has no memo analysis.
-const LARGE_MAX: usize = 0x1_0000;
+const UNANALYZABLE_CHAR_LOOP_MAX: usize = 0x1_0000;
 
 // From this minimum on, the costs of a loop over one character alone may be too large.
-const LARGE_MIN: usize = 0x4000_0000;
+const COSTLY_CHAR_LOOP_MIN: usize = 0x4000_0000;
 
 /// Why a pattern has no known work bound.
 #[derive(Clone, Copy, Debug, PartialEq, Eq, Error)]
@@ -122,7 +122,7 @@ impl WorkBound {
             return Err(Unbounded::Backreference);
         }
         let Some(memo_analysis) = MemoAnalysis::new(alloc, insns, program.loops() as usize)? else {
-            if may_exceed_counts(insns) {
+            if counts_may_cause_no_bound(insns) {
                 return Err(Unbounded::Count);
             }
             return Err(Unbounded::BoundTooLarge);
@@ -130,10 +130,10 @@ impl WorkBound {
         let Some(work) = memo_analysis.work_per_position(insns) else {
             return Err(Unbounded::BoundTooLarge);
         };
-        let Some(per_unit) = with_one_more(work) else {
+        let Some(per_unit) = work_per_position_of_searches(work) else {
             return Err(Unbounded::BoundTooLarge);
         };
-        if !is_few(
+        if !is_bound_small_enough(
             per_unit,
             program_size(insns),
             most_memo_codes_per_insn(&memo_analysis),
@@ -171,14 +171,14 @@ impl WorkBound {
 
 // Returns the work per position: 1 to pass it, the work of all searches together, and the work of
 // one more search.
-fn with_one_more(work: u64) -> Option<u64>
+fn work_per_position_of_searches(work: u64) -> Option<u64>
     ensures { IfSome result (λ all. all ≡ 1 + (work + work / 3)) }
 {
     work.checked_add(work / 3)?.checked_add(1)
 }
 
 // Checks that the bound is at most a constant times the program size times the number of codes.
-fn is_few(per_unit: u64, size: u64, codes: u64) -> bool
+fn is_bound_small_enough(per_unit: u64, size: u64, codes: u64) -> bool
     ensures { result ≡ nat_le per_unit (64 * (size * codes)) }
 {
     per_unit
@@ -189,19 +189,19 @@ fn is_few(per_unit: u64, size: u64, codes: u64) -> bool
 
 // Returns the size of a program, or `u64::MAX` if that is larger.
 fn program_size(insns: &[Insn]) -> u64
-    ensures { result ≡ min (sum_by size_of_insn (map insn_as_spec_insn insns.now)) (2 ^ 64 - 1) }
+    ensures { result ≡ min (sum_by work_size_of_insn (map insn_as_spec_insn insns.now)) (2 ^ 64 - 1) }
 {
     let mut all = 0u64;
     for insn in insns {
-        all = all.saturating_add(size_of(*insn));
+        all = all.saturating_add(insn_size(*insn));
     }
     all
 }
 
 // Returns the size of an instruction: 1, plus the maximum of a char loop or, if it has none, its
 // minimum.
-fn size_of(insn: Insn) -> u64
-    ensures { result ≡ min (size_of_insn (insn_as_spec_insn insn)) (2 ^ 64 - 1) }
+fn insn_size(insn: Insn) -> u64
+    ensures { result ≡ min (work_size_of_insn (insn_as_spec_insn insn)) (2 ^ 64 - 1) }
 {
     let Insn::Loop1CharBody {
         min_iters,
@@ -233,40 +233,45 @@ fn most_memo_codes_per_insn(memo_analysis: &MemoAnalysis) -> u64
 
 // Checks whether a program has a lookaround.
 fn has_lookaround(insns: &[Insn]) -> bool
-    ensures { result ≡ list_any (λ insn. is_unbounded_insn true (insn_as_spec_insn insn)) insns.now }
+    ensures { result ≡ list_any (λ insn. is_lookaround_or_backref_insn true (insn_as_spec_insn insn)) insns.now }
 {
     insns.iter().any(|insn| is_lookaround(insn))
 }
 
 // Checks whether an instruction is a lookaround.
 fn is_lookaround(insn: &Insn) -> bool
-    ensures { result ≡ is_unbounded_insn true (insn_as_spec_insn insn.now) }
+    ensures { result ≡ is_lookaround_or_backref_insn true (insn_as_spec_insn insn.now) }
 {
     matches!(insn, Insn::Lookahead { .. } | Insn::Lookbehind { .. })
 }
 
 // Checks whether a program has a backreference.
 fn has_backreference(insns: &[Insn]) -> bool
-    ensures { result ≡ list_any (λ insn. is_unbounded_insn false (insn_as_spec_insn insn)) insns.now }
+    ensures { result ≡ list_any (λ insn. is_lookaround_or_backref_insn false (insn_as_spec_insn insn)) insns.now }
 {
     insns.iter().any(|insn| is_backreference(insn))
 }
 
 // Checks whether an instruction is a backreference.
 fn is_backreference(insn: &Insn) -> bool
-    ensures { result ≡ is_unbounded_insn false (insn_as_spec_insn insn.now) }
+    ensures { result ≡ is_lookaround_or_backref_insn false (insn_as_spec_insn insn.now) }
 {
     matches!(insn, Insn::BackRef { .. })
 }
 
 // Checks whether counts or nesting may be the reason why a program without lookarounds and
 // backreferences has no memo analysis. If not, its costs are too large. This is not proved.
-fn may_exceed_counts(insns: &[Insn]) -> bool {
+fn counts_may_cause_no_bound(insns: &[Insn]) -> bool {
     let mut codes = 1usize;
     for insn in insns {
         match *insn {
-            Insn::EnterLoop { .. } => codes = codes.saturating_mul(most_codes_of_loop(insn)),
-            Insn::LoopAgain { begin } => codes /= most_codes_of_loop_at(insns, begin as usize),
+            Insn::EnterLoop { .. } => codes = codes.saturating_mul(max_memo_code_factor_of_loop(
+                insn,
+            )),
+            Insn::LoopAgain { begin } => codes /= max_memo_code_factor_at_loop(
+                insns,
+                begin as usize,
+            ),
             _ => {}
         }
         if codes > MOST_CODES || has_large_count(insn) {
@@ -277,18 +282,18 @@ fn may_exceed_counts(insns: &[Insn]) -> bool {
 }
 
 // Returns the largest factor by which the loop at `begin` may multiply the number of codes.
-fn most_codes_of_loop_at(insns: &[Insn], begin: usize) -> usize
+fn max_memo_code_factor_at_loop(insns: &[Insn], begin: usize) -> usize
     ensures { 1 ≤ result }
 {
     match insns.get(begin) {
-        Some(insn) => most_codes_of_loop(insn),
+        Some(insn) => max_memo_code_factor_of_loop(insn),
         None => 1,
     }
 }
 
 // Returns the largest factor by which a loop with this head may multiply the number of codes: the
 // number of distinguished counts, times two if empty iterations are distinguished.
-fn most_codes_of_loop(insn: &Insn) -> usize
+fn max_memo_code_factor_of_loop(insn: &Insn) -> usize
     ensures { 1 ≤ result }
 {
     let Insn::EnterLoop {
@@ -318,5 +323,6 @@ fn has_large_count(insn: &Insn) -> bool {
     else {
         return false;
     };
-    min_iters >= LARGE_MIN || (max_iters >= LARGE_MAX && max_iters != usize::MAX)
+    min_iters >= COSTLY_CHAR_LOOP_MIN
+        || (max_iters >= UNANALYZABLE_CHAR_LOOP_MAX && max_iters != usize::MAX)
 }

@@ -5,10 +5,10 @@ use native.Mathlib.Nat.{zero-mul}
 use Rattle.std.proofs.lemmas.List.{length-append}
 use Rattle.std.specs.Prelude.{Option, Some, None, Ok, Err, IsUtf8, flat_map}
 use Rattle.std.specs.Borrow.{Bor}
-use Rattle.regex_meaning.specs.Laws.{Each, IsAnswerOf}
+use Rattle.regex_meaning.specs.Laws.{Each, IsWellFormedAnswerFor}
 use Rattle.regex_meaning.specs.MatchGroupsByNumberAndName.{Answer}
 use Rattle.regex_meaning.proofs.EachElementLemmas.{Each-map}
-use Rattle.regex_meaning.proofs.MatchOrderLemmas.{answers-IsAnswerOf}
+use Rattle.regex_meaning.proofs.MatchOrderLemmas.{answers-IsWellFormedAnswerFor}
 use Rattle.regex_meaning.proofs.CodeUnitOffsetsLemmas.{utf8_text-IsText}
 use Rattle.regress_search.specs.MatchesAsSpecAnswers.{answer_of}
 use Rattle.regress_search.specs.MatchesWithinWork.{NextYieldsWithinWork, RemainingAnswersAndWork}
@@ -18,11 +18,11 @@ use Rattle.regress_search.specs.declared.exec.work_matches.WorkError.TheVariants
 use Rattle.regress_match.specs.ProgramTreesAndAnswers.{bytes_as_utf8_text, tree_for_byte_units, utf8_answers}
 use Rattle.regress_match.specs.WorkBounds.{BoundedView, IsHigherOfProgramWorkBounds, YieldsMatchesIfWorkSuffices}
 use Rattle.regress_match.specs.declared.api.regex.Regex.{Regex}
-use Rattle.regress_c.specs.AllMatchesInWork.{Ending, EndsInWork, EndsIterator, RefusesAllInWork, RepliesAllInWork, RepliesOutcome, WritesInWork, Written}
+use Rattle.regress_c.specs.AllMatchesInWork.{Ending, IsEndingWithinWork, IsEndingOfIterator, RefusesAllInWork, RepliesAllInWork, RepliesOutcome, WritesMatchesWithinWork, Written}
 use Rattle.regress_c.specs.AllMatchesInWork.{full, over, failed, ran, refused, short}
-use Rattle.regress_c.specs.Codes.{code_of, done, no_match, refusal_of_work_error}
-use Rattle.regress_c.specs.Replies.{spans_of, written_over}
-use Rattle.regress_c.specs.Searching.{Starts, can_start_utf8}
+use Rattle.regress_c.specs.Codes.{code_of_refusal, done, no_match, refusal_of_work_error}
+use Rattle.regress_c.specs.Replies.{spans_of, with_front_overwritten}
+use Rattle.regress_c.specs.Searching.{IsTextWithValidStart, can_start_utf8}
 use Rattle.regress_c.specs.Texts.{range_count}
 use Rattle.regress_c.specs.declared.refusal.Refusal.{Refusal}
 use Rattle.regress_c.specs.declared.refusal.Refusal.TheVariants.{Empty, NotUtf8, NotBoundary, ShortBuffer}
@@ -42,7 +42,7 @@ pub record Writing (ranges : ℕ) (start : RemainingAnswersAndWork) (before : Li
   pub count_is : count ≡ length found
   pub at_is : at ≡ length found * ranges
   pub flat : length (flat_map spans_of found) ≡ at
-  pub written : now ≡ written_over (flat_map spans_of found) before
+  pub written : now ≡ with_front_overwritten (flat_map spans_of found) before
 
 not-enough : (start view : Bool) → (start ≡ true → view ≡ true) → view ≡ false → start ≡ false
 not-enough true view keeps none = absurd (cc (sym (keeps refl) ∙ none))
@@ -88,7 +88,7 @@ module _ {ranges : ℕ} {start : RemainingAnswersAndWork} {before : List Span} w
 
   module _ (view : RemainingAnswersAndWork) (now : List Span) (count at : ℕ) (f : Writing ranges start before view now count at) (reply : Reply) where
     -- If the buffer has no room for one more match, the reply is `done`.
-    pub is-full : length before - at < ranges → reply ≡ record { code = done; count = count } → WritesInWork ranges start view before now reply
+    pub is-full : length before - at < ranges → reply ≡ record { code = done; count = count } → WritesMatchesWithinWork ranges start view before now reply
     is-full room r = (
       record { found = f.found; rest = view.remaining.answers; ending = full },
       record { answers = f.answers; fewer = f.fewer; ends = let a = f.at_is in omega (arith, a, room) },
@@ -98,7 +98,7 @@ module _ {ranges : ℕ} {start : RemainingAnswersAndWork} {before : List Span} w
 
     -- If the iterator yields no further match, the reply is `no_match`.
     pub is-over : (view' : RemainingAnswersAndWork) → NextYieldsWithinWork view None view' → reply ≡ record { code = no_match; count = count }
-        → WritesInWork ranges start view' before now reply
+        → WritesMatchesWithinWork ranges start view' before now reply
     is-over view' gives r = (
       record { found = f.found; rest = view.remaining.answers; ending = over },
       record { answers = f.answers; fewer = let less = gives.1 in let were = f.fewer in omega (arith, less, were); ends = gives.0.0 },
@@ -107,17 +107,17 @@ module _ {ranges : ℕ} {start : RemainingAnswersAndWork} {before : List Span} w
     )
 
     fails : (e : WorkError) (view' : RemainingAnswersAndWork) → NextYieldsWithinWork view (Some (Err e)) view'
-        → EndsIterator ranges (length before) start view' (record { found = f.found; rest = view.remaining.answers; ending = failed e }) (failed e)
+        → IsEndingOfIterator ranges (length before) start view' (record { found = f.found; rest = view.remaining.answers; ending = failed e }) (failed e)
     fails worked.Memory view' gives = tt
     fails worked.WorkLimit view' gives = (not-enough start.enough view.enough f.enough gives.0.0.0, gives.0.0.1)
 
     -- If the search for the next match fails, the reply has the code of the error.
-    pub is-failed : (e : WorkError) (view' : RemainingAnswersAndWork) → NextYieldsWithinWork view (Some (Err e)) view' → reply ≡ record { code = code_of (refusal_of_work_error e); count = count }
-        → WritesInWork ranges start view' before now reply
+    pub is-failed : (e : WorkError) (view' : RemainingAnswersAndWork) → NextYieldsWithinWork view (Some (Err e)) view' → reply ≡ record { code = code_of_refusal (refusal_of_work_error e); count = count }
+        → WritesMatchesWithinWork ranges start view' before now reply
     is-failed e view' gives r = (
       record { found = f.found; rest = view.remaining.answers; ending = failed e },
       record { answers = f.answers; fewer = let less = gives.1 in let were = f.fewer in omega (arith, less, were); ends = fails e view' gives },
-      r ∙ ap (λ n. record { code = code_of (refusal_of_work_error e); count = n }) f.count_is,
+      r ∙ ap (λ n. record { code = code_of_refusal (refusal_of_work_error e); count = n }) f.count_is,
       f.written,
     )
 
@@ -132,9 +132,9 @@ module _ (re : Regex) (text : List ℕ) (start : ℕ) where
   pub ranges-each : Each (λ m. length (spans_of m) ≡ range_count re) (utf8_answers re text start)
   ranges-each =
       let tree = tree_for_byte_units re in
-      Each-map (IsAnswerOf tree.root (bytes_as_utf8_text re text)) (λ m. length (spans_of m) ≡ range_count re)
+      Each-map (IsWellFormedAnswerFor tree.root (bytes_as_utf8_text re text)) (λ m. length (spans_of m) ≡ range_count re)
       (λ m is. let count = spans-count m in let groups = is.count in omega (arith, count, groups)) (utf8_answers re text start)
-      (answers-IsAnswerOf tree.root (bytes_as_utf8_text re text) (utf8_text-IsText text tree.flags.unicode) start)
+      (answers-IsWellFormedAnswerFor tree.root (bytes_as_utf8_text re text) (utf8_text-IsText text tree.flags.unicode) start)
 
   -- Each match that the iterator yields has as many ranges.
   pub ranges-come : (per_unit work : ℕ) (it : RemainingAnswersAndWork) → YieldsMatchesIfWorkSuffices (tree_for_byte_units re) (bytes_as_utf8_text re text) start per_unit work it
@@ -144,14 +144,14 @@ module _ (re : Regex) (text : List ℕ) (start : ℕ) where
   module _ (per_unit work left : ℕ) (it behind : RemainingAnswersAndWork) (before after : List Span) (reply : Reply)
       (is : IsUtf8 text) (can : can_start_utf8 text start) (fits : range_count re ≤ length before) (bound : IsHigherOfProgramWorkBounds re per_unit)
       (yields : YieldsMatchesIfWorkSuffices (tree_for_byte_units re) (bytes_as_utf8_text re text) start per_unit work it) (left_is : left ≡ behind.left) where
-    ends : (w : Written) (e : Ending) → EndsIterator (range_count re) (length before) it behind w e → EndsInWork re text work left (length before) w e
+    ends : (w : Written) (e : Ending) → IsEndingOfIterator (range_count re) (length before) it behind w e → IsEndingWithinWork re text work left (length before) w e
     ends w full h = h
     ends w over h = h
     ends w (failed worked.Memory) h = tt
     ends w (failed worked.WorkLimit) h = (left_is ∙ h.1, (per_unit, bound, too-little re text start per_unit work it behind bound yields h.0))
 
     -- The matches written are those of the text.
-    pub has-written : WritesInWork (range_count re) it behind before after reply → RepliesOutcome re text start work left before after reply
+    pub has-written : WritesMatchesWithinWork (range_count re) it behind before after reply → RepliesOutcome re text start work left before after reply
     has-written (w, written, r, b) =
         let all = sym yields.answers ∙ written.answers in (
           ran w,
@@ -174,24 +174,24 @@ module _ (re : Regex) (text : List ℕ) (start : ℕ) where
 
 module _ (re : Regex) (bytes : List ℕ) (start : ℕ) where
   -- A text or a start that fails its check is refused.
-  pub starts-refused : (r : Refusal) → Starts bytes start (Err r) → RefusesAllInWork re bytes start r
+  pub starts-refused : (r : Refusal) → IsTextWithValidStart bytes start (Err r) → RefusesAllInWork re bytes start r
   starts-refused NotUtf8 h = h
   starts-refused NotBoundary h = h
   starts-refused _ h = absurd h
 
   module _ (work left : ℕ) (before after : List Span) (reply : Reply) where
-    pub is-refused : (r : Refusal) → RefusesAllInWork re bytes start r × (left ≡ work) × (after ≡ before) → reply ≡ record { code = code_of r; count = 0 }
+    pub is-refused : (r : Refusal) → RefusesAllInWork re bytes start r × (left ≡ work) × (after ≡ before) → reply ≡ record { code = code_of_refusal r; count = 0 }
         → RepliesOutcome re bytes start work left before after reply
     is-refused r h is = (refused r, (h.0, h.1), is, h.2)
 
     -- If the buffer has no room for one match, the reply has the code of `ShortBuffer`.
-    pub is-short : (text : Bor (List ℕ)) → Starts bytes start (Ok text) → length before < range_count re → left ≡ work → after ≡ before
-        → reply ≡ record { code = code_of ShortBuffer; count = range_count re } → RepliesOutcome re bytes start work left before after reply
+    pub is-short : (text : Bor (List ℕ)) → IsTextWithValidStart bytes start (Ok text) → length before < range_count re → left ≡ work → after ≡ before
+        → reply ≡ record { code = code_of_refusal ShortBuffer; count = range_count re } → RepliesOutcome re bytes start work left before after reply
     is-short text starts room l a is = (short, (starts.1, starts.2, room, l), is, a)
 
 -- If the handle holds no pattern, the reply has the code of `Empty`.
 pub not-held : (held : Option Regex) (bytes : List ℕ) (start work : ℕ) (before : List Span) (reply : Reply) → None ≡ held
-    → reply ≡ record { code = code_of Empty; count = 0 } → RepliesAllInWork held bytes start work work before before reply
+    → reply ≡ record { code = code_of_refusal Empty; count = 0 } → RepliesAllInWork held bytes start work work before before reply
 not-held held bytes start work before reply none r =
     subst (λ h. RepliesAllInWork h bytes start work work before before reply) none (r, refl, refl)
 
@@ -199,7 +199,7 @@ not-held held bytes start work before reply none r =
 
 -- The text has these bytes, and the bound is that of the pattern.
 module _ (re : Regex) (bytes : List ℕ) (start work : ℕ) (text : Bor (List ℕ)) (bounded : BoundedView) (it : RemainingAnswersAndWork) (ranges : ℕ)
-    (starts : Starts bytes start (Ok text)) (of_re : bounded.re ≡ re) (each : IsHigherOfProgramWorkBounds re bounded.per_unit)
+    (starts : IsTextWithValidStart bytes start (Ok text)) (of_re : bounded.re ≡ re) (each : IsHigherOfProgramWorkBounds re bounded.per_unit)
     (yields : YieldsMatchesIfWorkSuffices (tree_for_byte_units bounded.re) (bytes_as_utf8_text bounded.re text.now) start bounded.per_unit work it) (ranges_is : ranges ≡ range_count re) where
   by_re : YieldsMatchesIfWorkSuffices (tree_for_byte_units re) (bytes_as_utf8_text re bytes) start bounded.per_unit work it
   by_re =
@@ -210,7 +210,7 @@ module _ (re : Regex) (bytes : List ℕ) (start work : ℕ) (text : Bor (List �
   each-ranges = subst (λ n. Each (λ m. length (spans_of m) ≡ n) it.remaining.answers) (sym ranges_is) (ranges-come re bytes start bounded.per_unit work it by_re)
 
   pub writes : (left : ℕ) (behind : RemainingAnswersAndWork) (before after : List Span) (reply : Reply) → ranges ≤ length before → left ≡ behind.left
-      → WritesInWork ranges it behind before after reply → RepliesOutcome re bytes start work left before after reply
+      → WritesMatchesWithinWork ranges it behind before after reply → RepliesOutcome re bytes start work left before after reply
   writes left behind before after reply room left_is w =
       has-written re bytes start bounded.per_unit work left it behind before after reply starts.1 starts.2 (subst (λ n. n ≤ length before) ranges_is room)
-      each by_re left_is (subst (λ n. WritesInWork n it behind before after reply) ranges_is w)
+      each by_re left_is (subst (λ n. WritesMatchesWithinWork n it behind before after reply) ranges_is w)

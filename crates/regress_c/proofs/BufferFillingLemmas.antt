@@ -19,11 +19,11 @@ use Rattle.regress_search.specs.declared.exec.SearchError.{SearchError}
 use Rattle.regress_search.specs.declared.exec.SearchError.TheVariants.{Memory, StepLimit}
 use Rattle.regress_search.proofs.StepBudgetLemmas.{left-no_more}
 use Rattle.regress_search.proofs.RemainingAnswerLemmas.{new-comes}
-use Rattle.regress_match.specs.Resuming.{ResumesFrom, IsExhaustedFrom, AreFoundInOrder, FindsNext, budget_after}
+use Rattle.regress_match.specs.Resuming.{IsResultOfNextFrom, IsExhaustedFrom, AreFoundInOrder, FindsNext, step_budget_after_first_match}
 use Rattle.regress_match.specs.declared.api.searches_resumed_at_offsets.Step.{Step}
 use Rattle.regress_match.proofs.ResumingLemmas.{turn-more}
-use Rattle.regress_c.specs.NextMatches.{Fills, Run, Stops, ranges_of}
-use Rattle.regress_c.specs.Replies.{spans_of, written_over}
+use Rattle.regress_c.specs.NextMatches.{Fills, Run, Stops, number_of_ranges}
+use Rattle.regress_c.specs.Replies.{spans_of, with_front_overwritten}
 use Rattle.regress_c.specs.declared.next_matches.Filled.{Filled}
 use Rattle.regress_c.specs.declared.next_matches.Stop.TheVariants.{Full, Over, Refused}
 use Rattle.regress_c.specs.declared.reply.Span.{Span}
@@ -43,7 +43,7 @@ no_more-same None = tt
 no_more-same (Some n) = le_refl n
 
 -- The budget after a result is at most the budget before it.
-no_more-after : (tree : Tree) (text : Text) (left left' : Option ℕ) (next : ℕ) → left' ≡ budget_after tree text left next → IsBudgetAtMost left' left
+no_more-after : (tree : Tree) (text : Text) (left left' : Option ℕ) (next : ℕ) → left' ≡ step_budget_after_first_match tree text left next → IsBudgetAtMost left' left
 no_more-after tree text left left' next e = subst (λ l. IsBudgetAtMost l left) (sym e) (left-no_more left (need_from tree text next))
 
 -- The matches written so far are in the buffer, and the list of matches goes on from here.
@@ -54,26 +54,26 @@ pub record Filling (tree : Tree) (text : Text) (steps : Option ℕ) (start : ℕ
   pub turns : AreFoundInOrder tree text steps start found left next
   pub starts : IsBoundaryOrPastEnd text next
   pub fewer : IsBudgetAtMost left steps
-  pub ranges : Each (λ m. length (spans_of m) ≡ ranges_of tree) found
+  pub ranges : Each (λ m. length (spans_of m) ≡ number_of_ranges tree) found
   pub count : matches ≡ length found
-  pub at_is : at ≡ length found * ranges_of tree
+  pub at_is : at ≡ length found * number_of_ranges tree
   pub flat : length (flat_map spans_of found) ≡ at
-  pub written : now ≡ written_over (flat_map spans_of found) before
+  pub written : now ≡ with_front_overwritten (flat_map spans_of found) before
 
-refusal-less : (tree : Tree) (text : Text) (e : SearchError) (next : ℕ) (left left' : Option ℕ) → ResumesFrom tree text left next (Err e) left' → IsBudgetAtMost left' left
+refusal-less : (tree : Tree) (text : Text) (e : SearchError) (next : ℕ) (left left' : Option ℕ) → IsResultOfNextFrom tree text left next (Err e) left' → IsBudgetAtMost left' left
 refusal-less tree text Memory next left left' g = g.0
 refusal-less tree text StepLimit next None left' g = absurd (cc g.1)
 refusal-less tree text StepLimit next (Some n) left' g = subst (λ l. IsBudgetAtMost l (Some n)) (sym g.2) (omega arith)
 
-refusal-stops : (tree : Tree) (text : Text) (room : ℕ) (run : Run) (e : SearchError) → ResumesFrom tree text run.steps run.next (Err e) run.left → Stops tree text room run (Refused e)
+refusal-stops : (tree : Tree) (text : Text) (room : ℕ) (run : Run) (e : SearchError) → IsResultOfNextFrom tree text run.steps run.next (Err e) run.left → Stops tree text room run (Refused e)
 refusal-stops tree text room run Memory g = g
 refusal-stops tree text room run StepLimit g = g
 
 -- A result for an equal tree and text is a result for this tree and text.
 pub goes-same : (tree tree' : Tree) (text text' : Text) (budget : Option ℕ) (start : ℕ) (r : Result (Option Step) SearchError) (left : Option ℕ)
-    → tree' ≡ tree → text' ≡ text → ResumesFrom tree' text' budget start r left → ResumesFrom tree text budget start r left
+    → tree' ≡ tree → text' ≡ text → IsResultOfNextFrom tree' text' budget start r left → IsResultOfNextFrom tree text budget start r left
 goes-same tree tree' text text' budget start r left e f h =
-    subst (λ t. ResumesFrom tree t budget start r left) f (subst (λ t. ResumesFrom t text' budget start r left) e h)
+    subst (λ t. IsResultOfNextFrom tree t budget start r left) f (subst (λ t. IsResultOfNextFrom t text' budget start r left) e h)
 
 module _ {tree : Tree} {text : Text} {steps : Option ℕ} {start : ℕ} {before : List Span} where
   pub begun : IsBoundaryOrPastEnd text start → Filling tree text steps start before before 0 start 0 steps
@@ -86,13 +86,13 @@ module _ {tree : Tree} {text : Text} {steps : Option ℕ} {start : ℕ} {before 
     fewer = no_more-same steps;
     ranges = tt;
     count = refl;
-    at_is = sym (zero-mul (ranges_of tree));
+    at_is = sym (zero-mul (number_of_ranges tree));
     flat = refl;
     written = refl;
   }
 
   step_more : (now after : List Span) (matches next at ranges : ℕ) (left left' : Option ℕ) (step : Step)
-      → Filling tree text steps start before now matches next at left → FindsNext tree text left next (answer_of step.found) step.next left' → ranges ≡ ranges_of tree
+      → Filling tree text steps start before now matches next at left → FindsNext tree text left next (answer_of step.found) step.next left' → ranges ≡ number_of_ranges tree
       → after ≡ take at now ++ spans_of (answer_of step.found) ++ drop (at + ranges) now
       → Filling tree text steps start before after (matches + 1) step.next (at + ranges) left'
   step_more now after matches next at ranges left left' step f s r w =
@@ -106,16 +106,16 @@ module _ {tree : Tree} {text : Text} {steps : Option ℕ} {start : ℕ} {before 
         turns = turn-more tree text steps start f.found m left left' next step.next f.turns s;
         starts = s.starts;
         fewer = no_more-trans left' left steps (no_more-after tree text left left' next s.steps) f.fewer;
-        ranges = Each-append (λ m. length (spans_of m) ≡ ranges_of tree) f.found (m ∷ []) f.ranges (long ∙ r, tt);
+        ranges = Each-append (λ m. length (spans_of m) ≡ number_of_ranges tree) f.found (m ∷ []) f.ranges (long ∙ r, tt);
         count = let c = f.count in let l = length-append f.found (m ∷ []) in omega (arith, c, l);
-        at_is = let a = f.at_is in let l = length-append f.found (m ∷ []) in at-more (length f.found) (length (f.found ++ m ∷ [])) at ranges (ranges_of tree) a l r;
+        at_is = let a = f.at_is in let l = length-append f.found (m ∷ []) in at-more (length f.found) (length (f.found ++ m ∷ [])) at ranges (number_of_ranges tree) a l r;
         flat = more.0;
         written = more.1;
       }
 
   -- One more match is written, and the search goes on behind it.
   pub one_more : (now after : List Span) (matches next at ranges next' : ℕ) (left left' : Option ℕ) (step : Step)
-      → Filling tree text steps start before now matches next at left → FindsNext tree text left next (answer_of step.found) step.next left' → ranges ≡ ranges_of tree
+      → Filling tree text steps start before now matches next at left → FindsNext tree text left next (answer_of step.found) step.next left' → ranges ≡ number_of_ranges tree
       → next' ≡ step.next → after ≡ take at now ++ spans_of (answer_of step.found) ++ drop (at + ranges) now
       → Filling tree text steps start before after (matches + 1) next' (at + ranges) left'
   one_more now after matches next at ranges next' left left' step f s r on w =
@@ -124,7 +124,7 @@ module _ {tree : Tree} {text : Text} {steps : Option ℕ} {start : ℕ} {before 
 
   -- If the buffer has no room for one more match, the call stops as `Full`.
   pub fills-full : (now : List Span) (filled : Filled) (at ranges : ℕ) (left : Option ℕ)
-      → Filling tree text steps start before now filled.matches filled.next at left → filled.stop ≡ Full → length before - at < ranges → ranges ≡ ranges_of tree
+      → Filling tree text steps start before now filled.matches filled.next at left → filled.stop ≡ Full → length before - at < ranges → ranges ≡ number_of_ranges tree
       → Fills tree text steps start before now filled left
   fills-full now filled at ranges left f stop room r = record {
     run = record { found = f.found; behind = filled.next; next = filled.next; stop = Full; steps = left; left = left };
@@ -146,7 +146,7 @@ module _ {tree : Tree} {text : Text} {steps : Option ℕ} {start : ℕ} {before 
 
   -- If no further match exists, the call stops as `Over`.
   pub fills-over : (now : List Span) (filled : Filled) (next at : ℕ) (left left' : Option ℕ) → HasRisingPlaceOffsets text → units text < filled.next
-      → Filling tree text steps start before now filled.matches next at left → filled.stop ≡ Over → IsExhaustedFrom tree text left next × (left' ≡ budget_after tree text left next)
+      → Filling tree text steps start before now filled.matches next at left → filled.stop ≡ Over → IsExhaustedFrom tree text left next × (left' ≡ step_budget_after_first_match tree text left next)
       → Fills tree text steps start before now filled left'
   fills-over now filled next at left left' is past f stop over =
       let gone = new-comes tree text is left filled.next None (ap (λ b. if b then Some filled.next else None) (sym (lt-leb filled.next (units text) past))) in
@@ -170,7 +170,7 @@ module _ {tree : Tree} {text : Text} {steps : Option ℕ} {start : ℕ} {before 
 
   -- If the search for the next match fails, the call stops as `Refused`.
   pub fills-refused : (now : List Span) (filled : Filled) (at : ℕ) (left left' : Option ℕ) (e : SearchError)
-      → Filling tree text steps start before now filled.matches filled.next at left → filled.stop ≡ Refused e → ResumesFrom tree text left filled.next (Err e) left'
+      → Filling tree text steps start before now filled.matches filled.next at left → filled.stop ≡ Refused e → IsResultOfNextFrom tree text left filled.next (Err e) left'
       → Fills tree text steps start before now filled left'
   fills-refused now filled at left left' e f stop g =
       let run : Run = record { found = f.found; behind = filled.next; next = filled.next; stop = Refused e; steps = left; left = left' } in

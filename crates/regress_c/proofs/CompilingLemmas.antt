@@ -7,8 +7,8 @@ use Rattle.regex_meaning.specs.FlagLettersAndEscaping.{flags_from_letters}
 use Rattle.regress_match.specs.CompileErrors.{IsPatternRefusedWithSyntax}
 use Rattle.regress_match.specs.declared.api.compile_and_replace_errors.Error.{Error}
 use Rattle.regress_match.specs.declared.api.compile_and_replace_errors.Error.TheVariants as error
-use Rattle.regress_c.specs.Codes.{refused_as}
-use Rattle.regress_c.specs.Compiling.{Compiles, Given, IsReadable, IsWithin, RefusesPattern}
+use Rattle.regress_c.specs.Codes.{refusal_of_compile_error}
+use Rattle.regress_c.specs.Compiling.{IsCompileResult, Given, HasValidTextAndFlags, IsPatternWithinBounds, RefusesPattern}
 use Rattle.regress_c.specs.declared.compiling.Bounds.{Bounds}
 use Rattle.regress_c.specs.declared.refusal.Refusal.{Refusal}
 use Rattle.regress_c.specs.declared.refusal.Refusal.TheVariants.{Empty, Full, NotUtf8, NotBoundary, ShortBuffer, Memory, StepLimit, Syntax}
@@ -19,7 +19,7 @@ use Rattle.regress_c.specs.declared.refusal.Refusal.TheVariants.{NoGroup, NotOpe
 abbrev pub IsOfCompiling : Given → Refusal → Type 0
 IsOfCompiling g r = (r ≡ Memory) ⊎ RefusesPattern g.syntax (flags_from_letters g.flags) g.characters r
 
-of-compiling : (g : Given) (e : Error) → IsPatternRefusedWithSyntax (spec_syntax_of g.syntax) (flags_from_letters g.flags) g.characters e → IsOfCompiling g (refused_as e)
+of-compiling : (g : Given) (e : Error) → IsPatternRefusedWithSyntax (spec_syntax_of g.syntax) (flags_from_letters g.flags) g.characters e → IsOfCompiling g (refusal_of_compile_error e)
 of-compiling g error.Memory refuses = inl refl
 of-compiling g (error.Parse (parse.Syntax d)) refuses = inr refuses.none
 of-compiling g (error.Parse parse.TooManyGroups) refuses = absurd refuses
@@ -35,8 +35,8 @@ the-pattern : {A B : Type 0} → A ⊎ B → (A → ⊥) → B
 the-pattern (inl a) f = absurd (f a)
 the-pattern (inr b) f = b
 
-module _ (g : Given) (bounds : Bounds) (readable : IsReadable g) (within : IsWithin bounds g.characters) where
-  refuses : (r : Refusal) → IsOfCompiling g r → Compiles g bounds (Err r)
+module _ (g : Given) (bounds : Bounds) (readable : HasValidTextAndFlags g) (within : IsPatternWithinBounds bounds g.characters) where
+  refuses : (r : Refusal) → IsOfCompiling g r → IsCompileResult g bounds (Err r)
   refuses Memory h = readable
   refuses Syntax h = (readable, within, the-pattern h (λ e. cc))
   refuses TooManyGroups h = (readable, within, the-pattern h (λ e. cc))
@@ -44,5 +44,5 @@ module _ (g : Given) (bounds : Bounds) (readable : IsReadable g) (within : IsWit
   refuses TooManyInstructions h = (readable, within, the-pattern h (λ e. cc))
   refuses _ h = absurd (the-pattern h (λ e. cc))
 
-  pub error-refuses : (e : Error) (r : Refusal) → IsPatternRefusedWithSyntax (spec_syntax_of g.syntax) (flags_from_letters g.flags) g.characters e → r ≡ refused_as e → Compiles g bounds (Err r)
+  pub error-refuses : (e : Error) (r : Refusal) → IsPatternRefusedWithSyntax (spec_syntax_of g.syntax) (flags_from_letters g.flags) g.characters e → r ≡ refusal_of_compile_error e → IsCompileResult g bounds (Err r)
   error-refuses e r can is = refuses r (subst (IsOfCompiling g) (sym is) (of-compiling g e can))

@@ -13,14 +13,14 @@ use Rattle.regress_match.specs.ProgramTreesAndAnswers.{bytes_as_utf8_text, tree_
 use Rattle.regress_match.specs.WorkBounds.{BoundedView, IsHigherOfProgramWorkBounds, IsPatternUnboundedBy, YieldsMatchesIfWorkSuffices, enough_work_for_text}
 use Rattle.regress_match.specs.declared.api.regex.Regex.{Regex}
 use Rattle.regress_c.specs.Codes.{refusal_of_work_error}
-use Rattle.regress_c.specs.FirstMatchInWork.{FindsInWork, IsFirstInWork, IsWorkBoundResult}
-use Rattle.regress_c.specs.Searching.{Starts, can_start_utf8}
+use Rattle.regress_c.specs.FirstMatchInWork.{IsFindResultWithinWork, IsFirstInWork, IsWorkBoundResult}
+use Rattle.regress_c.specs.Searching.{IsTextWithValidStart, can_start_utf8}
 use Rattle.regress_c.specs.declared.refusal.Refusal.{Refusal}
 use Rattle.regress_c.specs.declared.refusal.Refusal.TheVariants.{Memory, Unbounded, WorkLimit}
 
 module _ (re : Regex) (text : List ℕ) (start work left : ℕ) where
   pub started : (found : Result (Option Match) Refusal) → IsUtf8 text → can_start_utf8 text start → IsFirstInWork re text start work found left
-      → FindsInWork re text start work found left
+      → IsFindResultWithinWork re text start work found left
   started (Ok m) is can first = (is, can, first)
   started (Err Memory) is can first = (is, can, first)
   started (Err (Unbounded reason)) is can first = (is, can, first)
@@ -29,8 +29,8 @@ module _ (re : Regex) (text : List ℕ) (start work left : ℕ) where
 
 -- A search by the bounded pattern is a search by its pattern in the text with these bytes.
 pub found-by : (re : Regex) (bytes : List ℕ) (start work left : ℕ) (text : Bor (List ℕ)) (bounded : BoundedView) (found : Result (Option Match) Refusal)
-    → Starts bytes start (Ok text) → bounded.re ≡ re
-    → IsFirstInWork bounded.re text.now start work found left → FindsInWork re bytes start work found left
+    → IsTextWithValidStart bytes start (Ok text) → bounded.re ≡ re
+    → IsFirstInWork bounded.re text.now start work found left → IsFindResultWithinWork re bytes start work found left
 found-by re bytes start work left text bounded found starts of_re first =
     started re bytes start work left found starts.1 starts.2
     (subst (λ r. IsFirstInWork r bytes start work found left) of_re (subst (λ t. IsFirstInWork bounded.re t start work found left) starts.0 first))
@@ -42,12 +42,12 @@ enough-by re bounded of_re each = subst (λ r. IsHigherOfProgramWorkBounds r bou
 
 -- A pattern without a bound is refused with the reason.
 pub unbounded-by : (re : Regex) (bytes : List ℕ) (start work : ℕ) (text : Bor (List ℕ)) (reason : unbounded.Unbounded)
-    → Starts bytes start (Ok text) → IsPatternUnboundedBy re reason → FindsInWork re bytes start work (Err (Unbounded reason)) work
+    → IsTextWithValidStart bytes start (Ok text) → IsPatternUnboundedBy re reason → IsFindResultWithinWork re bytes start work (Err (Unbounded reason)) work
 unbounded-by re bytes start work text reason starts refused = (starts.1, starts.2, (refl, refused))
 
 -- The work bound is that of the pattern that the handle holds.
-pub work_bound_found-by : (held : Option Regex) (re at : Regex) (result : Result ℕ Refusal) → Some re ≡ held → at ≡ re → IsWorkBoundResult (Some at) result → IsWorkBoundResult held result
-work_bound_found-by held re at result taken same is =
+pub work_bound_or_refusal-by : (held : Option Regex) (re at : Regex) (result : Result ℕ Refusal) → Some re ≡ held → at ≡ re → IsWorkBoundResult (Some at) result → IsWorkBoundResult held result
+work_bound_or_refusal-by held re at result taken same is =
     subst (λ h. IsWorkBoundResult h result) taken (subst (λ r. IsWorkBoundResult (Some r) result) same is)
 
 -- A property of an error holds for the result that hands the error on.

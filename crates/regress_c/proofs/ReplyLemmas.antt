@@ -10,8 +10,8 @@ use Rattle.regex_meaning.specs.MatchGroupsByNumberAndName.{Answer, group}
 use Rattle.regress_search.specs.GroupIterators.{all_groups}
 use Rattle.regress_search.specs.MatchesAsSpecAnswers.{answer_of, range_as_pair}
 use Rattle.regress_search.specs.declared.exec.Match.{Match}
-use Rattle.regress_c.specs.Codes.{code_of, done}
-use Rattle.regress_c.specs.Replies.{buffer_after_search, reply_to, span_of, spans_of, written_over}
+use Rattle.regress_c.specs.Codes.{code_of_refusal, done}
+use Rattle.regress_c.specs.Replies.{buffer_after_search, reply_to, span_of, spans_of, with_front_overwritten}
 use Rattle.regress_c.specs.declared.refusal.Refusal.TheVariants.{ShortBuffer}
 use Rattle.regress_c.specs.declared.reply.Span.{Span}
 
@@ -51,7 +51,7 @@ module _ (m : Answer) where
   spans-count = ap suc (length-map m.captures span_of)
 
   pub written_all : (old : List Span) (count : ℕ) → count ≡ length (spans_of m)
-      → take count (spans_of m) ++ drop count old ≡ written_over (spans_of m) old
+      → take count (spans_of m) ++ drop count old ≡ with_front_overwritten (spans_of m) old
   written_all old count all = ap (λ n. take n (spans_of m) ++ drop n old) all ∙ ap (λ s. s ++ drop (length (spans_of m)) old) (take-length (spans_of m))
 
 module _ (m : Match) where
@@ -63,13 +63,13 @@ module _ (m : Match) where
       let all : length spans ≡ suc captures = spans-count (answer_of m) ∙ ap suc (length-map m.captures.items (option_map range_as_pair) ∙ e) in omega arith
 
   pub done_reply : (room : ℕ) → length spans ≤ room → reply_to (Ok (Some m)) room ≡ record { code = done; count = length spans }
-  done_reply room h = ap (λ b. record { code = if b then done else code_of ShortBuffer; count = length spans }) (le-leb (length spans) room h)
+  done_reply room h = ap (λ b. record { code = if b then done else code_of_refusal ShortBuffer; count = length spans }) (le-leb (length spans) room h)
 
-  pub short_reply : (room : ℕ) → room < length spans → reply_to (Ok (Some m)) room ≡ record { code = code_of ShortBuffer; count = length spans }
-  short_reply room h = ap (λ b. record { code = if b then done else code_of ShortBuffer; count = length spans }) (lt-leb (length spans) room h)
+  pub short_reply : (room : ℕ) → room < length spans → reply_to (Ok (Some m)) room ≡ record { code = code_of_refusal ShortBuffer; count = length spans }
+  short_reply room h = ap (λ b. record { code = if b then done else code_of_refusal ShortBuffer; count = length spans }) (lt-leb (length spans) room h)
 
-  pub done_left : (before : List Span) → length spans ≤ length before → buffer_after_search (Ok (Some m)) before ≡ written_over spans before
-  done_left before h = ap (λ b. if b then written_over spans before else before) (le-leb (length spans) (length before) h)
+  pub done_left : (before : List Span) → length spans ≤ length before → buffer_after_search (Ok (Some m)) before ≡ with_front_overwritten spans before
+  done_left before h = ap (λ b. if b then with_front_overwritten spans before else before) (le-leb (length spans) (length before) h)
 
   pub short_left : (before : List Span) → length before < length spans → buffer_after_search (Ok (Some m)) before ≡ before
-  short_left before h = ap (λ b. if b then written_over spans before else before) (lt-leb (length spans) (length before) h)
+  short_left before h = ap (λ b. if b then with_front_overwritten spans before else before) (lt-leb (length spans) (length before) h)

@@ -8,9 +8,9 @@ use Rattle.regress_search.specs.declared.exec.work_matches.WorkError.TheVariants
 use Rattle.regress_match.specs.ProgramTreesAndAnswers.{utf8_answers}
 use Rattle.regress_match.specs.WorkBounds.{IsPatternUnboundedBy}
 use Rattle.regress_match.specs.declared.api.regex.Regex.{Regex}
-use Rattle.regress_c.specs.Codes.{code_of, done, no_match, refusal_of_work_error}
-use Rattle.regress_c.specs.FirstMatchInWork.{IsUsedUp}
-use Rattle.regress_c.specs.Replies.{spans_of, written_over}
+use Rattle.regress_c.specs.Codes.{code_of_refusal, done, no_match, refusal_of_work_error}
+use Rattle.regress_c.specs.FirstMatchInWork.{IsWorkBudgetTooSmall}
+use Rattle.regress_c.specs.Replies.{spans_of, with_front_overwritten}
 use Rattle.regress_c.specs.Searching.{can_start_utf8}
 use Rattle.regress_c.specs.Texts.{range_count}
 use Rattle.regress_c.specs.declared.refusal.Refusal.{Refusal}
@@ -31,7 +31,7 @@ pub data Ending : Type 0 where
 abbrev pub code_of_ending : Ending → ℕ
 code_of_ending full = done
 code_of_ending over = no_match
-code_of_ending (failed error) = code_of (refusal_of_work_error error)
+code_of_ending (failed error) = code_of_refusal (refusal_of_work_error error)
 
 -- The matches that were written, the matches that remain, and why no more were written.
 pub record Written : Type 0 where
@@ -40,34 +40,35 @@ pub record Written : Type 0 where
   pub ending : Ending
 
 -- The reply after matches were written: their number, and the code of why no more were written.
-abbrev pub written_reply : Written → Reply
-written_reply w = record { code = code_of_ending w.ending; count = length w.found }
+abbrev pub reply_after_writing : Written → Reply
+reply_after_writing w = record { code = code_of_ending w.ending; count = length w.found }
 
 -- The buffer after matches were written. It has the ranges of one match after another.
 abbrev pub spans_written : Written → (before : List Span) → List Span
-spans_written w before = written_over (flat_map spans_of w.found) before
+spans_written w before = with_front_overwritten (flat_map spans_of w.found) before
 
 -- An iterator over matches with `ranges` ranges each. Its view is `before` at first and `behind` at
 -- the end.
 module _ (ranges room : ℕ) (before behind : RemainingAnswersAndWork) where
   -- When no further match of the iterator is written.
-  abbrev pub EndsIterator : Written → Ending → Type 0
-  EndsIterator w full = room < (length w.found + 1) * ranges
-  EndsIterator w over = w.rest ≡ []
-  EndsIterator w (failed worked.Memory) = Unit {0}
-  EndsIterator w (failed worked.WorkLimit) = (before.enough ≡ false) × (behind.left ≡ 0)
+  abbrev pub IsEndingOfIterator : Written → Ending → Type 0
+  IsEndingOfIterator w full = room < (length w.found + 1) * ranges
+  IsEndingOfIterator w over = w.rest ≡ []
+  IsEndingOfIterator w (failed worked.Memory) = Unit {0}
+  IsEndingOfIterator w (failed worked.WorkLimit) = (before.enough ≡ false) × (behind.left ≡ 0)
 
   -- The matches of the iterator are those that were written, followed by those that remain.
   pub record IsWritten (w : Written) : Type 0 where
     pub answers : before.remaining.answers ≡ w.found ++ w.rest
     pub fewer : behind.left ≤ before.left
-    pub ends : EndsIterator w w.ending
+    pub ends : IsEndingOfIterator w w.ending
 
 -- The matches of an iterator are written, and the reply says how many.
-abbrev pub WritesInWork : (ranges : ℕ) → (before behind : RemainingAnswersAndWork) → (old new : List Span) → Reply
+abbrev pub WritesMatchesWithinWork : (ranges : ℕ) → (before behind : RemainingAnswersAndWork) → (old new : List Span)
+    → Reply
     → Type 0
-WritesInWork ranges before behind old new reply = (w : Written)
-    × IsWritten ranges (length old) before behind w × (reply ≡ written_reply w) × (new ≡ spans_written w old)
+WritesMatchesWithinWork ranges before behind old new reply = (w : Written)
+    × IsWritten ranges (length old) before behind w × (reply ≡ reply_after_writing w) × (new ≡ spans_written w old)
 
 -- ---- Matches in a text
 
@@ -76,20 +77,20 @@ WritesInWork ranges before behind old new reply = (w : Written)
 module _ (re : Regex) (text : List ℕ) (work left room : ℕ) where
   -- When no further match is written. There is no room for its ranges, no match remains, an
   -- allocation failed, or the work did not suffice and none is left.
-  abbrev pub EndsInWork : Written → Ending → Type 0
-  EndsInWork w full = room < (length w.found + 1) * range_count re
-  EndsInWork w over = w.rest ≡ []
-  EndsInWork w (failed worked.Memory) = Unit {0}
-  EndsInWork w (failed worked.WorkLimit) = IsUsedUp re text work left
+  abbrev pub IsEndingWithinWork : Written → Ending → Type 0
+  IsEndingWithinWork w full = room < (length w.found + 1) * range_count re
+  IsEndingWithinWork w over = w.rest ≡ []
+  IsEndingWithinWork w (failed worked.Memory) = Unit {0}
+  IsEndingWithinWork w (failed worked.WorkLimit) = IsWorkBudgetTooSmall re text work left
 
   -- The matches from `start` on are the written ones, followed by those that remain. There is room
   -- for at least one match.
-  pub record RunsInWork (start : ℕ) (w : Written) : Type 0 where
+  pub record IsRunWithinWork (start : ℕ) (w : Written) : Type 0 where
     pub answers : utf8_answers re text start ≡ w.found ++ w.rest
     pub fits : range_count re ≤ room
     pub fewer : left ≤ work
     pub ranges : Each (λ m. length (spans_of m) ≡ range_count re) w.found
-    pub ends : EndsInWork w w.ending
+    pub ends : IsEndingWithinWork w w.ending
 
 -- When a call is refused before it searches. Then it takes no work.
 abbrev pub RefusesAllInWork : Regex → (text : List ℕ) → (start : ℕ) → Refusal → Type 0
@@ -108,18 +109,18 @@ pub data Outcome : Type 0 where
   refused : Refusal → Outcome
 
 -- The outcome of a call with this pattern.
-abbrev pub IsCallResult : Regex → (text : List ℕ) → (start work left room : ℕ) → Outcome → Type 0
-IsCallResult re text start work left room (ran w) = IsUtf8 text × can_start_utf8 text start
-    × RunsInWork re text work left room start w
-IsCallResult re text start work left room short = IsUtf8 text × can_start_utf8 text start × (room < range_count re)
+abbrev pub IsFindAllOutcome : Regex → (text : List ℕ) → (start work left room : ℕ) → Outcome → Type 0
+IsFindAllOutcome re text start work left room (ran w) = IsUtf8 text × can_start_utf8 text start
+    × IsRunWithinWork re text work left room start w
+IsFindAllOutcome re text start work left room short = IsUtf8 text × can_start_utf8 text start × (room < range_count re)
     × (left ≡ work)
-IsCallResult re text start work left room (refused refusal) = RefusesAllInWork re text start refusal × (left ≡ work)
+IsFindAllOutcome re text start work left room (refused refusal) = RefusesAllInWork re text start refusal × (left ≡ work)
 
 -- The reply for an outcome.
 abbrev pub outcome_reply : Regex → Outcome → Reply
-outcome_reply re (ran w) = written_reply w
-outcome_reply re short = record { code = code_of ShortBuffer; count = range_count re }
-outcome_reply re (refused refusal) = record { code = code_of refusal; count = 0 }
+outcome_reply re (ran w) = reply_after_writing w
+outcome_reply re short = record { code = code_of_refusal ShortBuffer; count = range_count re }
+outcome_reply re (refused refusal) = record { code = code_of_refusal refusal; count = 0 }
 
 -- The buffer after an outcome.
 abbrev pub spans_after_outcome : Outcome → (before : List Span) → List Span
@@ -131,7 +132,7 @@ spans_after_outcome (refused refusal) before = before
 abbrev pub RepliesOutcome : Regex → (text : List ℕ) → (start work left : ℕ) → (before after : List Span) → Reply
     → Type 0
 RepliesOutcome re text start work left before after reply = (o : Outcome)
-    × IsCallResult re text start work left (length before) o × (reply ≡ outcome_reply re o)
+    × IsFindAllOutcome re text start work left (length before) o × (reply ≡ outcome_reply re o)
     × (after ≡ spans_after_outcome o before)
 
 -- The reply of a call. If the call is refused, neither the work nor the buffer changes.
@@ -146,6 +147,6 @@ FillsInWork re text start work left before after (Err refusal) = RefusesAllInWor
 abbrev pub RepliesAllInWork : (held : Option Regex) → (text : List ℕ) → (start work left : ℕ)
     → (before after : List Span) → Reply → Type 0
 RepliesAllInWork None text start work left before after reply =
-    (reply ≡ record { code = code_of Empty; count = 0 }) × (left ≡ work) × (after ≡ before)
+    (reply ≡ record { code = code_of_refusal Empty; count = 0 }) × (left ≡ work) × (after ≡ before)
 RepliesAllInWork (Some re) text start work left before after reply =
     RepliesOutcome re text start work left before after reply

@@ -24,44 +24,44 @@ abbrev pub no_match : ℕ
 no_match = 1
 
 -- The code of each reason for which no work bound is known.
-abbrev pub code_of_reason : unbounded.Unbounded → ℕ
-code_of_reason cause.Memory = 7
-code_of_reason cause.Lookaround = 19
-code_of_reason cause.Backreference = 22
-code_of_reason cause.Count = 23
-code_of_reason cause.BoundTooLarge = 24
+abbrev pub code_of_unbounded_reason : unbounded.Unbounded → ℕ
+code_of_unbounded_reason cause.Memory = 7
+code_of_unbounded_reason cause.Lookaround = 19
+code_of_unbounded_reason cause.Backreference = 22
+code_of_unbounded_reason cause.Count = 23
+code_of_unbounded_reason cause.BoundTooLarge = 24
 
 -- The code of each refusal.
-abbrev pub code_of : Refusal → ℕ
-code_of Empty = 2
-code_of Full = 3
-code_of NotUtf8 = 4
-code_of NotBoundary = 5
-code_of ShortBuffer = 6
-code_of Memory = 7
-code_of StepLimit = 8
-code_of Syntax = 9
-code_of TooManyGroups = 10
-code_of TooManyLoops = 11
-code_of TooManyInstructions = 12
-code_of UnknownFlag = 13
-code_of TooLong = 14
-code_of TooDeep = 15
-code_of NoGroup = 16
-code_of NotOpen = 17
-code_of NotCounted = 18
-code_of (Unbounded reason) = code_of_reason reason
-code_of WorkLimit = 20
-code_of UnknownSyntax = 21
+abbrev pub code_of_refusal : Refusal → ℕ
+code_of_refusal Empty = 2
+code_of_refusal Full = 3
+code_of_refusal NotUtf8 = 4
+code_of_refusal NotBoundary = 5
+code_of_refusal ShortBuffer = 6
+code_of_refusal Memory = 7
+code_of_refusal StepLimit = 8
+code_of_refusal Syntax = 9
+code_of_refusal TooManyGroups = 10
+code_of_refusal TooManyLoops = 11
+code_of_refusal TooManyInstructions = 12
+code_of_refusal UnknownFlag = 13
+code_of_refusal TooLong = 14
+code_of_refusal TooDeep = 15
+code_of_refusal NoGroup = 16
+code_of_refusal NotOpen = 17
+code_of_refusal NotCounted = 18
+code_of_refusal (Unbounded reason) = code_of_unbounded_reason reason
+code_of_refusal WorkLimit = 20
+code_of_refusal UnknownSyntax = 21
 
 -- The refusal for an error of compiling a pattern. All errors that are not listed are reported as
 -- `Memory`.
-abbrev pub refused_as : Error → Refusal
-refused_as (error.Parse (parse.Syntax d)) = Syntax
-refused_as (error.Emit emit.TooManyGroups) = TooManyGroups
-refused_as (error.Emit emit.TooManyLoops) = TooManyLoops
-refused_as (error.Emit emit.TooManyInstructions) = TooManyInstructions
-refused_as _ = Memory
+abbrev pub refusal_of_compile_error : Error → Refusal
+refusal_of_compile_error (error.Parse (parse.Syntax d)) = Syntax
+refusal_of_compile_error (error.Emit emit.TooManyGroups) = TooManyGroups
+refusal_of_compile_error (error.Emit emit.TooManyLoops) = TooManyLoops
+refusal_of_compile_error (error.Emit emit.TooManyInstructions) = TooManyInstructions
+refusal_of_compile_error _ = Memory
 
 -- The refusal for an error of a search.
 abbrev pub refusal_of_search_error : SearchError → Refusal

@@ -11,7 +11,7 @@ use Rattle.regress_program.specs.declared.emit.EmitError.TheVariants as emit
 use Rattle.regress_match.specs.ProgramTreesAndAnswers.{IsCompiledWithSyntax}
 use Rattle.regress_match.specs.CompileErrors.{ExceedsLimitWithSyntax}
 use Rattle.regress_match.specs.declared.api.regex.Regex.{Regex}
-use Rattle.regress_c.specs.Codes.{code_of, done}
+use Rattle.regress_c.specs.Codes.{code_of_refusal, done}
 use Rattle.regress_c.specs.Reading.{AreFlags}
 use Rattle.regress_c.specs.declared.compiling.Bounds.{Bounds}
 use Rattle.regress_c.specs.declared.refusal.Refusal.{Refusal}
@@ -36,7 +36,7 @@ abbrev pub given : (is_text : Type 0) → (characters flags : List ℕ) → Give
 given = given_with_syntax Profile
 
 -- All letters are letters of flags, and the pattern is valid in its encoding.
-pub record IsReadable (g : Given) : Type 0 where
+pub record HasValidTextAndFlags (g : Given) : Type 0 where
   pub letters : AreFlags g.flags
   pub text : g.is_text
 
@@ -45,7 +45,7 @@ abbrev pub unbounded : Bounds
 unbounded = record { length = 2 ^ 64 - 1; nesting = 2 ^ 64 - 1 }
 
 -- The length and the nesting depth of the pattern are within the bounds.
-pub record IsWithin (bounds : Bounds) (characters : List ℕ) : Type 0 where
+pub record IsPatternWithinBounds (bounds : Bounds) (characters : List ℕ) : Type 0 where
   pub length_is : length characters ≤ bounds.length
   pub nesting_is : greatest_parenthesis_depth_in characters ≤ bounds.nesting
 
@@ -61,56 +61,62 @@ RefusesPattern syntax flags characters TooManyInstructions =
 RefusesPattern syntax flags characters _ = ⊥
 
 -- The result of compiling: the compiled pattern, or a refusal.
-abbrev pub Compiles : Given → Bounds → Result Regex Refusal → Type 0
-Compiles g bounds (Ok re) =
-    IsReadable g × IsWithin bounds g.characters × IsCompiledWithSyntax (spec_syntax_of g.syntax)
+abbrev pub IsCompileResult : Given → Bounds → Result Regex Refusal → Type 0
+IsCompileResult g bounds (Ok re) =
+    HasValidTextAndFlags g × IsPatternWithinBounds bounds g.characters × IsCompiledWithSyntax (spec_syntax_of g.syntax)
     (flags_from_letters g.flags) g.characters re
-Compiles g bounds (Err UnknownFlag) = ¬ AreFlags g.flags
-Compiles g bounds (Err NotUtf8) = ¬ g.is_text
-Compiles g bounds (Err Memory) = IsReadable g
-Compiles g bounds (Err TooLong) = IsReadable g × (bounds.length < length g.characters)
-Compiles g bounds (Err TooDeep) = IsReadable g × (bounds.nesting < greatest_parenthesis_depth_in g.characters)
-Compiles g bounds (Err refusal) = IsReadable g × IsWithin bounds g.characters
+IsCompileResult g bounds (Err UnknownFlag) = ¬ AreFlags g.flags
+IsCompileResult g bounds (Err NotUtf8) = ¬ g.is_text
+IsCompileResult g bounds (Err Memory) = HasValidTextAndFlags g
+IsCompileResult g bounds (Err TooLong) = HasValidTextAndFlags g × (bounds.length < length g.characters)
+IsCompileResult g bounds (Err TooDeep) = HasValidTextAndFlags g
+    × (bounds.nesting < greatest_parenthesis_depth_in g.characters)
+IsCompileResult g bounds (Err refusal) = HasValidTextAndFlags g × IsPatternWithinBounds bounds g.characters
     × RefusesPattern g.syntax (flags_from_letters g.flags) g.characters refusal
 
 -- The result of compiling into a handle that holds `held`. If the handle is not empty, the call is
 -- refused.
-abbrev pub CompilesInto : (held : Option Regex) → Given → Bounds → Result Regex Refusal → Type 0
-CompilesInto None g bounds made = Compiles g bounds made
-CompilesInto (Some re) g bounds made = made ≡ Err Full
+abbrev pub IsCompileResultForHandle : (held : Option Regex) → Given → Bounds → Result Regex Refusal → Type 0
+IsCompileResultForHandle None g bounds made = IsCompileResult g bounds made
+IsCompileResultForHandle (Some re) g bounds made = made ≡ Err Full
 
 -- The code of a result.
-abbrev pub code_of_made : Result Regex Refusal → ℕ
-code_of_made (Ok re) = done
-code_of_made (Err refusal) = code_of refusal
+abbrev pub code_of_compile_result : Result Regex Refusal → ℕ
+code_of_compile_result (Ok re) = done
+code_of_compile_result (Err refusal) = code_of_refusal refusal
 
 -- The content of a handle after a result. Before, it held `held`.
-abbrev pub held_after : (held : Option Regex) → Result Regex Refusal → Option Regex
-held_after held (Ok re) = Some re
-held_after held (Err refusal) = held
+abbrev pub handle_content_after_compiling : (held : Option Regex) → Result Regex Refusal → Option Regex
+handle_content_after_compiling held (Ok re) = Some re
+handle_content_after_compiling held (Err refusal) = held
 
 -- The code and the final handle are those of some result of compiling.
-abbrev pub RepliesMade : (before : Option Regex) → Given → Bounds → (after : Option Regex) → (code : ℕ) → Type 0
-RepliesMade before g bounds after code = (made : Result Regex Refusal)
-    × CompilesInto before g bounds made × (code ≡ code_of_made made) × (after ≡ held_after before made)
+abbrev pub RepliesCompileResult : (before : Option Regex) → Given → Bounds → (after : Option Regex) → (code : ℕ)
+    → Type 0
+RepliesCompileResult before g bounds after code = (made : Result Regex Refusal)
+    × IsCompileResultForHandle before g bounds made × (code ≡ code_of_compile_result made)
+    × (after ≡ handle_content_after_compiling before made)
 
--- `RepliesMade` for a pattern of the given language. If there is no language, the call is refused
+-- `RepliesCompileResult` for a pattern of the given language. If there is no language, the call is refused
 -- and the handle is unchanged.
-abbrev pub RepliesMadeWithSyntax :
+abbrev pub RepliesCompileResultWithSyntax :
     (before : Option Regex) → Option pattern.Syntax → (pattern.Syntax → Given) → Bounds → (after : Option Regex)
     → (code : ℕ) → Type 0
-RepliesMadeWithSyntax before None g bounds after code = (code ≡ code_of UnknownSyntax) × (after ≡ before)
-RepliesMadeWithSyntax before (Some syntax) g bounds after code = RepliesMade before (g syntax) bounds after code
+RepliesCompileResultWithSyntax before None g bounds after code = (code ≡ code_of_refusal UnknownSyntax)
+    × (after ≡ before)
+RepliesCompileResultWithSyntax before (Some syntax) g bounds after code =
+    RepliesCompileResult before (g syntax) bounds after code
 
 -- The result of copying: an equal pattern if the first handle holds one and the second is empty.
 -- Otherwise the call is refused. An allocation may also fail.
-abbrev pub ClonesInto : (held into : Option Regex) → Result Regex Refusal → Type 0
-ClonesInto None into made = made ≡ Err Empty
-ClonesInto (Some re) (Some other) made = made ≡ Err Full
-ClonesInto (Some re) None (Ok copy) = copy ≡ re
-ClonesInto (Some re) None (Err refusal) = refusal ≡ Memory
+abbrev pub IsCloneResultForHandle : (held into : Option Regex) → Result Regex Refusal → Type 0
+IsCloneResultForHandle None into made = made ≡ Err Empty
+IsCloneResultForHandle (Some re) (Some other) made = made ≡ Err Full
+IsCloneResultForHandle (Some re) None (Ok copy) = copy ≡ re
+IsCloneResultForHandle (Some re) None (Err refusal) = refusal ≡ Memory
 
 -- The code and the final content of the second handle are those of some result of copying.
 abbrev pub RepliesCloned : (held before after : Option Regex) → (code : ℕ) → Type 0
 RepliesCloned held before after code = (made : Result Regex Refusal)
-    × ClonesInto held before made × (code ≡ code_of_made made) × (after ≡ held_after before made)
+    × IsCloneResultForHandle held before made × (code ≡ code_of_compile_result made)
+    × (after ≡ handle_content_after_compiling before made)

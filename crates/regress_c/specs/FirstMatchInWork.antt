@@ -6,7 +6,7 @@ use Rattle.regress_search.specs.declared.exec.Match.{Match}
 use Rattle.regress_match.specs.ProgramTreesAndAnswers.{bytes_as_utf8_text, utf8_answers}
 use Rattle.regress_match.specs.WorkBounds.{IsHigherOfProgramWorkBounds, IsPatternUnboundedBy, enough_work_for_text}
 use Rattle.regress_match.specs.declared.api.regex.Regex.{Regex}
-use Rattle.regress_c.specs.Codes.{code_of, done}
+use Rattle.regress_c.specs.Codes.{code_of_refusal, done}
 use Rattle.regress_c.specs.Replies.{buffer_after_search, reply_to}
 use Rattle.regress_c.specs.Searching.{can_start_utf8}
 use Rattle.regress_c.specs.declared.refusal.Refusal.{Refusal}
@@ -15,8 +15,8 @@ use Rattle.regress_c.specs.declared.reply.Reply.{Reply}
 use Rattle.regress_c.specs.declared.reply.Span.{Span}
 
 -- No work is left, and the budget was less than what the pattern's bound requires for the text.
-abbrev pub IsUsedUp : Regex → (text : List ℕ) → (work left : ℕ) → Type 0
-IsUsedUp re text work left = (left ≡ 0) × ((per_unit : ℕ) × IsHigherOfProgramWorkBounds re per_unit
+abbrev pub IsWorkBudgetTooSmall : Regex → (text : List ℕ) → (work left : ℕ) → Type 0
+IsWorkBudgetTooSmall re text work left = (left ≡ 0) × ((per_unit : ℕ) × IsHigherOfProgramWorkBounds re per_unit
     × (work < enough_work_for_text per_unit (bytes_as_utf8_text re text)))
 
 -- The result of the search: the first match from `start` on, `None` exactly if there is none, or a
@@ -27,28 +27,32 @@ IsFirstInWork re text start work (Ok m) left = (option_map answer_of m ≡ slice
     × (left ≤ work)
 IsFirstInWork re text start work (Err Memory) left = left ≤ work
 IsFirstInWork re text start work (Err (Unbounded reason)) left = (left ≡ work) × IsPatternUnboundedBy re reason
-IsFirstInWork re text start work (Err WorkLimit) left = IsUsedUp re text work left
+IsFirstInWork re text start work (Err WorkLimit) left = IsWorkBudgetTooSmall re text work left
 IsFirstInWork re text start work (Err _) left = ⊥
 
 -- The result after checking that the bytes are UTF-8 and that a search may start at `start`.
-abbrev pub FindsInWork : Regex → (text : List ℕ) → (start work : ℕ) → Result (Option Match) Refusal → (left : ℕ)
+abbrev pub IsFindResultWithinWork : Regex → (text : List ℕ) → (start work : ℕ) → Result (Option Match) Refusal
+    → (left : ℕ)
     → Type 0
-FindsInWork re text start work (Err NotUtf8) left = (¬ IsUtf8 text) × (left ≡ work)
-FindsInWork re text start work (Err NotBoundary) left = IsUtf8 text × (¬ can_start_utf8 text start) × (left ≡ work)
-FindsInWork re text start work found left = IsUtf8 text × can_start_utf8 text start
+IsFindResultWithinWork re text start work (Err NotUtf8) left = (¬ IsUtf8 text) × (left ≡ work)
+IsFindResultWithinWork re text start work (Err NotBoundary) left = IsUtf8 text × (¬ can_start_utf8 text start)
+    × (left ≡ work)
+IsFindResultWithinWork re text start work found left = IsUtf8 text × can_start_utf8 text start
     × IsFirstInWork re text start work found left
 
 -- The result for the handle's pattern. The call is refused if the handle is empty.
-abbrev pub FindsInWorkBy : (held : Option Regex) → (text : List ℕ) → (start work : ℕ) → Result (Option Match) Refusal
+abbrev pub IsFindResultOfHandleWithinWork : (held : Option Regex) → (text : List ℕ) → (start work : ℕ)
+    → Result (Option Match) Refusal
     → (left : ℕ) → Type 0
-FindsInWorkBy None text start work found left = (found ≡ Err Empty) × (left ≡ work)
-FindsInWorkBy (Some re) text start work found left = FindsInWork re text start work found left
+IsFindResultOfHandleWithinWork None text start work found left = (found ≡ Err Empty) × (left ≡ work)
+IsFindResultOfHandleWithinWork (Some re) text start work found left =
+    IsFindResultWithinWork re text start work found left
 
 -- The reply and the final buffer are those of some result, and `left` is the work that is left.
 abbrev pub RepliesInWork : (held : Option Regex) → (text : List ℕ) → (start work left : ℕ) → (before after : List Span)
     → Reply → Type 0
 RepliesInWork held text start work left before after reply = (found : Result (Option Match) Refusal)
-    × FindsInWorkBy held text start work found left × (reply ≡ reply_to found (length before))
+    × IsFindResultOfHandleWithinWork held text start work found left × (reply ≡ reply_to found (length before))
     × (after ≡ buffer_after_search found before)
 
 -- The result is the work bound of the handle's pattern, or the reason why it has none.
@@ -61,7 +65,7 @@ IsWorkBoundResult (Some re) (Err _) = ⊥
 -- The code of a result.
 abbrev pub code_of_work_bound : Result ℕ Refusal → ℕ
 code_of_work_bound (Ok per_unit) = done
-code_of_work_bound (Err refusal) = code_of refusal
+code_of_work_bound (Err refusal) = code_of_refusal refusal
 
 -- The caller's variable after a result. It held `before`.
 abbrev pub number_after_work_bound : Result ℕ Refusal → (before : ℕ) → ℕ
@@ -70,6 +74,6 @@ number_after_work_bound (Err refusal) before = before
 
 -- The code and the caller's final variable are those of some result.
 abbrev pub RepliesWorkBound : (held : Option Regex) → (before after : ℕ) → (code : ℕ) → Type 0
-RepliesWorkBound held before after code = (work_bound_found : Result ℕ Refusal)
-    × IsWorkBoundResult held work_bound_found × (code ≡ code_of_work_bound work_bound_found)
-    × (after ≡ number_after_work_bound work_bound_found before)
+RepliesWorkBound held before after code = (work_bound_or_refusal : Result ℕ Refusal)
+    × IsWorkBoundResult held work_bound_or_refusal × (code ≡ code_of_work_bound work_bound_or_refusal)
+    × (after ≡ number_after_work_bound work_bound_or_refusal before)

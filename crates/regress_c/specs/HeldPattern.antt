@@ -12,6 +12,6 @@ abbrev pub global : Global
 global = record { memory = record { seal = tt } }
 
 -- What a handle with this pointer and this content owns.
-abbrev pub held_owns : (R : RattleType) → Ptr → Option R.Denot → Fml
-held_owns R p (Some x) = box_owns (ghosts.dealloc_token global) R p x
-held_owns R p None = fex (p ≡ null_ptr) (λ _. ftrue)
+abbrev pub ownership_of_handle : (R : RattleType) → Ptr → Option R.Denot → Fml
+ownership_of_handle R p (Some x) = box_owns (ghosts.dealloc_token global) R p x
+ownership_of_handle R p None = fex (p ≡ null_ptr) (λ _. ftrue)

@@ -6,18 +6,21 @@ use Rattle.regress_match.specs.declared.api.regex.Regex.{Regex}
 use Rattle.regress_c.specs.Searching.{MatchesToCome}
 
 -- The match as a list. Empty if there is none.
-abbrev pub at_most_one : Option Answer → List Answer
-at_most_one None = []
-at_most_one (Some m) = m ∷ []
+abbrev pub option_as_list : Option Answer → List Answer
+option_as_list None = []
+option_as_list (Some m) = m ∷ []
 
 -- The match that begins at `at` in a UTF-8 text.
-abbrev pub utf8_coming_at : (text : List ℕ) → Regex → (at : ℕ) → MatchesToCome
-utf8_coming_at text re at = record { answers = at_most_one (utf8_answer_beginning_at re text at); limited = false }
+abbrev pub utf8_match_to_come_at : (text : List ℕ) → Regex → (at : ℕ) → MatchesToCome
+utf8_match_to_come_at text re at =
+    record { answers = option_as_list (utf8_answer_beginning_at re text at); limited = false }
 
 -- The match that begins at `at` in a UTF-16 text.
-abbrev pub utf16_coming_at : (text : List ℕ) → Regex → (at : ℕ) → MatchesToCome
-utf16_coming_at text re at = record { answers = at_most_one (utf16_answer_beginning_at re text at); limited = false }
+abbrev pub utf16_match_to_come_at : (text : List ℕ) → Regex → (at : ℕ) → MatchesToCome
+utf16_match_to_come_at text re at =
+    record { answers = option_as_list (utf16_answer_beginning_at re text at); limited = false }
 
 -- The match that begins at `at` in a UCS-2 text.
-abbrev pub ucs2_coming_at : (text : List ℕ) → Regex → (at : ℕ) → MatchesToCome
-ucs2_coming_at text re at = record { answers = at_most_one (ucs2_answer_beginning_at re text at); limited = false }
+abbrev pub ucs2_match_to_come_at : (text : List ℕ) → Regex → (at : ℕ) → MatchesToCome
+ucs2_match_to_come_at text re at =
+    record { answers = option_as_list (ucs2_answer_beginning_at re text at); limited = false }

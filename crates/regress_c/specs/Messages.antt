@@ -2,8 +2,8 @@
 use Rattle.std.specs.Prelude.{ℕ, List, ◌==◌, if◌then◌else◌, codes}
 
 -- The text of a code, in ASCII.
-abbrev pub message_of : (code : ℕ) → List ℕ
-message_of code =
+abbrev pub message_of_code : (code : ℕ) → List ℕ
+message_of_code code =
     if code == 0 then codes "done"
     else if code == 1 then codes "no match"
     else if code == 2 then codes "the handle holds no pattern"
@@ -14,9 +14,9 @@ message_of code =
     else if code == 7 then codes "out of memory"
     else if code == 8 then codes "the step limit is reached"
     else if code == 9 then codes "the pattern has a syntax error"
-    else if code == 10 then codes "too many groups"
-    else if code == 11 then codes "too many loops"
-    else if code == 12 then codes "too many instructions"
+    else if code == 10 then codes "too many groups (at most 65535)"
+    else if code == 11 then codes "too many loops (at most 65535)"
+    else if code == 12 then codes "too many instructions (at most 4294967295)"
     else if code == 13 then codes "unknown flag"
     else if code == 14 then codes "the pattern is too long"
     else if code == 15 then codes "the pattern is nested too deeply"

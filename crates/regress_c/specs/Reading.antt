@@ -19,18 +19,19 @@ AreFlags letters = All (λ c. IsTrue (is_flag_letter c)) letters
 
 -- The result is the flags with these letters, or `UnknownFlag` if some letter is not the letter of
 -- a flag.
-abbrev pub ReadsFlags : (letters : List ℕ) → Result Flags Refusal → Type 0
-ReadsFlags letters (Ok flags) = AreFlags letters × (spec_flags_of flags ≡ flags_from_letters letters)
-ReadsFlags letters (Err UnknownFlag) = ¬ AreFlags letters
-ReadsFlags letters (Err _) = ⊥
+abbrev pub IsFlagsReadResult : (letters : List ℕ) → Result Flags Refusal → Type 0
+IsFlagsReadResult letters (Ok flags) = AreFlags letters × (spec_flags_of flags ≡ flags_from_letters letters)
+IsFlagsReadResult letters (Err UnknownFlag) = ¬ AreFlags letters
+IsFlagsReadResult letters (Err _) = ⊥
 
 -- The language with this number. `None` if there is no such language.
 abbrev pub syntax_of_number : (number : ℕ) → Option Syntax
 syntax_of_number number = if number == 0 then Some Profile else if number == 1 then Some EcmaScript2018 else None
 
 -- The result is the code points of a pattern, or `NotUtf8` if it is not valid in its encoding.
-abbrev pub Reads : {Z : Type 0} → (is_text : Type 0) → (characters : List ℕ) → Result (Vec ℕ Z) Refusal → Type 0
-Reads is_text characters (Ok v) = is_text × (v.items ≡ characters)
-Reads is_text characters (Err NotUtf8) = ¬ is_text
-Reads is_text characters (Err Memory) = is_text
-Reads is_text characters (Err _) = ⊥
+abbrev pub IsPatternReadResult : {Z : Type 0} → (is_text : Type 0) → (characters : List ℕ) → Result (Vec ℕ Z) Refusal
+    → Type 0
+IsPatternReadResult is_text characters (Ok v) = is_text × (v.items ≡ characters)
+IsPatternReadResult is_text characters (Err NotUtf8) = ¬ is_text
+IsPatternReadResult is_text characters (Err Memory) = is_text
+IsPatternReadResult is_text characters (Err _) = ⊥

@@ -42,34 +42,35 @@ can_start_utf16 text start = IsTrue (is_unit_boundary text start) ⊎ (length te
 
 -- The result is the first of the remaining matches, or `None` exactly if there is none and no step
 -- limit. The search is refused at a step limit, or if an allocation fails.
-abbrev pub IsFirst : MatchesToCome → Result (Option Match) Refusal → Type 0
-IsFirst coming (Ok m) = (option_map answer_of m ≡ slice_get coming.answers 0) × IfNone m (coming.limited ≡ false)
-IsFirst coming (Err Memory) = Unit {0}
-IsFirst coming (Err StepLimit) = (coming.answers ≡ []) × (coming.limited ≡ true)
-IsFirst coming (Err _) = ⊥
+abbrev pub IsFirstOfRemainingMatches : MatchesToCome → Result (Option Match) Refusal → Type 0
+IsFirstOfRemainingMatches coming (Ok m) = (option_map answer_of m ≡ slice_get coming.answers 0)
+    × IfNone m (coming.limited ≡ false)
+IsFirstOfRemainingMatches coming (Err Memory) = Unit {0}
+IsFirstOfRemainingMatches coming (Err StepLimit) = (coming.answers ≡ []) × (coming.limited ≡ true)
+IsFirstOfRemainingMatches coming (Err _) = ⊥
 
 -- The result after the text and the start are checked.
 abbrev pub Finds : (is_text can_start : Type 0) → MatchesToCome → Result (Option Match) Refusal → Type 0
 Finds is_text can_start coming (Err NotUtf8) = ¬ is_text
 Finds is_text can_start coming (Err NotBoundary) = is_text × ¬ can_start
-Finds is_text can_start coming found = is_text × can_start × IsFirst coming found
+Finds is_text can_start coming found = is_text × can_start × IsFirstOfRemainingMatches coming found
 
 -- The result is the text with these bytes, if they are UTF-8 and a search may start at `start`.
-abbrev pub Starts : (bytes : List ℕ) → (start : ℕ) → Result (Bor (List ℕ)) Refusal → Type 0
-Starts bytes start (Ok text) = (text.now ≡ bytes) × IsUtf8 bytes × can_start_utf8 bytes start
-Starts bytes start (Err NotUtf8) = ¬ IsUtf8 bytes
-Starts bytes start (Err NotBoundary) = IsUtf8 bytes × ¬ can_start_utf8 bytes start
-Starts bytes start (Err _) = ⊥
+abbrev pub IsTextWithValidStart : (bytes : List ℕ) → (start : ℕ) → Result (Bor (List ℕ)) Refusal → Type 0
+IsTextWithValidStart bytes start (Ok text) = (text.now ≡ bytes) × IsUtf8 bytes × can_start_utf8 bytes start
+IsTextWithValidStart bytes start (Err NotUtf8) = ¬ IsUtf8 bytes
+IsTextWithValidStart bytes start (Err NotBoundary) = IsUtf8 bytes × ¬ can_start_utf8 bytes start
+IsTextWithValidStart bytes start (Err _) = ⊥
 
 -- The result for the handle's pattern. The call is refused if the handle is empty.
-abbrev pub FindsBy : (held : Option Regex) → (is_text can_start : Type 0) → (Regex → MatchesToCome)
+abbrev pub IsFindResultOfHandle : (held : Option Regex) → (is_text can_start : Type 0) → (Regex → MatchesToCome)
     → Result (Option Match) Refusal → Type 0
-FindsBy None is_text can_start coming found = found ≡ Err Empty
-FindsBy (Some re) is_text can_start coming found = Finds is_text can_start (coming re) found
+IsFindResultOfHandle None is_text can_start coming found = found ≡ Err Empty
+IsFindResultOfHandle (Some re) is_text can_start coming found = Finds is_text can_start (coming re) found
 
 -- The reply and the final buffer are those of some result.
 abbrev pub Replies : (held : Option Regex) → (is_text can_start : Type 0) → (Regex → MatchesToCome)
     → (before after : List Span) → Reply → Type 0
 Replies held is_text can_start coming before after reply = (found : Result (Option Match) Refusal)
-    × FindsBy held is_text can_start coming found × (reply ≡ reply_to found (length before))
+    × IsFindResultOfHandle held is_text can_start coming found × (reply ≡ reply_to found (length before))
     × (after ≡ buffer_after_search found before)

@@ -3,13 +3,13 @@
 ghost use Rattle.std.specs.Prelude.{◌≡◌, ◌<◌, Some, length};
 ghost use Rattle.regex_meaning.specs.Laws.{Each};
 ghost use Rattle.regress_search.specs.CostsOfCalls.{without_costs};
-ghost use Rattle.regress_c.specs.{AllMatchesInWork.{FillsInWork, RepliesAllInWork, RepliesOutcome, WritesInWork}, Replies.{spans_of}};
+ghost use Rattle.regress_c.specs.{AllMatchesInWork.{FillsInWork, RepliesAllInWork, RepliesOutcome, WritesMatchesWithinWork}, Replies.{spans_of}};
 ghost use Rattle.regress_c.specs.{Searching.{can_start_utf8}, Texts.{range_count}};
 
 use crate::pattern::Pattern;
 use crate::refusal::{DONE, NO_MATCH, Refusal};
 use crate::reply::{Reply, Span, write_at};
-use crate::subject::text_from;
+use crate::subject::text_with_valid_start;
 use regress_match::{BoundedRegex, Regex};
 use regress_search::exec::{WorkLimitedProducer, WorkMatches};
 use std::alloc::Global;
@@ -30,23 +30,29 @@ pub(crate) fn find_all(
     let Some(re) = pattern.take(alloc) else {
         return Refusal::Empty.reply();
     };
-    let reply = find_all_by(&re, bytes, start, work, spans);
+    let reply = find_all_with_regex(&re, bytes, start, work, spans);
     pattern.put(re);
     reply
 }
 
 // Writes the matches with a pattern.
-fn find_all_by(re: &Regex, bytes: &[u8], start: usize, work: &mut u64, spans: &mut [Span]) -> Reply
+fn find_all_with_regex(
+    re: &Regex,
+    bytes: &[u8],
+    start: usize,
+    work: &mut u64,
+    spans: &mut [Span],
+) -> Reply
     ensures { RepliesOutcome re.now bytes.now start work.old work.new spans.old spans.new result }
 {
-    match fill_by(re, bytes, start, work, spans) {
+    match write_all_matches_if_accepted(re, bytes, start, work, spans) {
         Ok(reply) => reply,
         Err(refusal) => refusal.reply(),
     }
 }
 
 // Writes the matches with a pattern, unless the call is refused.
-fn fill_by(
+fn write_all_matches_if_accepted(
     re: &Regex,
     bytes: &[u8],
     start: usize,
@@ -55,7 +61,7 @@ fn fill_by(
 ) -> Result<Reply, Refusal>
     ensures { FillsInWork re.now bytes.now start work.old work.new spans.old spans.new result }
 {
-    let text = text_from(bytes, start)?;
+    let text = text_with_valid_start(bytes, start)?;
     let ranges = re.group_count() + 1;
     if spans.len() < ranges {
         let code = Refusal::ShortBuffer.code();
@@ -80,7 +86,7 @@ fn write_all<P: WorkLimitedProducer + Drop>(
 ) -> Reply
     requires some { 0 < ranges }
     requires each { Each (λ m. length (spans_of m) ≡ ranges) matches.old.remaining.answers }
-    ensures { WritesInWork ranges (without_costs matches.old) (without_costs matches.new) spans.old spans.new result }
+    ensures { WritesMatchesWithinWork ranges (without_costs matches.old) (without_costs matches.new) spans.old spans.new result }
 {
     let mut count = 0;
     let mut at = 0;

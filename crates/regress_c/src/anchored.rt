@@ -2,11 +2,11 @@
 
 ghost use Rattle.std.specs.Prelude.{◌≡◌, IsUtf8};
 ghost use Rattle.regress_c.specs.Searching.{can_start_utf16, can_start_utf8};
-ghost use Rattle.regress_c.specs.MatchesAt.{ucs2_coming_at, utf16_coming_at, utf8_coming_at};
+ghost use Rattle.regress_c.specs.MatchesAt.{ucs2_match_to_come_at, utf16_match_to_come_at, utf8_match_to_come_at};
 
 use crate::opening::splits_surrogate_pair;
 use crate::refusal::Refusal;
-use crate::subject::{Subject, text_from};
+use crate::subject::{Subject, text_with_valid_start};
 use regress_match::{Match, Regex};
 
 /// A text in UTF-8.
@@ -20,10 +20,10 @@ impl Subject for AnchoredUtf8<'_> {
 
     ghost can_start = { λ s at. can_start_utf8 s.bytes.now at };
 
-    ghost coming = { λ s re at. utf8_coming_at s.bytes.now re at };
+    ghost coming = { λ s re at. utf8_match_to_come_at s.bytes.now re at };
 
     fn first(&self, re: &Regex, at: usize) -> Result<Option<Match>, Refusal> {
-        let text = text_from(self.bytes, at)?;
+        let text = text_with_valid_start(self.bytes, at)?;
         Ok(re.match_at(text, at)?)
     }
 }
@@ -39,7 +39,7 @@ impl Subject for AnchoredUtf16<'_> {
 
     ghost can_start = { λ s at. can_start_utf16 s.units.now at };
 
-    ghost coming = { λ s re at. utf16_coming_at s.units.now re at };
+    ghost coming = { λ s re at. utf16_match_to_come_at s.units.now re at };
 
     fn first(&self, re: &Regex, at: usize) -> Result<Option<Match>, Refusal> {
         if splits_surrogate_pair(self.units, at) {
@@ -60,7 +60,7 @@ impl Subject for AnchoredUcs2<'_> {
 
     ghost can_start = { λ _ _. Unit {0} };
 
-    ghost coming = { λ s re at. ucs2_coming_at s.units.now re at };
+    ghost coming = { λ s re at. ucs2_match_to_come_at s.units.now re at };
 
     fn first(&self, re: &Regex, at: usize) -> Result<Option<Match>, Refusal> {
         Ok(re.match_at_ucs2(self.units, at)?)

@@ -2,7 +2,7 @@
 
 ghost use Rattle.std.specs.Prelude.{◌≡◌, Some, None};
 ghost use Rattle.std.specs.Result.{result_map_both};
-ghost use Rattle.regress_c.specs.Compiling.{ClonesInto, RepliesCloned};
+ghost use Rattle.regress_c.specs.Compiling.{IsCloneResultForHandle, RepliesCloned};
 
 use crate::pattern::Pattern;
 use crate::refusal::{DONE, Refusal};
@@ -17,13 +17,13 @@ pub(crate) fn clone(alloc: Global, pattern: &mut Pattern, into: &mut Pattern) ->
     let Some(re) = pattern.take(alloc) else {
         return Refusal::Empty.code();
     };
-    let code = clone_of(alloc, &re, into);
+    let code = clone_into_handle(alloc, &re, into);
     pattern.put(re);
     code
 }
 
 // Puts a copy of a pattern into a handle, and returns the code.
-fn clone_of(alloc: Global, re: &Regex, into: &mut Pattern) -> u32
+fn clone_into_handle(alloc: Global, re: &Regex, into: &mut Pattern) -> u32
     ensures { RepliesCloned (Some re.now) into.old.held into.new.held result }
 {
     if let Some(held) = into.take(alloc) {
@@ -41,7 +41,7 @@ fn clone_of(alloc: Global, re: &Regex, into: &mut Pattern) -> u32
 
 // Returns a copy of a pattern on the heap.
 fn boxed_clone(alloc: Global, re: &Regex) -> Result<Box<Regex>, Refusal>
-    ensures { ClonesInto (Some re.now) None (result_map_both (λ b. b.value) (λ e. e) result) }
+    ensures { IsCloneResultForHandle (Some re.now) None (result_map_both (λ b. b.value) (λ e. e) result) }
 {
     Ok(Box::new(alloc, re.clone()?)?)
 }

@@ -2,7 +2,7 @@
 
 ghost use Rattle.std.specs.Prelude.{◌≡◌, None};
 ghost use Rattle.std.specs.Result.{result_map_both};
-ghost use Rattle.regress_c.specs.Compiling.{Compiles, RepliesMade, RepliesMadeWithSyntax, code_of_made, given_with_syntax, held_after};
+ghost use Rattle.regress_c.specs.Compiling.{IsCompileResult, RepliesCompileResult, RepliesCompileResultWithSyntax, code_of_compile_result, given_with_syntax, handle_content_after_compiling};
 ghost use Rattle.regress_c.specs.Reading.{syntax_of_number};
 
 use crate::flags::flags_from;
@@ -25,7 +25,7 @@ pub struct Bounds {
 
 impl Bounds {
     /// Bounds that do not limit patterns.
-    pub(crate) const NONE: Bounds = Bounds {
+    pub(crate) const NO_PATTERN_BOUNDS: Bounds = Bounds {
         length: usize::MAX,
         nesting: usize::MAX,
     };
@@ -40,7 +40,7 @@ pub(crate) fn compile_with_syntax<S: Source>(
     syntax: u32,
     bounds: Bounds,
 ) -> u32
-    ensures { RepliesMadeWithSyntax pattern.old.held (syntax_of_number syntax)
+    ensures { RepliesCompileResultWithSyntax pattern.old.held (syntax_of_number syntax)
         (λ s. given_with_syntax s (S.is_text source.now) (S.characters source.now) flags.now) bounds
         pattern.new.held result }
 {
@@ -59,7 +59,7 @@ pub(crate) fn compile<S: Source>(
     syntax: Syntax,
     bounds: Bounds,
 ) -> u32
-    ensures { RepliesMade pattern.old.held
+    ensures { RepliesCompileResult pattern.old.held
         (given_with_syntax syntax (S.is_text source.now) (S.characters source.now) flags.now) bounds
         pattern.new.held result }
 {
@@ -75,8 +75,8 @@ pub(crate) fn compile<S: Source>(
 // Puts a compiled pattern into a handle, which must be empty, and returns the code.
 fn fill(pattern: &mut Pattern, made: Result<Box<Regex>, Refusal>) -> u32
     requires { pattern.old.held ≡ None }
-    ensures code { result ≡ code_of_made (result_map_both (λ b. b.value) (λ e. e) made) }
-    ensures held { pattern.new.held ≡ held_after None (result_map_both (λ b. b.value) (λ e. e) made) }
+    ensures code { result ≡ code_of_compile_result (result_map_both (λ b. b.value) (λ e. e) made) }
+    ensures held { pattern.new.held ≡ handle_content_after_compiling None (result_map_both (λ b. b.value) (λ e. e) made) }
 {
     match made {
         Ok(re) => {
@@ -95,7 +95,7 @@ fn compiled<S: Source>(
     syntax: Syntax,
     bounds: Bounds,
 ) -> Result<Box<Regex>, Refusal>
-    ensures { Compiles (given_with_syntax syntax (S.is_text source.now) (S.characters source.now) flags.now)
+    ensures { IsCompileResult (given_with_syntax syntax (S.is_text source.now) (S.characters source.now) flags.now)
         bounds (result_map_both (λ b. b.value) (λ e. e) result) }
 {
     let flags = flags_from(flags)?;

@@ -1,11 +1,11 @@
 //! The search for the first match with the pattern of a handle.
 
 ghost use Rattle.std.specs.Prelude.{◌≡◌};
-ghost use Rattle.regress_c.specs.Searching.{FindsBy, Replies};
+ghost use Rattle.regress_c.specs.Searching.{IsFindResultOfHandle, Replies};
 
 use crate::pattern::Pattern;
 use crate::refusal::Refusal;
-use crate::reply::{Reply, Span, reply_with};
+use crate::reply::{Reply, Span, reply_to_search_result};
 use crate::subject::Subject;
 use regress_match::Match;
 use std::alloc::Global;
@@ -22,7 +22,7 @@ pub(crate) fn search<S: Subject>(
         (λ re. S.coming subject.now re start) spans.old spans.new result }
     ensures kept { pattern.new.held ≡ pattern.old.held }
 {
-    reply_with(find(alloc, pattern, subject, start), spans)
+    reply_to_search_result(find(alloc, pattern, subject, start), spans)
 }
 
 // Finds the first match with the handle's pattern. The handle holds the pattern again afterwards.
@@ -32,7 +32,7 @@ fn find<S: Subject>(
     subject: &S,
     start: usize,
 ) -> Result<Option<Match>, Refusal>
-    ensures finds { FindsBy pattern.old.held (S.is_text subject.now) (S.can_start subject.now start)
+    ensures finds { IsFindResultOfHandle pattern.old.held (S.is_text subject.now) (S.can_start subject.now start)
         (λ re. S.coming subject.now re start) result }
     ensures kept { pattern.new.held ≡ pattern.old.held }
 {

@@ -1,12 +1,12 @@
 //! Searches within a work budget, with the pattern of a handle.
 
 ghost use Rattle.std.specs.Prelude.{◌≡◌};
-ghost use Rattle.regress_c.specs.{FirstMatchInWork.{FindsInWork, FindsInWorkBy, IsFirstInWork, IsWorkBoundResult, RepliesWorkBound}, Searching.{can_start_utf8}};
+ghost use Rattle.regress_c.specs.{FirstMatchInWork.{IsFindResultWithinWork, IsFindResultOfHandleWithinWork, IsFirstInWork, IsWorkBoundResult, RepliesWorkBound}, Searching.{can_start_utf8}};
 ghost use Rattle.regress_match.specs.WorkBounds.{IsHigherOfProgramWorkBounds};
 
 use crate::pattern::Pattern;
 use crate::refusal::{DONE, Refusal};
-use crate::subject::text_from;
+use crate::subject::text_with_valid_start;
 use regress_match::{BoundedRegex, Match, Regex};
 use std::alloc::Global;
 
@@ -19,28 +19,33 @@ pub(crate) fn find(
     start: usize,
     work: &mut u64,
 ) -> Result<Option<Match>, Refusal>
-    ensures finds { FindsInWorkBy pattern.old.held bytes.now start work.old result work.new }
+    ensures finds { IsFindResultOfHandleWithinWork pattern.old.held bytes.now start work.old result work.new }
     ensures kept { pattern.new.held ≡ pattern.old.held }
 {
     let Some(re) = pattern.take(alloc) else {
         return Err(Refusal::Empty);
     };
-    let found = find_by(&re, bytes, start, work);
+    let found = find_with_regex_within_work(&re, bytes, start, work);
     pattern.put(re);
     found
 }
 
 // Finds the first match with a pattern, with at most `work` work.
-fn find_by(re: &Regex, bytes: &[u8], start: usize, work: &mut u64) -> Result<Option<Match>, Refusal>
-    ensures { FindsInWork re.now bytes.now start work.old result work.new }
+fn find_with_regex_within_work(
+    re: &Regex,
+    bytes: &[u8],
+    start: usize,
+    work: &mut u64,
+) -> Result<Option<Match>, Refusal>
+    ensures { IsFindResultWithinWork re.now bytes.now start work.old result work.new }
 {
-    let text = text_from(bytes, start)?;
+    let text = text_with_valid_start(bytes, start)?;
     let bounded = re.bounded()?;
-    first_in_work(&bounded, text, start, work)
+    first_match_within_work(&bounded, text, start, work)
 }
 
 // Returns the first match in a text, with at most `work` work.
-fn first_in_work(
+fn first_match_within_work(
     bounded: &BoundedRegex<'_>,
     text: &str,
     start: usize,
@@ -62,7 +67,7 @@ pub(crate) fn write_work_bound(alloc: Global, pattern: &mut Pattern, per_unit: &
     ensures replies { RepliesWorkBound pattern.old.held per_unit.old per_unit.new result }
     ensures kept { pattern.new.held ≡ pattern.old.held }
 {
-    match work_bound_found(alloc, pattern) {
+    match work_bound_or_refusal(alloc, pattern) {
         Ok(number) => {
             *per_unit = number;
             DONE
@@ -72,8 +77,8 @@ pub(crate) fn write_work_bound(alloc: Global, pattern: &mut Pattern, per_unit: &
 }
 
 // Returns the work bound, or the reason why there is none.
-fn work_bound_found(alloc: Global, pattern: &mut Pattern) -> Result<u64, Refusal>
-    ensures reckons { IsWorkBoundResult pattern.old.held result }
+fn work_bound_or_refusal(alloc: Global, pattern: &mut Pattern) -> Result<u64, Refusal>
+    ensures work_bound_result { IsWorkBoundResult pattern.old.held result }
     ensures kept { pattern.new.held ≡ pattern.old.held }
 {
     let Some(re) = pattern.take(alloc) else {

@@ -1,7 +1,7 @@
 //! Parsing of flags. Unknown letters are refused.
 
 ghost use Rattle.std.specs.Prelude.{◌≡◌, ◌↔◌, IsTrue};
-ghost use Rattle.regress_c.specs.Reading.{AreFlags, ReadsFlags, is_flag_letter};
+ghost use Rattle.regress_c.specs.Reading.{AreFlags, IsFlagsReadResult, is_flag_letter};
 
 use crate::refusal::Refusal;
 use regress_match::Flags;
@@ -23,7 +23,7 @@ fn are_flags(letters: &[u8]) -> bool
 /// Returns the flags with these letters, or `UnknownFlag` if some letter is not the letter of a
 /// flag.
 pub(crate) fn flags_from(letters: &[u8]) -> Result<Flags, Refusal>
-    ensures { ReadsFlags letters.now result }
+    ensures { IsFlagsReadResult letters.now result }
 {
     if !are_flags(letters) {
         return Err(Refusal::UnknownFlag);

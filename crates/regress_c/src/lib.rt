@@ -9,13 +9,13 @@
 ghost use Rattle.std.specs.Prelude.{◌≡◌, IsUtf8, None, Some, chars, length};
 ghost use Rattle.std.specs.Char.{len_utf8};
 ghost use Rattle.regex_meaning.specs.Text.{utf16_characters, utf16_width};
-ghost use Rattle.regress_c.specs.{Compiling.{RepliesCloned, RepliesMade, RepliesMadeWithSyntax, given, given_with_syntax, unbounded}, NextMatches.{RepliesNext}};
+ghost use Rattle.regress_c.specs.{Compiling.{RepliesCloned, RepliesCompileResult, RepliesCompileResultWithSyntax, given, given_with_syntax, unbounded}, NextMatches.{RepliesNext}};
 ghost use Rattle.regress_c.specs.{FirstMatchInWork.{RepliesInWork, RepliesWorkBound}, Opening.{OpensUcs2, OpensUtf8, OpensUtf16, RepliesOpened}};
 ghost use Rattle.regress_c.specs.Reading.{syntax_of_number};
 ghost use Rattle.regress_c.specs.Searching.{Replies, can_start_utf8, can_start_utf16, ucs2_matches_to_come, utf8_matches_to_come, utf16_matches_to_come};
-ghost use Rattle.regress_c.specs.{AllMatchesInWork.{RepliesAllInWork}, Codes.{done}, GroupNumbers.{number_reply}};
-ghost use Rattle.regress_c.specs.{MatchesAt.{ucs2_coming_at, utf16_coming_at, utf8_coming_at}, Messages.{message_of}};
-ghost use Rattle.regress_c.specs.Texts.{Escapes, NamesBy, ReplacesBy, RepliesText, RepliesDiagnosis, RepliesDiagnosisWithSyntax, count_reply, buffer_after_text, text_reply};
+ghost use Rattle.regress_c.specs.{AllMatchesInWork.{RepliesAllInWork}, Codes.{done}, GroupNumbers.{group_number_reply_of_handle}};
+ghost use Rattle.regress_c.specs.{MatchesAt.{ucs2_match_to_come_at, utf16_match_to_come_at, utf8_match_to_come_at}, Messages.{message_of_code}};
+ghost use Rattle.regress_c.specs.Texts.{IsEscapeResult, IsGroupNameResultOfHandle, IsReplaceResultOfHandle, RepliesText, RepliesDiagnosis, RepliesDiagnosisWithSyntax, range_count_reply_of_handle, buffer_after_text, text_reply};
 ghost use Rattle.regress_c.specs.declared.text_replies.ReplacedMatches.TheVariants.{First, All};
 
 mod all_in_work;
@@ -47,11 +47,11 @@ use crate::next_matches::write_next_matches;
 use crate::opening::open;
 use crate::pattern::Pattern;
 use crate::refusal::Refusal;
-use crate::reply::{Reply, Span, reply_with};
+use crate::reply::{Reply, Span, reply_to_search_result};
 use crate::search::Search;
 use crate::source::{Utf8Source, Utf16Source};
 use crate::subject::{Ucs2, Utf8, Utf16};
-use crate::text_replies::{ReplacedMatches, named, numbered};
+use crate::text_replies::{ReplacedMatches, reply_group_number, write_group_name};
 use regress_match::Syntax;
 use std::alloc::Global;
 
@@ -77,7 +77,7 @@ pub extern "C" fn regress_c_compile_utf8(
     text: &[u8],
     flags: &[u8],
 ) -> u32
-    ensures { RepliesMade pattern.old.held (given (IsUtf8 text.now) (chars text.now) flags.now) unbounded
+    ensures { RepliesCompileResult pattern.old.held (given (IsUtf8 text.now) (chars text.now) flags.now) unbounded
         pattern.new.held result }
 {
     compile(
@@ -86,7 +86,7 @@ pub extern "C" fn regress_c_compile_utf8(
         &Utf8Source { bytes: text },
         flags,
         Syntax::Profile,
-        Bounds::NONE,
+        Bounds::NO_PATTERN_BOUNDS,
     )
 }
 
@@ -99,7 +99,7 @@ pub extern "C" fn regress_c_compile_utf8_within(
     flags: &[u8],
     bounds: &Bounds,
 ) -> u32
-    ensures { RepliesMade pattern.old.held (given (IsUtf8 text.now) (chars text.now) flags.now) bounds.now
+    ensures { RepliesCompileResult pattern.old.held (given (IsUtf8 text.now) (chars text.now) flags.now) bounds.now
         pattern.new.held result }
 {
     compile(
@@ -120,7 +120,7 @@ pub extern "C" fn regress_c_compile_utf16(
     text: &[u16],
     flags: &[u8],
 ) -> u32
-    ensures { RepliesMade pattern.old.held (given (Unit {0}) (utf16_characters text.now) flags.now)
+    ensures { RepliesCompileResult pattern.old.held (given (Unit {0}) (utf16_characters text.now) flags.now)
         unbounded pattern.new.held result }
 {
     compile(
@@ -129,7 +129,7 @@ pub extern "C" fn regress_c_compile_utf16(
         &Utf16Source { units: text },
         flags,
         Syntax::Profile,
-        Bounds::NONE,
+        Bounds::NO_PATTERN_BOUNDS,
     )
 }
 
@@ -142,7 +142,7 @@ pub extern "C" fn regress_c_compile_utf16_within(
     flags: &[u8],
     bounds: &Bounds,
 ) -> u32
-    ensures { RepliesMade pattern.old.held (given (Unit {0}) (utf16_characters text.now) flags.now)
+    ensures { RepliesCompileResult pattern.old.held (given (Unit {0}) (utf16_characters text.now) flags.now)
         bounds.now pattern.new.held result }
 {
     compile(
@@ -166,7 +166,7 @@ pub extern "C" fn regress_c_compile_utf8_with_syntax(
     syntax: u32,
     bounds: &Bounds,
 ) -> u32
-    ensures { RepliesMadeWithSyntax pattern.old.held (syntax_of_number syntax)
+    ensures { RepliesCompileResultWithSyntax pattern.old.held (syntax_of_number syntax)
         (λ s. given_with_syntax s (IsUtf8 text.now) (chars text.now) flags.now) bounds.now pattern.new.held result }
 {
     compile_with_syntax(
@@ -189,7 +189,7 @@ pub extern "C" fn regress_c_compile_utf16_with_syntax(
     syntax: u32,
     bounds: &Bounds,
 ) -> u32
-    ensures { RepliesMadeWithSyntax pattern.old.held (syntax_of_number syntax)
+    ensures { RepliesCompileResultWithSyntax pattern.old.held (syntax_of_number syntax)
         (λ s. given_with_syntax s (Unit {0}) (utf16_characters text.now) flags.now) bounds.now pattern.new.held result }
 {
     compile_with_syntax(
@@ -317,7 +317,7 @@ pub extern "C" fn regress_c_free(alloc: Global, pattern: &mut Pattern)
 /// Replies with the number of ranges of a match: one for the whole match, and one for each group.
 #[unsafe(no_mangle)]
 pub extern "C" fn regress_c_range_count(alloc: Global, pattern: &mut Pattern) -> Reply
-    ensures reply { result ≡ count_reply pattern.old.held }
+    ensures reply { result ≡ range_count_reply_of_handle pattern.old.held }
     ensures kept { pattern.new.held ≡ pattern.old.held }
 {
     text_replies::range_count(alloc, pattern)
@@ -331,13 +331,13 @@ pub extern "C" fn regress_c_group_name(
     number: usize,
     name: &mut [u8],
 ) -> Reply
-    ensures replies { RepliesText (NamesBy pattern.old.held number) name.old name.new result }
+    ensures replies { RepliesText (IsGroupNameResultOfHandle pattern.old.held number) name.old name.new result }
     ensures kept { pattern.new.held ≡ pattern.old.held }
 {
     let Some(re) = pattern.take(alloc) else {
         return Refusal::Empty.reply();
     };
-    let reply = named(&re, number, name);
+    let reply = write_group_name(&re, number, name);
     pattern.put(re);
     reply
 }
@@ -345,13 +345,13 @@ pub extern "C" fn regress_c_group_name(
 /// Replies with the number of the group with this name, in UTF-8.
 #[unsafe(no_mangle)]
 pub extern "C" fn regress_c_group_number(alloc: Global, pattern: &mut Pattern, name: &[u8]) -> Reply
-    ensures reply { result ≡ number_reply pattern.old.held name.now }
+    ensures reply { result ≡ group_number_reply_of_handle pattern.old.held name.now }
     ensures kept { pattern.new.held ≡ pattern.old.held }
 {
     let Some(re) = pattern.take(alloc) else {
         return Refusal::Empty.reply();
     };
-    let reply = numbered(&re, name);
+    let reply = reply_group_number(&re, name);
     pattern.put(re);
     reply
 }
@@ -418,7 +418,7 @@ pub extern "C" fn regress_c_match_at_utf8(
     spans: &mut [Span],
 ) -> Reply
     ensures replies { Replies pattern.old.held (IsUtf8 text.now) (can_start_utf8 text.now at)
-        (λ re. utf8_coming_at text.now re at) spans.old spans.new result }
+        (λ re. utf8_match_to_come_at text.now re at) spans.old spans.new result }
     ensures kept { pattern.new.held ≡ pattern.old.held }
 {
     search(alloc, pattern, &AnchoredUtf8 { bytes: text }, at, spans)
@@ -434,7 +434,7 @@ pub extern "C" fn regress_c_match_at_utf16(
     spans: &mut [Span],
 ) -> Reply
     ensures replies { Replies pattern.old.held (Unit {0}) (can_start_utf16 text.now at)
-        (λ re. utf16_coming_at text.now re at) spans.old spans.new result }
+        (λ re. utf16_match_to_come_at text.now re at) spans.old spans.new result }
     ensures kept { pattern.new.held ≡ pattern.old.held }
 {
     search(alloc, pattern, &AnchoredUtf16 { units: text }, at, spans)
@@ -450,7 +450,7 @@ pub extern "C" fn regress_c_match_at_ucs2(
     spans: &mut [Span],
 ) -> Reply
     ensures replies { Replies pattern.old.held (Unit {0}) (Unit {0})
-        (λ re. ucs2_coming_at text.now re at) spans.old spans.new result }
+        (λ re. ucs2_match_to_come_at text.now re at) spans.old spans.new result }
     ensures kept { pattern.new.held ≡ pattern.old.held }
 {
     search(alloc, pattern, &AnchoredUcs2 { units: text }, at, spans)
@@ -486,7 +486,7 @@ pub extern "C" fn regress_c_find_utf8_in_work(
     ensures replies { RepliesInWork pattern.old.held text.now start work.old work.new spans.old spans.new result }
     ensures kept { pattern.new.held ≡ pattern.old.held }
 {
-    reply_with(find(alloc, pattern, text, start, work), spans)
+    reply_to_search_result(find(alloc, pattern, text, start, work), spans)
 }
 
 /// Writes the matches in a UTF-8 text from `start` on (an offset in bytes), as many as there is
@@ -599,7 +599,7 @@ pub extern "C" fn regress_c_replace_utf8(
     replacement: &[u8],
     made: &mut [u8],
 ) -> Reply
-    ensures replies { RepliesText (ReplacesBy pattern.old.held text.now replacement.now First) made.old
+    ensures replies { RepliesText (IsReplaceResultOfHandle pattern.old.held text.now replacement.now First) made.old
         made.new result }
     ensures kept { pattern.new.held ≡ pattern.old.held }
 {
@@ -622,7 +622,7 @@ pub extern "C" fn regress_c_replace_all_utf8(
     replacement: &[u8],
     made: &mut [u8],
 ) -> Reply
-    ensures replies { RepliesText (ReplacesBy pattern.old.held text.now replacement.now All) made.old made.new result }
+    ensures replies { RepliesText (IsReplaceResultOfHandle pattern.old.held text.now replacement.now All) made.old made.new result }
     ensures kept { pattern.new.held ≡ pattern.old.held }
 {
     text_replies::replace(
@@ -638,7 +638,7 @@ pub extern "C" fn regress_c_replace_all_utf8(
 /// Writes a UTF-8 text with its syntax characters escaped, so that a pattern matches it literally.
 #[unsafe(no_mangle)]
 pub extern "C" fn regress_c_escape_utf8(alloc: Global, text: &[u8], escaped: &mut [u8]) -> Reply
-    ensures { RepliesText (Escapes text.now) escaped.old escaped.new result }
+    ensures { RepliesText (IsEscapeResult text.now) escaped.old escaped.new result }
 {
     text_replies::escaped(alloc, text, escaped)
 }
@@ -648,8 +648,8 @@ pub extern "C" fn regress_c_escape_utf8(alloc: Global, text: &[u8], escaped: &mu
 /// Writes the text of a code, in ASCII. There is also a text for numbers that are not codes.
 #[unsafe(no_mangle)]
 pub extern "C" fn regress_c_message_utf8(code: u32, message: &mut [u8]) -> Reply
-    ensures reply { result ≡ text_reply done (message_of code) (length message.old) }
-    ensures written { message.new ≡ buffer_after_text (message_of code) message.old }
+    ensures reply { result ≡ text_reply done (message_of_code code) (length message.old) }
+    ensures written { message.new ≡ buffer_after_text (message_of_code code) message.old }
 {
     text_replies::message(code, message)
 }

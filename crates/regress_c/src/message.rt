@@ -1,11 +1,11 @@
 //! The texts of the codes.
 
 ghost use Rattle.std.specs.Prelude.{◌≡◌};
-ghost use Rattle.regress_c.specs.Messages.{message_of};
+ghost use Rattle.regress_c.specs.Messages.{message_of_code};
 
 /// Returns the text of a code, in ASCII.
-pub(crate) fn message_of(code: u32) -> &'static str
-    ensures { result.now ≡ message_of code }
+pub(crate) fn message_of_code(code: u32) -> &'static str
+    ensures { result.now ≡ message_of_code code }
 {
     match code {
         0 => "done",
@@ -18,9 +18,9 @@ pub(crate) fn message_of(code: u32) -> &'static str
         7 => "out of memory",
         8 => "the step limit is reached",
         9 => "the pattern has a syntax error",
-        10 => "too many groups",
-        11 => "too many loops",
-        12 => "too many instructions",
+        10 => "too many groups (at most 65535)",
+        11 => "too many loops (at most 65535)",
+        12 => "too many instructions (at most 4294967295)",
         13 => "unknown flag",
         14 => "the pattern is too long",
         15 => "the pattern is nested too deeply",

@@ -1,8 +1,8 @@
 //! The next matches of an open search.
 
 ghost use Rattle.std.specs.Prelude.{◌≡◌, ◌<◌, ◌≤◌, ◌+◌, ◌++◌, None, Some, drop, length, take};
-ghost use Rattle.regress_c.specs.Codes.{code_of as number_of};
-ghost use Rattle.regress_c.specs.NextMatches.{Fills, FillsFrom, FillsIn, RepliesNext, code_of_stop, ranges_of as ranges_by, tree_by};
+ghost use Rattle.regress_c.specs.Codes.{code_of_refusal as number_of};
+ghost use Rattle.regress_c.specs.NextMatches.{Fills, FillsFrom, FillsInEncoding, RepliesNext, code_of_stop_reason, number_of_ranges as ranges_by, tree_for_encoding};
 ghost use Rattle.regress_c.specs.{Searching.{can_start_utf8, can_start_utf16}, Replies.{spans_of}};
 ghost use Rattle.regex_meaning.specs.CodeUnitOffsets.{units, IsBoundaryOrPastEnd};
 ghost use Rattle.regress_search.specs.MatchesAsSpecAnswers.{answer_of};
@@ -32,7 +32,7 @@ pub(crate) enum Stop {
 impl Stop {
     // Returns the code that reports why no further match was written.
     fn code(self) -> u32
-        ensures { result ≡ code_of_stop self }
+        ensures { result ≡ code_of_stop_reason self }
     {
         match self {
             Stop::Full => DONE,
@@ -62,6 +62,9 @@ pub(crate) struct CallOutcome {
 
 /// Writes the next matches of a search with the handle's pattern, as many as there is room for. If
 /// steps are counted, returns the number that is left.
+///
+/// The spans, the reply and the steps left are those of one outcome of the call (see
+/// `specs/NextMatches`). The handle keeps its pattern.
 pub(crate) fn write_next_matches(
     alloc: Global,
     pattern: &mut Pattern,
@@ -76,13 +79,13 @@ pub(crate) fn write_next_matches(
     let Some(re) = pattern.take(alloc) else {
         return refused(Refusal::Empty, steps);
     };
-    let went = write_next_matches_by(&re, search, steps, spans);
+    let went = write_next_matches_with_regex(&re, search, steps, spans);
     pattern.put(re);
     went
 }
 
 // Writes the next matches of a search with this pattern.
-fn write_next_matches_by(
+fn write_next_matches_with_regex(
     re: &Regex,
     search: &mut Search<'_>,
     steps: Option<u64>,
@@ -93,7 +96,7 @@ fn write_next_matches_by(
     let Some(encoding) = search.encoding() else {
         return refused(Refusal::NotOpen, steps);
     };
-    let ranges = ranges_of(re, encoding);
+    let ranges = number_of_ranges(re, encoding);
     if spans.len() < ranges {
         let code = Refusal::ShortBuffer.code();
         let reply = Reply {
@@ -127,8 +130,8 @@ fn refused(refusal: Refusal, steps: Option<u64>) -> CallOutcome
 }
 
 // Returns the number of ranges of a match.
-fn ranges_of(re: &Regex, encoding: Encoding) -> usize
-    ensures { result ≡ ranges_by (tree_by re.now encoding) }
+fn number_of_ranges(re: &Regex, encoding: Encoding) -> usize
+    ensures { result ≡ ranges_by (tree_for_encoding re.now encoding) }
 {
     match encoding {
         Encoding::Utf8 => re.group_count() + 1,
@@ -144,12 +147,18 @@ fn fill_in_encoding(
     steps: Option<u64>,
     spans: &mut [Span],
 ) -> Result<Filled, Refusal>
-    ensures { FillsIn re.now search.now encoding steps spans.old spans.new result }
+    ensures { FillsInEncoding re.now search.now encoding steps spans.old spans.new result }
 {
     let start = search.next;
     match (encoding, steps) {
         (Encoding::Utf8, None) => in_utf8(re, search.text(), start, spans),
-        (Encoding::Utf8, Some(steps)) => in_utf8_within(re, search.text(), start, steps, spans),
+        (Encoding::Utf8, Some(steps)) => write_utf8_matches_within_steps(
+            re,
+            search.text(),
+            start,
+            steps,
+            spans,
+        ),
         (Encoding::Utf16, None) => in_utf16(re, search.units, start, spans),
         (Encoding::Ucs2, None) => in_ucs2(re, search.units, start, spans),
         (Encoding::Utf16 | Encoding::Ucs2, Some(_)) => Err(Refusal::NotCounted),
@@ -157,6 +166,8 @@ fn fill_in_encoding(
 }
 
 // Writes the next matches in a UTF-8 text.
+// The clause of this and of the next functions says that the tree's matches from `start` on are
+// written, or that the call is refused and writes nothing (`FillsFrom`).
 fn in_utf8(re: &Regex, text: &str, start: usize, spans: &mut [Span]) -> Result<Filled, Refusal>
     ensures { FillsFrom (tree_for_byte_units re.now) (bytes_as_utf8_text re.now text.now)
         (can_start_utf8 text.now start) None start spans.old spans.new result }
@@ -169,7 +180,7 @@ fn in_utf8(re: &Regex, text: &str, start: usize, spans: &mut [Span]) -> Result<F
 }
 
 // Writes the next matches in a UTF-8 text, with at most `steps` steps.
-fn in_utf8_within(
+fn write_utf8_matches_within_steps(
     re: &Regex,
     text: &str,
     start: usize,
@@ -237,7 +248,7 @@ fn fill<E: SingleAttemptExecutor>(
                 at += ranges;
             }
             Ok(None) => {
-                filled.next = past_end(search);
+                filled.next = offset_past_every_text(search);
                 filled.stop = Stop::Over;
                 return filled;
             }
@@ -263,7 +274,7 @@ fn write_step(step: Step, count: usize, at: usize, spans: &mut [Span]) -> usize
 }
 
 // Returns `usize::MAX`, which is past the end of every text.
-fn past_end<E: SingleAttemptExecutor>(search: &E) -> usize
+fn offset_past_every_text<E: SingleAttemptExecutor>(search: &E) -> usize
     ensures greatest { result ≡ usize.MAX }
     ensures past { units (E.text search.now) < result }
 {

@@ -3,7 +3,7 @@
 ghost use Rattle.std.specs.Prelude.{◌≡◌, None, Option, Some, option_map};
 ghost use Rattle.std.specs.Coded.{coded_option};
 ghost use Rattle.std.specs.Option.{MatchOption};
-ghost use Rattle.regress_c.specs.HeldPattern.{held_owns};
+ghost use Rattle.regress_c.specs.HeldPattern.{ownership_of_handle};
 ghost use Rattle.regress_match.specs.{contracts.api.regex.Regex.{the_row}, declared.api.regex.Regex.{Regex as Compiled}};
 
 use crate::raw_box::RawBox;
@@ -23,7 +23,7 @@ pub struct Pattern {
 }
 
 impl Model for Pattern {
-    ghost also_owns = { λ p. held_owns the_row p.at p.held };
+    ghost also_owns = { λ p. ownership_of_handle the_row p.at p.held };
 }
 
 impl Pattern {
@@ -43,7 +43,7 @@ impl Pattern {
     }
 
     // Returns the pointer and the allocator of the pattern, or `None` if the handle is empty.
-    fn into_loose(self, alloc: Global) -> Option<RawBox<Regex, Global>>
+    fn into_raw_box(self, alloc: Global) -> Option<RawBox<Regex, Global>>
         ensures { MatchOption result (self.held ≡ None) (λ l. self.held ≡ Some l.value) }
     {
         let Pattern { at } = self;
@@ -62,7 +62,7 @@ impl Pattern {
         ensures taken { option_map (λ b. b.value) result ≡ self.old.held }
         ensures empty { self.new.held ≡ None }
     {
-        match replace(self, Pattern::empty()).into_loose(alloc) {
+        match replace(self, Pattern::empty()).into_raw_box(alloc) {
             Some(loose) => Some(loose.into_box()),
             None => None,
         }

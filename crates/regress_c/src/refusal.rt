@@ -1,7 +1,7 @@
 //! Why a call is refused, and the codes that C receives.
 
 ghost use Rattle.std.specs.Prelude.{◌≡◌};
-ghost use Rattle.regress_c.specs.Codes.{code_of, code_of_reason, refused_as};
+ghost use Rattle.regress_c.specs.Codes.{code_of_refusal, code_of_unbounded_reason, refusal_of_compile_error};
 
 use crate::reply::Reply;
 use regex_parser::parse::ParseError;
@@ -64,7 +64,7 @@ pub(crate) enum Refusal {
 impl Refusal {
     /// Returns the code in the header.
     pub(crate) fn code(self) -> u32
-        ensures { result ≡ code_of self }
+        ensures { result ≡ code_of_refusal self }
     {
         match self {
             Refusal::Empty => 2,
@@ -84,7 +84,7 @@ impl Refusal {
             Refusal::NoGroup => 16,
             Refusal::NotOpen => 17,
             Refusal::NotCounted => 18,
-            Refusal::Unbounded(reason) => code_of_reason(reason),
+            Refusal::Unbounded(reason) => code_of_unbounded_reason(reason),
             Refusal::WorkLimit => 20,
             Refusal::UnknownSyntax => 21,
         }
@@ -92,7 +92,7 @@ impl Refusal {
 
     /// Returns the reply of a refused call. Its count is 0.
     pub(crate) fn reply(self) -> Reply
-        ensures { result ≡ record { code = code_of self; count = 0 } }
+        ensures { result ≡ record { code = code_of_refusal self; count = 0 } }
     {
         Reply {
             code: self.code(),
@@ -102,7 +102,7 @@ impl Refusal {
 
     /// Returns the refusal for an error of compiling a pattern.
     pub(crate) fn of_error(error: Error) -> Refusal
-        ensures { result ≡ refused_as error }
+        ensures { result ≡ refusal_of_compile_error error }
     {
         match error {
             Error::Parse(ParseError::Syntax(_)) => Refusal::Syntax,
@@ -115,8 +115,8 @@ impl Refusal {
 }
 
 // Returns the code of a reason for which no work bound is known.
-fn code_of_reason(reason: Unbounded) -> u32
-    ensures { result ≡ code_of_reason reason }
+fn code_of_unbounded_reason(reason: Unbounded) -> u32
+    ensures { result ≡ code_of_unbounded_reason reason }
 {
     match reason {
         Unbounded::Memory => 7,

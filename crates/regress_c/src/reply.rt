@@ -1,7 +1,7 @@
 //! The reply of a search, and the ranges that a search writes into the caller's buffer.
 
 ghost use Rattle.std.specs.Prelude.{◌≡◌, ◌≤◌, ◌+◌, ◌++◌, Ok, Some, drop, length, option_map, take};
-ghost use Rattle.regress_c.specs.Replies.{buffer_after_search, reply_to, span_of, spans_of, written_over};
+ghost use Rattle.regress_c.specs.Replies.{buffer_after_search, reply_to, span_of, spans_of, with_front_overwritten};
 ghost use Rattle.regress_search.specs.MatchesAsSpecAnswers.{answer_of, range_as_pair};
 
 use crate::refusal::{DONE, NO_MATCH, Refusal};
@@ -44,7 +44,7 @@ fn to_span(range: Option<Range<usize>>) -> Span
 fn write(found: &Match, count: usize, spans: &mut [Span])
     requires all { count ≡ length (spans_of (answer_of found.now)) }
     requires room { count ≤ length spans.old }
-    ensures { spans.new ≡ written_over (spans_of (answer_of found.now)) spans.old }
+    ensures { spans.new ≡ with_front_overwritten (spans_of (answer_of found.now)) spans.old }
 {
     for number in 0..count {
         spans[number] = to_span(found.group(number));
@@ -62,7 +62,10 @@ pub(crate) fn write_at(found: &Match, count: usize, at: usize, spans: &mut [Span
 
 /// Returns the reply to the result of a search, and writes the ranges of a match into the buffer if
 /// there is room for all of them.
-pub(crate) fn reply_with(found: Result<Option<Match>, Refusal>, spans: &mut [Span]) -> Reply
+pub(crate) fn reply_to_search_result(
+    found: Result<Option<Match>, Refusal>,
+    spans: &mut [Span],
+) -> Reply
     ensures reply { result ≡ reply_to found (length spans.old) }
     ensures written { spans.new ≡ buffer_after_search found spans.old }
 {

@@ -3,7 +3,7 @@
 ghost use Rattle.std.specs.Prelude.{◌≡◌, ◌+◌, ◌<◌, ◌≤◌, ◌&&◌, ◌∷◌, ℕ, List, IfOk, IsUtf8, chars, drop, length};
 ghost use Rattle.std.specs.Char.{len_utf8};
 ghost use Rattle.regex_meaning.specs.Text.{decode_surrogate_pair, is_high_surrogate, is_low_surrogate, utf16_characters, utf16_width};
-ghost use Rattle.regress_c.specs.Reading.{Reads};
+ghost use Rattle.regress_c.specs.Reading.{IsPatternReadResult};
 
 use crate::refusal::Refusal;
 use std::alloc::{AllocError, Global};
@@ -24,7 +24,7 @@ pub(crate) trait Source {
 
     /// Returns the code points.
     fn code_points(&self, alloc: Global) -> Result<Vec<u32>, Refusal>
-        ensures { Reads (is_text self.now) (characters self.now) result };
+        ensures { IsPatternReadResult (is_text self.now) (characters self.now) result };
 }
 
 /// A pattern in UTF-8.

@@ -2,7 +2,7 @@
 
 ghost use Rattle.std.specs.Prelude.{◌≡◌, ◌<◌, ◌↔◌, ◌⊎◌, ℕ, IsTrue, IsUtf8, length};
 ghost use Rattle.regex_meaning.specs.Text.{is_unit_boundary as is_boundary_of};
-ghost use Rattle.regress_c.specs.Searching.{MatchesToCome, Finds, IsFirst, Starts, can_start_utf16, can_start_utf8, ucs2_matches_to_come, utf16_matches_to_come, utf8_matches_to_come};
+ghost use Rattle.regress_c.specs.Searching.{MatchesToCome, Finds, IsFirstOfRemainingMatches, IsTextWithValidStart, can_start_utf16, can_start_utf8, ucs2_matches_to_come, utf16_matches_to_come, utf8_matches_to_come};
 ghost use Rattle.regress_match.specs.declared.api.regex.Regex.{Regex as Compiled};
 
 use crate::refusal::Refusal;
@@ -26,14 +26,14 @@ pub(crate) trait Subject {
 
 // Returns the first of the remaining matches.
 fn first_of<P: MatchProducer + Drop>(mut matches: Matches<P>) -> Result<Option<Match>, Refusal>
-    ensures { IsFirst (record { answers = matches.answers; limited = matches.limited }) result }
+    ensures { IsFirstOfRemainingMatches (record { answers = matches.answers; limited = matches.limited }) result }
 {
     Ok(matches.next().transpose()?)
 }
 
 /// Returns these bytes as a UTF-8 text, if they are valid UTF-8 and a search may start at `start`.
-pub(crate) fn text_from(bytes: &[u8], start: usize) -> Result<&str, Refusal>
-    ensures { Starts bytes.now start result }
+pub(crate) fn text_with_valid_start(bytes: &[u8], start: usize) -> Result<&str, Refusal>
+    ensures { IsTextWithValidStart bytes.now start result }
 {
     let text = str::from_utf8(bytes)?;
     if text.is_char_boundary(start) || text.len() < start {
@@ -57,7 +57,7 @@ impl Subject for Utf8<'_> {
     ghost coming = { λ s re start. utf8_matches_to_come s.bytes.now re start };
 
     fn first(&self, re: &Regex, start: usize) -> Result<Option<Match>, Refusal> {
-        let text = text_from(self.bytes, start)?;
+        let text = text_with_valid_start(self.bytes, start)?;
         first_of(re.find_from(text, start)?)
     }
 }

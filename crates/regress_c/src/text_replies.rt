@@ -5,13 +5,13 @@ ghost use Rattle.std.specs.List.{sum_by};
 ghost use Rattle.std.specs.Result.{result_map_both};
 ghost use Rattle.regress_c.specs.Compiling.{given_with_syntax};
 ghost use Rattle.regress_c.specs.Reading.{syntax_of_number};
-ghost use Rattle.regress_c.specs.Texts.{Diagnoses, Escapes, Names, Replaces, ReplacesBy, RepliesText, RepliesDiagnosis, RepliesDiagnosisWithSyntax, count_reply, buffer_after_made_text};
-ghost use Rattle.regress_c.specs.Texts.{buffer_after_text, made_reply};
+ghost use Rattle.regress_c.specs.Texts.{IsDiagnosisResult, IsEscapeResult, IsGroupNameResult, IsReplaceResult, IsReplaceResultOfHandle, RepliesText, RepliesDiagnosis, RepliesDiagnosisWithSyntax, range_count_reply_of_handle, buffer_after_produced_text};
+ghost use Rattle.regress_c.specs.Texts.{buffer_after_text, reply_for_produced_text};
 ghost use Rattle.regress_c.specs.Texts.{text_reply};
-ghost use Rattle.regress_c.specs.{Codes.{done}, GroupNumbers.{first_id_named, number_reply}, Messages.{message_of as message_text}};
+ghost use Rattle.regress_c.specs.{Codes.{done}, GroupNumbers.{index_of_first_name, group_number_reply_of_handle}, Messages.{message_of_code as message_text}};
 
 use crate::flags::flags_from;
-use crate::message::message_of;
+use crate::message::message_of_code;
 use crate::pattern::Pattern;
 use crate::refusal::{DONE, Refusal};
 use crate::reply::Reply;
@@ -30,7 +30,7 @@ pub(crate) enum ReplacedMatches {
 
 // Writes a text to the front of the buffer if there is room for all of it. The count of the reply
 // is its length.
-fn copied(text: &[u8], buffer: &mut [u8], code: u32) -> Reply
+fn write_text_if_room(text: &[u8], buffer: &mut [u8], code: u32) -> Reply
     ensures reply { result ≡ text_reply code text.now (length buffer.old) }
     ensures written { buffer.new ≡ buffer_after_text text.now buffer.old }
 {
@@ -43,13 +43,13 @@ fn copied(text: &[u8], buffer: &mut [u8], code: u32) -> Reply
     Reply { code, count }
 }
 
-// Writes a produced text like `copied`, or returns the reply for a refusal.
-fn answered(made: Result<String, Refusal>, buffer: &mut [u8]) -> Reply
-    ensures reply { result ≡ made_reply (result_map_both string_bytes (λ e. e) made) (length buffer.old) }
-    ensures written { buffer.new ≡ buffer_after_made_text (result_map_both string_bytes (λ e. e) made) buffer.old }
+// Writes a produced text like `write_text_if_room`, or returns the reply for a refusal.
+fn write_produced_text(made: Result<String, Refusal>, buffer: &mut [u8]) -> Reply
+    ensures reply { result ≡ reply_for_produced_text (result_map_both string_bytes (λ e. e) made) (length buffer.old) }
+    ensures written { buffer.new ≡ buffer_after_produced_text (result_map_both string_bytes (λ e. e) made) buffer.old }
 {
     match made {
-        Ok(text) => copied(text.as_bytes(), buffer, DONE),
+        Ok(text) => write_text_if_room(text.as_bytes(), buffer, DONE),
         Err(refusal) => refusal.reply(),
     }
 }
@@ -63,7 +63,7 @@ pub(crate) fn replace(
     which: ReplacedMatches,
     buffer: &mut [u8],
 ) -> Reply
-    ensures replies { RepliesText (ReplacesBy pattern.old.held text.now replacement.now which) buffer.old
+    ensures replies { RepliesText (IsReplaceResultOfHandle pattern.old.held text.now replacement.now which) buffer.old
         buffer.new result }
     ensures kept { pattern.new.held ≡ pattern.old.held }
 {
@@ -72,7 +72,7 @@ pub(crate) fn replace(
     };
     let made = replaced(&re, text, replacement, which);
     pattern.put(re);
-    answered(made, buffer)
+    write_produced_text(made, buffer)
 }
 
 // Returns the text with the first match or all matches replaced.
@@ -82,7 +82,7 @@ fn replaced(
     replacement: &[u8],
     which: ReplacedMatches,
 ) -> Result<String, Refusal>
-    ensures { Replaces re.now text.now replacement.now which (result_map_both string_bytes (λ e. e) result) }
+    ensures { IsReplaceResult re.now text.now replacement.now which (result_map_both string_bytes (λ e. e) result) }
 {
     let text = str::from_utf8(text)?;
     let replacement = str::from_utf8(replacement)?;
@@ -94,14 +94,14 @@ fn replaced(
 
 /// Writes the text with its syntax characters escaped, so that a pattern matches it literally.
 pub(crate) fn escaped(alloc: Global, text: &[u8], buffer: &mut [u8]) -> Reply
-    ensures { RepliesText (Escapes text.now) buffer.old buffer.new result }
+    ensures { RepliesText (IsEscapeResult text.now) buffer.old buffer.new result }
 {
-    answered(escaped_text(alloc, text), buffer)
+    write_produced_text(escaped_text(alloc, text), buffer)
 }
 
 // Returns the text with its syntax characters escaped.
 fn escaped_text(alloc: Global, text: &[u8]) -> Result<String, Refusal>
-    ensures { Escapes text.now (result_map_both string_bytes (λ e. e) result) }
+    ensures { IsEscapeResult text.now (result_map_both string_bytes (λ e. e) result) }
 {
     Ok(escape(alloc, str::from_utf8(text)?)?)
 }
@@ -109,7 +109,7 @@ fn escaped_text(alloc: Global, text: &[u8]) -> Result<String, Refusal>
 /// Replies with the number of ranges of a match of the handle's pattern, which is one more than the
 /// number of groups.
 pub(crate) fn range_count(alloc: Global, pattern: &mut Pattern) -> Reply
-    ensures reply { result ≡ count_reply pattern.old.held }
+    ensures reply { result ≡ range_count_reply_of_handle pattern.old.held }
     ensures kept { pattern.new.held ≡ pattern.old.held }
 {
     let Some(re) = pattern.take(alloc) else {
@@ -121,24 +121,24 @@ pub(crate) fn range_count(alloc: Global, pattern: &mut Pattern) -> Reply
 }
 
 /// Writes the name of a group. The name is empty if the group has none.
-pub(crate) fn named(re: &Regex, number: usize, buffer: &mut [u8]) -> Reply
-    ensures { RepliesText (Names re.now number) buffer.old buffer.new result }
+pub(crate) fn write_group_name(re: &Regex, number: usize, buffer: &mut [u8]) -> Reply
+    ensures { RepliesText (IsGroupNameResult re.now number) buffer.old buffer.new result }
 {
     if number == 0 || re.group_count() < number {
         return Refusal::NoGroup.reply();
     }
     let name = name_at(re.group_names(), number - 1);
-    copied(name.as_bytes(), buffer, DONE)
+    write_text_if_room(name.as_bytes(), buffer, DONE)
 }
 
 /// Replies with the number of the group with this name, in UTF-8.
-pub(crate) fn numbered(re: &Regex, name: &[u8]) -> Reply
-    ensures { result ≡ number_reply (Some re.now) name.now }
+pub(crate) fn reply_group_number(re: &Regex, name: &[u8]) -> Reply
+    ensures { result ≡ group_number_reply_of_handle (Some re.now) name.now }
 {
     if name.is_empty() {
         return Refusal::NoGroup.reply();
     }
-    match index_of(re.group_names(), name) {
+    match index_of_first_equal_name(re.group_names(), name) {
         Some(index) => Reply {
             code: DONE,
             count: index + 1,
@@ -148,8 +148,8 @@ pub(crate) fn numbered(re: &Regex, name: &[u8]) -> Reply
 }
 
 // Returns the index of the first of these names that is equal to `name`.
-fn index_of(names: &[String], name: &[u8]) -> Option<usize>
-    ensures index { result ≡ first_id_named name.now (map string_bytes names.now) }
+fn index_of_first_equal_name(names: &[String], name: &[u8]) -> Option<usize>
+    ensures index { result ≡ index_of_first_name name.now (map string_bytes names.now) }
     ensures inside { IfSome result (λ index. index < length names.now) }
 {
     for (index, other) in names.iter().enumerate() {
@@ -165,7 +165,7 @@ pub(crate) fn message(code: u32, buffer: &mut [u8]) -> Reply
     ensures reply { result ≡ text_reply done (message_text code) (length buffer.old) }
     ensures written { buffer.new ≡ buffer_after_text (message_text code) buffer.old }
 {
-    copied(message_of(code).as_bytes(), buffer, DONE)
+    write_text_if_room(message_of_code(code).as_bytes(), buffer, DONE)
 }
 
 // Returns the name at this index, or the empty name if the list is shorter.
@@ -212,7 +212,7 @@ pub(crate) fn diagnosis<S: Source>(
     match diagnosed(alloc, source, flags, syntax) {
         Ok(Some(told)) => {
             *at = told.at;
-            copied(told.cause.as_bytes(), buffer, Refusal::Syntax.code())
+            write_text_if_room(told.cause.as_bytes(), buffer, Refusal::Syntax.code())
         }
         Ok(None) => Reply {
             code: DONE,
@@ -237,7 +237,7 @@ fn diagnosed<S: Source>(
     flags: &[u8],
     syntax: Syntax,
 ) -> Result<Option<CauseAndOffset>, Refusal>
-    ensures { Diagnoses (given_with_syntax syntax (S.is_text source.now) (S.characters source.now) flags.now)
+    ensures { IsDiagnosisResult (given_with_syntax syntax (S.is_text source.now) (S.characters source.now) flags.now)
         S.width_of result }
 {
     let flags = flags_from(flags)?;
@@ -247,12 +247,12 @@ fn diagnosed<S: Source>(
     };
     Ok(Some(CauseAndOffset {
         cause: format!(in alloc; "{}", diagnosis.cause)?,
-        at: units_before::<S>(&code_points, diagnosis.at),
+        at: units_of_first_code_points::<S>(&code_points, diagnosis.at),
     }))
 }
 
 // Returns the number of units of the first `count` code points of a pattern.
-fn units_before<S: Source>(code_points: &[u32], count: usize) -> usize
+fn units_of_first_code_points<S: Source>(code_points: &[u32], count: usize) -> usize
     requires { count ≤ length code_points.now }
     ensures { result ≡ sum_by S.width_of (take count code_points.now) }
 {

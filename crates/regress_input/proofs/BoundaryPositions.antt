@@ -6,7 +6,7 @@ use Rattle.regex_meaning.proofs.CodeUnitOffsetsLemmas.{offset-less, offset-le, p
 use Rattle.regex_meaning.specs.Text.{Text, Direction, rightwards, leftwards, last_place}
 use Rattle.regex_meaning.specs.CodeUnitOffsets.{HasRisingPlaceOffsets, offset, units, place_at, IsBoundary, read_at, read}
 
--- a boundary has a place, which has its offset
+-- A boundary has a place within the text, and the offset of the place is the boundary.
 pub record HasPlace (text : Text) (at place : ℕ) : Type 0 where
   pub found : place_at text at ≡ Some place
   pub within : place ≤ last_place text
@@ -17,7 +17,7 @@ place_found text t at place e =
     let here = offset-place_at text at place t e in
     record { found = e; within = here.1; offset_is = here.0 }
 
--- what a test of an option that passes says
+-- An option that is not empty has a value.
 some_of : {A : Type 0} (o : Option A) → IsTrue (is_some o) → (x : A) × (o ≡ Some x)
 some_of None h = absurd (cc)
 some_of (Some x) h = (x, refl)
@@ -28,25 +28,25 @@ place_of_boundary text t at b = let o = some_of (place_at text at) b in (o.0, pl
 pub boundary_of_place : (text : Text) (at place : ℕ) → place_at text at ≡ Some place → IsBoundary text at
 boundary_of_place text at place e = ap is_some e
 
--- a read from a boundary is the read from its place
+-- A read from a boundary is the read from its place.
 pub read-place : (text : Text) (d : Direction) (at place : ℕ) → place_at text at ≡ Some place → read text d at ≡ read_at text d place
 read-place text d at place e = ap (λ o. option_and_then (read_at text d) o) e
 
--- ---- Where a read goes
+-- ---- Boundaries and reads
 
 pub boundary_inside : (text : Text) → HasRisingPlaceOffsets text → (at : ℕ) → IsBoundary text at → at ≤ units text
 boundary_inside text t at b =
     let p = place_of_boundary text t at b in
     omega (arith, offset-le text p.0 (last_place text) t p.1.within (le_refl _), p.1.offset_is)
 
--- a read to the right: the character, and the two places
+-- A read to the right yields the character at a place and leads to the next place.
 pub record StepRight (text : Text) (at c to : ℕ) : Type 0 where
   pub place : ℕ
   pub from : HasPlace text at place
   pub character : slice_get text.characters place ≡ Some c
   pub upto : HasPlace text to (suc place)
 
--- a read to the left
+-- A read to the left yields the character before a place and leads to the place before.
 pub record StepLeft (text : Text) (at c to : ℕ) : Type 0 where
   pub place : ℕ
   pub from : HasPlace text at (suc place)
@@ -110,7 +110,7 @@ left_ahead text t at c to e =
 pub left_boundary : (text : Text) → HasRisingPlaceOffsets text → (at c to : ℕ) → read text leftwards at ≡ Some (c, to) → IsBoundary text to
 left_boundary text t at c to e = let s = step_left text t at c to e in boundary_of_place text to s.place s.upto.found
 
--- the reads are inverse to each other
+-- Reads to the right and reads to the left are inverse to each other.
 pub right_then_left : (text : Text) → HasRisingPlaceOffsets text → (at c to : ℕ) → read text rightwards at ≡ Some (c, to) → read text leftwards to ≡ Some (c, at)
 right_then_left text t at c to e =
     let s = step_right text t at c to e in
@@ -126,7 +126,7 @@ left_then_right text t at c to e =
     ∙ ap (option_map (λ d. (d, offset text (s.place + 1)))) s.character
     ∙ ap (λ n. Some (c, n)) (ap (offset text) (add-one s.place) ∙ s.from.offset_is)
 
--- ---- The same of the offset alone
+-- ---- Offsets to which reads lead
 past : (text : Text) (d : Direction) (at to : ℕ) → option_map (λ r. r.1) (read text d at) ≡ Some to → (c : ℕ) × (read text d at ≡ Some (pair c to))
 past text d at to e = by (read text d at) refl e
   where
@@ -146,7 +146,7 @@ before_ahead text t at to e = let r = past text leftwards at to e in left_ahead 
 pub before_boundary : (text : Text) → HasRisingPlaceOffsets text → (at to : ℕ) → option_map (λ r. r.1) (read text leftwards at) ≡ Some to → IsBoundary text to
 before_boundary text t at to e = let r = past text leftwards at to e in left_boundary text t at r.0 to r.1
 
--- ---- The ends
+-- ---- The ends of a text
 pub start_boundary : (text : Text) → HasRisingPlaceOffsets text → (at : ℕ) → at ≡ 0 → IsBoundary text at
 start_boundary text t at e =
     let found : place_at text at ≡ Some 0 = ap (place_at text) (e ∙ sym t.from_zero) ∙ place_at-offset text 0 t (omega arith) in
@@ -157,7 +157,7 @@ end_boundary text t at e =
     let found : place_at text at ≡ Some (last_place text) = ap (place_at text) e ∙ place_at-offset text (last_place text) t (omega arith) in
     boundary_of_place text at (last_place text) found
 
--- at the right end there is no character to the right
+-- At the right end, a read to the right yields nothing.
 pub read-last : (text : Text) → HasRisingPlaceOffsets text → (at : ℕ) → at ≡ units text → read text rightwards at ≡ None
 read-last text t at e =
     let last = last_place text in

@@ -35,7 +35,7 @@ contains-high (m ∷ members) h b l =
     let differs : nat_eq b m ≡ false = ne_eqb b m (λ e. absurd (omega (arith, h 0 0 (omega arith)))) in
     ap (λ (t : Bool). t || list_any (nat_eq b) members) differs ∙ contains-high members (λ k d inside. h (suc k) d (omega arith)) b l
 
--- a character of more than one byte is none of ASCII
+-- A character of more than one byte is not an ASCII character.
 wide : (c : ℕ) → 2 ≤ len_utf8 c → 128 ≤ c
 wide c l = ⊎_elim (λ h. absurd (omega (arith, len_utf8_ascii c h))) (λ h. h) (cases_lt c 128)
 
@@ -45,11 +45,11 @@ module _ (literal : List ℕ) (c : ℕ) (is_scalar : IsScalar c) (spells : liter
   bare : literal ≡ encode c ++ []
   bare = spells ∙ sym (append-nil (encode c))
 
-  -- they stand at the start of themselves
+  -- The bytes of a character encode the character at their start.
   pub stands_alone : IsEncodedAt literal 0 c
   stands_alone = record { scalar = is_scalar; rest = []; spelled = bare }
 
-  -- such bytes accept this character alone
+  -- The byte sequence of a character accepts exactly this character.
   pub test_is : (d : ℕ) → accepts (byte_sequence literal) d ≡ nat_eq c d
   test_is d =
       let one_char : chars (encodes (c ∷ [])) ≡ c ∷ [] = chars-encodes (c ∷ []) (ap (λ (b : Bool). b && true) is_scalar) in
@@ -76,7 +76,7 @@ ends_same bytes end s c t d a b = by (cases_lt (get_or bytes (end - 1) 0) 128) (
         let x = back_four bytes end s c a h i j in
         let y = back_four bytes end t d b h i j in (omega arith, omega arith)
 
--- the last byte of a character, where it is one of ASCII and where not
+-- The last byte of a character is the character itself, or both are beyond ASCII.
 last_byte : (bytes : List ℕ) (end start c : ℕ) → IsEncodedBetween bytes end start c
     → ((get_or bytes (end - 1) 0 ≡ c) × (end - 1 ≡ start)) ⊎ ((128 ≤ get_or bytes (end - 1) 0) × (128 ≤ c))
 last_byte bytes end start c s = by (cases_lt (get_or bytes (end - 1) 0) 128)
@@ -110,7 +110,7 @@ module _ (text : Text) (is_text : HasRisingPlaceOffsets text) (w : IsEncodedInUt
   in_scalars : scalars cs ≡ true
   in_scalars = ap scalars (encodes_same cs w.bytes.0 (sym w.bytes.1.1)) ∙ w.bytes.1.0
 
-  -- the length in units is that of the bytes
+  -- The length of the text in units is the number of its bytes.
   pub units-bytes_of : units text ≡ length bytes
   units-bytes_of = ap units same ∙ length-units encode len_utf8 length-encode cs bytes text.unicode text.fold spelled len_utf8-positive
 
@@ -128,14 +128,14 @@ module _ (text : Text) (is_text : HasRisingPlaceOffsets text) (w : IsEncodedInUt
   left at = subst (λ t. IsBoundary t at → ReadsLeft encode len_utf8 length-encode t cs bytes at) (sym same)
       (reads_left encode len_utf8 length-encode cs bytes text.unicode text.fold spelled len_utf8-positive at)
 
-  -- what a test answers, where the character is read
+  -- If a character is read, the test of this character decides whether a tested read succeeds.
   accepted_at : (f : ℕ → Bool) (d : Direction) (at c to : ℕ) → read text d at ≡ Some (c, to) → past_if text f d at ≡ (if f c then Some to else None)
   accepted_at f d at c to r = ap (option_and_then (λ (r : ℕ × ℕ). if f r.0 then Some r.1 else None)) r
 
   none_at : (f : ℕ → Bool) (d : Direction) (at : ℕ) → read text d at ≡ None → past_if text f d at ≡ None
   none_at f d at r = ap (option_and_then (λ (r : ℕ × ℕ). if f r.0 then Some r.1 else None)) r
 
-  -- no byte is there only at the end
+  -- If there is no byte beside a boundary, no character is accepted there.
   pub no_byte : (f : ℕ → Bool) (d : Direction) (at : ℕ) → IsBoundary text at → adjacent_byte bytes d at ≡ None → past_if text f d at ≡ None
   no_byte f rightwards at b e = elim (right at b) [
     | at_end z r ↦ none_at f rightwards at r
@@ -157,7 +157,7 @@ module _ (text : Text) (is_text : HasRisingPlaceOffsets text) (w : IsEncodedInUt
       absent : n < length bytes → ⊥
       absent l = let got = slice_get-get_or bytes n 0 l in cc
 
-  -- a byte of a set of ASCII stands there just where such a character does
+  -- A test for a set of ASCII bytes passes at a boundary exactly if the test for characters does.
   pub byte_in_set : (members : List ℕ) → All (λ b. b < 128) members → (d : Direction) (at byte to : ℕ) → IsBoundary text at
       → Some byte ≡ adjacent_byte bytes d at → to ≡ offset_after_one_unit d at → end_if_matched (contains members byte) to ≡ past_if text (contains members) d at
   byte_in_set members h rightwards at byte to b e t = elim (right at b) [

@@ -20,9 +20,9 @@ get-behind (x ∷ xs) ys i =
     let e : suc (length xs) + i ≡ suc (length xs + i) = omega arith in
     ap (slice_get (x ∷ (xs ++ ys))) e ∙ get-behind xs ys i
 
--- ---- Ranges, one more
+-- ---- Ranges with one more element
 
--- the range from a place on begins with its character
+-- A range is the element at its start and then the range from the next place on.
 pub slice-first : (xs : List ℕ) (a n c : ℕ) → slice_get xs a ≡ Some c → slice_range xs a (a + suc n) ≡ c ∷ slice_range xs (suc a) (suc a + n)
 slice-first xs a n c e =
     let i : a + suc n - a ≡ suc n = omega arith in
@@ -39,7 +39,7 @@ get-drop xs zero i = let e : i ≡ 0 + i = omega arith in ap (slice_get xs) e
 get-drop [] (suc a) i = refl
 get-drop (x ∷ xs) (suc a) i = let e : suc a + i ≡ suc (a + i) = omega arith in get-drop xs a i ∙ ap (slice_get (x ∷ xs)) (sym e)
 
--- the range up to behind a place ends with its character
+-- A range up to behind a place is the range up to the place and then the element there.
 pub slice-last : (xs : List ℕ) (s a c : ℕ) → s ≤ a → slice_get xs a ≡ Some c → slice_range xs s (suc a) ≡ slice_range xs s a ++ c ∷ []
 slice-last xs s a c l e =
     let i : suc a - s ≡ suc (a - s) = omega arith in
@@ -63,7 +63,7 @@ pointwise-snoc f (x ∷ xs) (y ∷ ys) c d e = ap (λ b. f x y && b) (pointwise-
 pub le_same : (a b c d : ℕ) → (a ≤ b → c ≤ d) → (c ≤ d → a ≤ b) → nat_le a b ≡ nat_le c d
 le_same a b c d f g = same-truth (nat_le a b) (nat_le c d) (λ e. le-leb c d (f (leb-true a b e))) (λ e. le-leb a b (g (leb-true c d e)))
 
--- what the loop's test tells
+-- If the negated test of equality passes, the numbers differ.
 pub unequal : (x y : ℕ) (b e : Bool) → b ≡ not e → e ≡ nat_eq x y → b ≡ true → x ≢ y
 unequal x y b e f g h z = absurd (no (sym (g ∙ eq-eqb x y z)))
   where

@@ -19,7 +19,7 @@ one-if : (b : Bool) → b ≡ (cond {A = ℕ} b 1 0 == 1)
 one-if true = refl
 one-if false = refl
 
--- what `to_bitmask` leaves of the comparison of masked units
+-- This is what `to_bitmask` yields for the comparison of 32 masked units.
 abbrev pub compared : Width → (us : List ℕ) (at mask bits : ℕ) → ℕ
 compared w us at mask bits =
     mask_l (map (top (val.hbits w)) (zip2 (λ a b. cond (eqb a b) (2 ^ val.bits w - 1) 0) (zip2 bit_and (chunk at 32 us) (replicate 32 mask)) (replicate 32 bits))) % 2 ^ 64
@@ -62,7 +62,7 @@ compared-marks w us at mask bits room = record { each = each; within = within }
 -- ---- Bytes
 
 module _ (us : List ℕ) (bytes : (k : ℕ) → k < length us → slice_index us k < 256) (at mask bits : ℕ) (room : at + 32 ≤ length us) where
-  -- no byte has a bit beyond its eight
+  -- If `bits` is greater than 255, no byte has these bits, so nothing is marked.
   pub marks-none : 255 < bits → MarksUnitsWithBits us at mask bits 0
   marks-none wide = record {
     each = λ i less.

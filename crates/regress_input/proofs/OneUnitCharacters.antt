@@ -2,7 +2,7 @@
 use Rattle.std.proofs.Common.{◌≡◌, ◌≢◌, ℕ, zero, suc, ◌+◌, ◌-◌, ◌<◌, ◌≤◌, List, [], ◌∷◌, length, get_or, take, flat_map, slice_range, Bool, nat_eq}
 use Rattle.std.proofs.Common.{Some, None, option_map, refl, sym, ◌∙◌, ap, ap₂, subst, arith}
 use Rattle.std.proofs.lemmas.Option.{slice_get-get_or, slice_get_past}
-use Rattle.regex_meaning.specs.Text.{Text, Direction, rightwards, leftwards, one_unit}
+use Rattle.regex_meaning.specs.Text.{Text, Direction, rightwards, leftwards, width_of_single_unit_character}
 use Rattle.regex_meaning.specs.CodeUnitOffsets.{HasRisingPlaceOffsets, IsBoundary, offset, units, place_at, read}
 use Rattle.regex_meaning.proofs.CodeUnitOffsetsLemmas.{place_at-offset, offset-IsBoundary}
 use Rattle.regress_input.specs.CharAndByteReadsFromOffset.{part, characters_between, past_spelled_if_next, past_numbers_if_next}
@@ -13,10 +13,10 @@ use Rattle.regress_input.proofs.TextSlices.{part-is, literal-right, literal-left
 abbrev single : ℕ → List ℕ
 single c = c ∷ []
 
-sized : (c : ℕ) → length (single c) ≡ one_unit c
+sized : (c : ℕ) → length (single c) ≡ width_of_single_unit_character c
 sized c = refl
 
-positive : (c : ℕ) → 0 < one_unit c
+positive : (c : ℕ) → 0 < width_of_single_unit_character c
 positive c = omega arith
 
 pub all_single : (us : List ℕ) → flat_map single us ≡ us
@@ -30,14 +30,14 @@ units_of (u ∷ us) (suc k) l = omega (arith, units_of us k (omega arith))
 
 module _ (us : List ℕ) (unicode : Bool) (fold : ℕ → ℕ) where
   abbrev this : Text
-  this = text_of one_unit us unicode fold
+  this = text_of width_of_single_unit_character us unicode fold
 
   this_is_text : HasRisingPlaceOffsets this
-  this_is_text = is_text one_unit positive us unicode fold
+  this_is_text = is_text width_of_single_unit_character positive us unicode fold
 
-  -- the offset of a place is its number
+  -- The offset of a place is the number of the place.
   offset_of_place : (k : ℕ) → k ≤ length us → offset this k ≡ k
-  offset_of_place k l = offset-spelling single one_unit sized 0 us k l ∙ (let e = units_of us k l in omega arith)
+  offset_of_place k l = offset-spelling single width_of_single_unit_character sized 0 us k l ∙ (let e = units_of us k l in omega arith)
 
   pub boundary : (at : ℕ) → at ≤ length us → IsBoundary this at
   boundary at l = subst (IsBoundary this) (offset_of_place at l) (offset-IsBoundary this at this_is_text l)
@@ -62,11 +62,11 @@ module _ (us : List ℕ) (unicode : Bool) (fold : ℕ → ℕ) where
       ∙ ap (option_map (λ c. pair c (offset this (at + 1)))) (slice_get-get_or us at 0 l)
       ∙ ap (λ n. Some (pair (get_or us at 0) n)) (offset_of_place (at + 1) (omega arith))
 
-  -- a text that is not over has a unit
+  -- An offset before the end of the text has a unit.
   pub within : (at : ℕ) → at < units this → at < length us
   within at l = omega (arith, l, units-length)
 
-  -- so it is read to where a function led, and there is one there
+  -- Before the end, a read to the right yields the unit there and leads to the next offset.
   pub reads-on : (at to : ℕ) → at < units this → to ≡ at + 1 → read this rightwards at ≡ Some (pair (get_or us at 0) to)
   reads-on at to l e = read-unit at (within at l) ∙ ap (λ n. Some (pair (get_or us at 0) n)) (sym e)
 
@@ -87,19 +87,19 @@ module _ (us : List ℕ) (unicode : Bool) (fold : ℕ → ℕ) where
   between_is : (a b : ℕ) → IsBoundary this a → IsBoundary this b → characters_between this a b ≡ slice_range us a b
   between_is a b f g = ap₂ (slice_range us) (place_is this a a (found_at a (inside a f))) (place_is this b b (found_at b (inside b g)))
 
-  pub part-one : (a b : ℕ) → IsBoundary this a → IsBoundary this b → a ≤ b → text_of one_unit (slice_range us a b) unicode fold ≡ part this a b
+  pub part-one : (a b : ℕ) → IsBoundary this a → IsBoundary this b → a ≤ b → text_of width_of_single_unit_character (slice_range us a b) unicode fold ≡ part this a b
   part-one a b f g l =
-      ap (λ cs. text_of one_unit cs unicode fold) (sym (between_is a b f g))
-      ∙ part-is single one_unit sized us us unicode fold (all_single us) positive a b f g l
+      ap (λ cs. text_of width_of_single_unit_character cs unicode fold) (sym (between_is a b f g))
+      ∙ part-is single width_of_single_unit_character sized us us unicode fold (all_single us) positive a b f g l
 
-  injective : IsInjective single one_unit sized us us unicode fold (all_single us) positive
+  injective : IsInjective single width_of_single_unit_character sized us us unicode fold (all_single us) positive
   injective p q i j e = sym (all_single (slice_range us p q)) ∙ e ∙ all_single (slice_range us i j)
 
   pub literal-one : (d : Direction) (at a b : ℕ) → IsBoundary this at → IsBoundary this a → IsBoundary this b → a ≤ b
       → past_numbers_if_next us (slice_range us a b) d at ≡ past_spelled_if_next this nat_eq (characters_between this a b) d at
   literal-one rightwards at a b at_b f g l =
-      literal-right single one_unit sized us us unicode fold (all_single us) positive injective at a b at_b f g l
+      literal-right single width_of_single_unit_character sized us us unicode fold (all_single us) positive injective at a b at_b f g l
       (λ to h. boundary to (omega (arith, h.to_is, h.fits)))
   literal-one leftwards at a b at_b f g l =
-      literal-left single one_unit sized us us unicode fold (all_single us) positive injective at a b at_b f g l
+      literal-left single width_of_single_unit_character sized us us unicode fold (all_single us) positive injective at a b at_b f g l
       (λ to h. boundary to (omega (arith, h.to_is, h.fits, inside at at_b)))

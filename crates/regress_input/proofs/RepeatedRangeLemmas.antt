@@ -14,24 +14,24 @@ use Rattle.regress_input.proofs.BoundaryPositions.{HasPlace, place_of_boundary, 
 use Rattle.regress_input.proofs.TextSlices.{place_is}
 use Rattle.regress_input.proofs.ListRangeLemmas.{slice-first, slice-last, pointwise-snoc, le_same}
 
--- ---- One by one
+-- ---- Comparison of characters one by one
 
 module _ (text : Text) (same : ℕ → ℕ → Bool) where
   abbrev cs : List ℕ
   cs = text.characters
 
-  -- on from two characters that are the same
+  -- If both characters exist and are the same, the result is `on`, and otherwise nothing.
   abbrev pub both : Option ℕ → Option ℕ → Option ℕ → Option ℕ
   both None d on = None
   both (Some c) None on = None
   both (Some c) (Some d) on = if same c d then on else None
 
-  -- where n characters lead from the place k that are the same as those from the place a
+  -- This is where `n` characters from `k` lead if one by one they are the same as those from `a`.
   abbrev pub run : Direction → (n a k : ℕ) → Option ℕ
   run d zero a k = Some k
   run d (suc n) a k = both (next_character text d a) (next_character text d k) (run d n (moved text d 1 a) (moved text d 1 k))
 
-  -- the same at once
+  -- This is the same comparison of all `n` characters at once.
   abbrev at_once : Direction → (n a k : ℕ) → Option ℕ
   at_once d n a k =
       if nat_le n (characters_ahead text d k) && pointwise same (next_characters text d n a) (next_characters text d n k)
@@ -167,9 +167,10 @@ module _ (text : Text) (same : ℕ → ℕ → Bool) where
       by (Some c) = sym (fails _ (0 - suc n) test)
   run-left (suc n) (suc a) (suc k) l m o = step-left n a k l m o (run-left n a k (omega arith) (omega arith) (omega arith))
 
-  -- ---- As a loop compares them
+  -- ---- Comparison by a loop
 
-  -- What is to come: n more characters from the offset `at` up to `stop`, beside those from `pos`; they lead to `found`.
+  -- `count` more characters from `at` to `stop` are to be compared with those from `pos`, and this
+  -- leads to `found`.
   pub record Comparing (d : Direction) (at stop pos : ℕ) (found : Option ℕ) : Type 0 where
     pub count : ℕ
     pub from : ℕ
@@ -193,7 +194,7 @@ module _ (text : Text) (same : ℕ → ℕ → Bool) where
     places_in_order : (a b p q : ℕ) → HasPlace text a p → HasPlace text b q → a ≤ b → p ≤ q
     places_in_order a b p q f g l = place-le text p q is_text f.within g.within (omega (arith, f.offset_is, g.offset_is))
 
-    -- the range that is compared, by places
+    -- The range that is compared is given by these places.
     module _ (at from to : ℕ) (b : IsBoundary text at) (f : IsBoundary text from) (t : IsBoundary text to) (l : from ≤ to) where
       abbrev first_place : ℕ
       first_place = place text from
@@ -262,13 +263,13 @@ module _ (text : Text) (same : ℕ → ℕ → Bool) where
     none_left rightwards n p l e = omega arith
     none_left leftwards n p l e = omega arith
 
-    -- at the stop they are found
+    -- At the stop, the range is found, and it ends at `pos`.
     pub stopped : (d : Direction) (at stop pos : ℕ) (found : Option ℕ) → Comparing d at stop pos found → at ≡ stop → found ≡ Some pos
     stopped d at stop pos found c e =
         let none : c.count ≡ 0 = none_left d c.count c.from c.fits (same_place at stop c.from (moved text d c.count c.from) c.at_from c.stops e) in
         c.found_is ∙ ap (λ n. option_map (λ p. offset text p) (run d n c.from c.there)) none ∙ ap Some c.pos_there.offset_is
 
-    -- a character that is read is the next one of its place
+    -- A character that is read at an offset is the next one of its place and leads one place on.
     read_next : (d : Direction) (at c to p : ℕ) → HasPlace text at p → read text d at ≡ Some (pair c to) → (next_character text d p ≡ Some c) × HasPlace text to (moved text d 1 p)
     read_next rightwards at c to p h r =
         let s = step_right text is_text at c to r in
@@ -309,7 +310,7 @@ module _ (text : Text) (same : ℕ → ℕ → Bool) where
         → run d (suc n) a k ≡ (if same c e then run d n (moved text d 1 a) (moved text d 1 k) else None)
     run-some d n a k c e f g = ap₂ (λ o p. both o p (run d n (moved text d 1 a) (moved text d 1 k))) f g
 
-    -- before the stop there is a character to come
+    -- Before the stop, at least one more character is to be compared.
     more : (d : Direction) (at stop pos : ℕ) (found : Option ℕ) (c : Comparing d at stop pos found) → at ≢ stop → (n : ℕ) × (c.count ≡ suc n)
     more d at stop pos found c ne = by c.count refl
       where
@@ -371,7 +372,7 @@ module _ (text : Text) (same : ℕ → ℕ → Bool) where
               (run-some d n.0 c.from c.there x y a.0 k.0 ∙ ap (λ (b : Bool). if b then run d n.0 (moved text d 1 c.from) (moved text d 1 c.there) else None) f);
         }
 
-    -- where a loop in either direction begins
+    -- A loop in either direction begins with the comparison of the whole range.
     pub starts : (forward : Bool) (at from to a stop : ℕ) → IsBoundary text at → IsBoundary text from → IsBoundary text to → from ≤ to
         → ((a ≡ from) × (stop ≡ to) × (forward ≡ true)) ⊎ ((a ≡ to) × (stop ≡ from) × (forward ≡ false))
         → Comparing (direction_of_forward_flag forward) a stop at (past_spelled_if_next text same (characters_between text from to) (direction_of_forward_flag forward) at)
@@ -386,7 +387,7 @@ module _ (text : Text) (same : ℕ → ℕ → Bool) where
         (subst (λ m. Comparing leftwards to m at (past_spelled_if_next text same (characters_between text from to) leftwards at)) (sym y)
         (start_left at from to b f t l)))
 
-    -- each step takes one nearer to the stop
+    -- Each step leads nearer to the stop.
     pub nearer : (d : Direction) (at stop pos : ℕ) (found : Option ℕ) (x at' pos' : ℕ) → Comparing d at stop pos found → Comparing d at' stop pos' found → at ≢ stop
         → read text d at ≡ Some (pair x at') → (at' - stop) + (stop - at') < (at - stop) + (stop - at)
     nearer rightwards at stop pos found x at' pos' c c' ne r =

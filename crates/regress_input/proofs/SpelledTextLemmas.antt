@@ -9,7 +9,7 @@ use Rattle.regex_meaning.proofs.CodeUnitOffsetsLemmas.{offsets-rise, length-offs
 use Rattle.regress_input.proofs.ListRangeLemmas.{get-cons}
 use Rattle.regress_input.proofs.BoundaryPositions.{HasPlace, place_of_boundary, read-place}
 
--- characters with these widths
+-- This is the text of characters with these widths.
 abbrev pub text_of : (width : ℕ → ℕ) → List ℕ → (unicode : Bool) → (fold : ℕ → ℕ) → Text
 text_of width cs unicode fold = record { characters = cs; offsets = offsets_from 0 (map width cs); unicode = unicode; fold = fold }
 
@@ -17,11 +17,11 @@ pub is_text : (width : ℕ → ℕ) (positive : (c : ℕ) → 0 < width c) (cs :
 is_text width positive cs unicode fold = record { from_zero = first-offset width cs 0; rises = offsets-rise width cs 0 positive; one_offset_per_place = length-offsets width cs 0 }
 
 module _ (spell : ℕ → List ℕ) (width : ℕ → ℕ) (sized : (c : ℕ) → length (spell c) ≡ width c) where
-  -- the units of the characters
+  -- These are the units of the characters.
   abbrev pub spelling : List ℕ → List ℕ
   spelling cs = flat_map spell cs
 
-  -- an offset is the number of units before it
+  -- An offset is the number of the units before it.
   pub offset-spelling : (a : ℕ) (cs : List ℕ) (k : ℕ) → k ≤ length cs → get_or (offsets_from a (map width cs)) k 0 ≡ a + length (spelling (take k cs))
   offset-spelling a [] zero l = omega arith
   offset-spelling a [] (suc k) l = absurd (omega arith)
@@ -29,7 +29,7 @@ module _ (spell : ℕ → List ℕ) (width : ℕ → ℕ) (sized : (c : ℕ) →
   offset-spelling a (c ∷ cs) (suc k) l =
       omega (arith, offset-spelling (a + width c) cs k (omega arith), length-append (spell c) (spelling (take k cs)), sized c)
 
-  -- the units before and behind a place
+  -- A cut divides the units and the characters at the same place.
   pub record Cut (cs us : List ℕ) (at k : ℕ) : Type 0 where
     pub length_is : at ≡ length (spelling (take k cs))
     pub before : take at us ≡ spelling (take k cs)
@@ -61,13 +61,13 @@ module _ (spell : ℕ → List ℕ) (width : ℕ → ℕ) (sized : (c : ℕ) →
   offset-behind a (d ∷ f ∷ cs) zero c e = let same : d ≡ c = cc in ap (λ x. a + width x) same
   offset-behind a (d ∷ cs) (suc k) c e = offset-behind (a + width d) cs k c e
 
-  -- what is read to the right of an offset of such units
+  -- An offset is at the end, or the character that the units behind it spell is read to the right.
   pub data ReadsRight (text : Text) (cs us : List ℕ) (at : ℕ) : Type 0 where
     at_end : at ≡ length us → read text rightwards at ≡ None → ReadsRight text cs us at
     before_character : (k c : ℕ) (rest : List ℕ) → slice_get cs k ≡ Some c → drop at us ≡ spell c ++ rest → at + width c ≤ length us
         → read text rightwards at ≡ Some (c, at + width c) → ReadsRight text cs us at
 
-  -- and to the left
+  -- An offset is at the start, or the character that the units before it spell is read to the left.
   pub data ReadsLeft (text : Text) (cs us : List ℕ) (at : ℕ) : Type 0 where
     at_start : at ≡ 0 → read text leftwards at ≡ None → ReadsLeft text cs us at
     behind_character : (k c start : ℕ) (rest : List ℕ) → slice_get cs k ≡ Some c → drop start us ≡ spell c ++ rest → start + width c ≡ at → at ≤ length us
@@ -77,7 +77,7 @@ module _ (spell : ℕ → List ℕ) (width : ℕ → ℕ) (sized : (c : ℕ) →
     abbrev this : Text
     this = text_of width cs unicode fold
 
-    -- the place of a boundary, and the units beside it
+    -- A boundary has a place, and units and characters are cut there.
     pub cut_at : (at : ℕ) → IsBoundary this at → (k : ℕ) × HasPlace this at k × Cut cs us at k
     cut_at at b =
         let p = place_of_boundary this (is_text width positive cs unicode fold) at b in

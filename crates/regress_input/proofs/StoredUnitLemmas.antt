@@ -6,13 +6,13 @@ use Rattle.std.proofs.lemmas.Option.{slice_get-map, slice_get-get_or}
 use lib.Pointwise.{pointwise}
 use Rattle.regex_meaning.specs.Text.{Text, Direction, rightwards, leftwards}
 use Rattle.regex_meaning.specs.CodeUnitOffsets.{units, IsBoundary}
-use Rattle.regex_meaning.specs.CodeUnits.{Encoding, utf8, utf16, ucs2, text_units_in_encoding, IsSpelledIn}
+use Rattle.regex_meaning.specs.CodeUnits.{Encoding, utf8, utf16, ucs2, text_units_in_encoding, HasOffsetsInEncoding}
 use Rattle.regress_input.specs.CharAndByteReadsFromOffset.{is_byte_encoding, bytes_if_byte_units, past_units_if_next, past_numbers_if_next, past_repeated_range_if_next}
 use Rattle.regress_input.specs.TextCodeUnits.{as_bytes, unless_splitting_pair, UnitsOccurWhereCharactersDo}
 use Rattle.regress_input.proofs.UnitsAtBoundaries.{units-length}
 use Rattle.regress_input.proofs.UnitsOfInputTexts.{utf8-units}
 
--- a list of numbers that units are held as
+-- If the units are held as numbers, these numbers are the units of the text.
 pub numbers : (e : Encoding) (text : Text) (held us : List ℕ) → held ≡ us → text_units_in_encoding e text ≡ us → map (λ u. u) held ≡ text_units_in_encoding e text
 numbers e text held us h w = map-id held ∙ h ∙ sym w
 
@@ -20,7 +20,7 @@ pub stand : (e : Encoding) (text : Text) (held us : List ℕ) → held ≡ us �
 stand e text held us h all = subst (λ l. UnitsOccurWhereCharactersDo e l text) (sym (map-id held ∙ h)) all
 
 module _ {Unit : Type 0} (number : Unit → ℕ) where
-  pub count-is : (e : Encoding) (text : Text) → IsSpelledIn e text → (held : List Unit) → map number held ≡ text_units_in_encoding e text → length held ≡ units text
+  pub count-is : (e : Encoding) (text : Text) → HasOffsetsInEncoding e text → (held : List Unit) → map number held ≡ text_units_in_encoding e text → length held ≡ units text
   count-is e text s held h = sym (length-map held number) ∙ ap length h ∙ sym (units-length e text s)
 
   bytes-by : (e : Encoding) (text : Text) (held : List Unit) → map number held ≡ text_units_in_encoding e text → as_bytes (is_byte_encoding e) number held ≡ bytes_if_byte_units (is_byte_encoding e) text
@@ -32,7 +32,7 @@ module _ {Unit : Type 0} (number : Unit → ℕ) where
       → as_bytes is number held ≡ bytes_if_byte_units are text
   bytes-are e is are a b text held h = ap (λ x. as_bytes x number held) a ∙ bytes-by e text held h ∙ ap (λ x. bytes_if_byte_units x text) (sym b)
 
-  -- units are equal as their numbers are
+  -- Lists of units are equal exactly if the lists of their numbers are.
   equal-as : (same : Unit → Unit → Bool) → ((a b : Unit) → same a b ≡ nat_eq (number a) (number b)) → (xs ys : List Unit)
       → pointwise same xs ys ≡ pointwise nat_eq (map number xs) (map number ys)
   equal-as same e [] [] = refl
@@ -43,7 +43,7 @@ module _ {Unit : Type 0} (number : Unit → ℕ) where
   pub range-map : (xs : List Unit) (a b : ℕ) → slice_range (map number xs) a b ≡ map number (slice_range xs a b)
   range-map xs a b = ap (take (b - a)) (drop-map number a xs) ∙ take-map number (b - a) (drop a xs)
 
-  -- they stand where their numbers do
+  -- Units are found beside an offset exactly where their numbers are.
   pub stand-as : (same : Unit → Unit → Bool) → ((a b : Unit) → same a b ≡ nat_eq (number a) (number b)) → (all these : List Unit) (d : Direction) (at : ℕ)
       → past_units_if_next same all these d at ≡ past_numbers_if_next (map number all) (map number these) d at
   stand-as same e all these rightwards at =
@@ -57,14 +57,14 @@ module _ {Unit : Type 0} (number : Unit → ℕ) where
       (equal-as same e (slice_range all (at - length these) at) these ∙ ap (λ l. pointwise nat_eq l (map number these)) (sym (range-map all (at - length these) at)))
       ∙ ap (λ k. cond (nat_le k at && pointwise nat_eq (slice_range (map number all) (at - k) at) (map number these)) (Some (at - k)) None) (sym n)
 
-  -- the unit that stands at an offset
+  -- The unit that is held at an offset is, as a number, the unit of the text there.
   pub unit-is : (e : Encoding) (text : Text) (held : List Unit) → map number held ≡ text_units_in_encoding e text → (at to : ℕ) → to ≡ at → to < length held
       → (x : Unit) → x ≡ get_or held to x → (n : ℕ) → n ≡ number x → slice_get (text_units_in_encoding e text) at ≡ Some n
   unit-is e text held h at to t l x is n m =
       ap (λ us. slice_get us at) (sym h) ∙ slice_get-map number held at ∙ ap (λ k. option_map number (slice_get held k)) (sym t)
       ∙ ap (option_map number) (slice_get-get_or held to x l ∙ ap Some (sym is)) ∙ ap Some (sym m)
 
-  -- where a range of them was found once more, its characters stand
+  -- A range of held units occurs again exactly where the characters of the range do.
   pub again-is : (e : Encoding) (text : Text) (held : List Unit) → UnitsOccurWhereCharactersDo e (map number held) text
       → (same : Unit → Unit → Bool) → ((a b : Unit) → same a b ≡ nat_eq (number a) (number b))
       → (d d' : Direction) → d' ≡ d → (at at' a a' b b' : ℕ) → at' ≡ at → a' ≡ a → b' ≡ b

@@ -19,7 +19,7 @@ same_option None None f g = refl
 same_option None (Some x) f g = g x refl
 same_option (Some x) p f g = sym (f x refl)
 
--- what a choice that was made tells
+-- If a choice yields a value, its test passed and the value is the given one.
 pub chosen : (b : Bool) (to x : ℕ) → cond b (Some to) None ≡ Some x → (b ≡ true) × (x ≡ to)
 chosen true to x e = (refl, cc)
 chosen false to x e = absurd (cc)
@@ -32,22 +32,22 @@ place_is text at k e = ap (λ o. unwrap_or o 0) e
 slice-length : (xs : List ℕ) (a b : ℕ) → b ≤ length xs → length (slice_range xs a b) ≡ b - a
 slice-length xs a b l = omega (arith, length-take (b - a) (drop a xs), length-drop a xs)
 
--- the first b are the first a and the range behind them
+-- The first `b` elements are the first `a` elements and then the range from `a` to `b`.
 pub take-slice : (xs : List ℕ) (a b : ℕ) → a ≤ b → take b xs ≡ take a xs ++ slice_range xs a b
 take-slice xs a b l = let e : b ≡ a + (b - a) = omega arith in ap (λ n. take n xs) e ∙ take-add a (b - a) xs
 
--- ---- What a test of literal units tells
+-- ---- Tests of literal units
 
 choose : (b : Bool) (to : ℕ) → b ≡ true → cond b (Some to) None ≡ Some to
 choose b to e = ap (λ (t : Bool). cond t (Some to) None) e
 
--- the units stand behind the offset
+-- The units stand behind the offset `at` and end at `to`.
 pub record StandBehind (us ys : List ℕ) (at to : ℕ) : Type 0 where
   pub to_is : to ≡ at + length ys
   pub fits : at + length ys ≤ length us
   pub are : slice_range us at (at + length ys) ≡ ys
 
--- the units stand before the offset
+-- The units stand before the offset `at` and begin at `to`.
 pub record StandBefore (us ys : List ℕ) (at to : ℕ) : Type 0 where
   pub to_is : to ≡ at - length ys
   pub fits : length ys ≤ at
@@ -75,7 +75,7 @@ left-past_bytes us ys at to h =
     choose (nat_le (length ys) at && pointwise nat_eq (slice_range us (at - length ys) at) ys) (at - length ys)
     (and_from _ _ (le-leb _ _ h.fits) ((bytes_decides (slice_range us (at - length ys) at) ys).1 h.are)) ∙ ap Some (sym h.to_is)
 
--- ---- The same of characters, from a place
+-- ---- Tests of characters from a place
 
 abbrev past_place : (text : Text) → List ℕ → Direction → (k : ℕ) → Option ℕ
 past_place text xs d k =
@@ -110,7 +110,7 @@ module _ (spell : ℕ → List ℕ) (width : ℕ → ℕ) (sized : (c : ℕ) →
   abbrev Cuts : (cs us : List ℕ) (at k : ℕ) → Type 0
   Cuts = Cut spell width sized
 
-  -- the units between two cuts
+  -- The units between two cuts are those of the characters between them.
   pub record Between (cs us : List ℕ) (a b p q : ℕ) : Type 0 where
     pub length_is : b ≡ a + length (spelt (slice_range cs p q))
     pub are : slice_range us a b ≡ spelt (slice_range cs p q)
@@ -128,7 +128,7 @@ module _ (spell : ℕ → List ℕ) (width : ℕ → ℕ) (sized : (c : ℕ) →
         are = sym (drop_at (spelt (take p cs)) (slice_range us a b) a lead) ∙ ap (drop a) same ∙ drop_at (spelt (take p cs)) (spelt (slice_range cs p q)) a lead;
       }
 
-  -- the offsets of a range
+  -- The first offsets of a text are the offsets of its first characters.
   offsets-front : (a : ℕ) (cs : List ℕ) (n : ℕ) → n ≤ length cs → take (suc n) (offsets_from a (map width cs)) ≡ offsets_from a (map width (take n cs))
   offsets-front a [] zero l = refl
   offsets-front a [] (suc n) l = absurd (omega arith)
@@ -169,7 +169,7 @@ module _ (spell : ℕ → List ℕ) (width : ℕ → ℕ) (sized : (c : ℕ) →
     in_order : (a b p q : ℕ) → HasPlace this a p → HasPlace this b q → a ≤ b → p ≤ q
     in_order a b p q f g l = place-le this p q (is_text width positive cs unicode fold) f.within g.within (omega (arith, f.offset_is, g.offset_is))
 
-    -- the units of a range are those of its characters
+    -- The units of a range are those of its characters.
     pub range-units : (a b : ℕ) → IsBoundary this a → IsBoundary this b → a ≤ b → slice_range us a b ≡ spelt (characters_between this a b)
     range-units a b f g l =
         let (p, at_p, cut_p) = here a f in
@@ -177,7 +177,7 @@ module _ (spell : ℕ → List ℕ) (width : ℕ → ℕ) (sized : (c : ℕ) →
         (text_between cs us a b p q (in_order a b p q at_p at_q l) cut_p cut_q).are
         ∙ sym (ap₂ (λ i j. spelt (slice_range cs i j)) (place_is this a p at_p.found) (place_is this b q at_q.found))
 
-    -- a part is the text of its characters
+    -- A part of the text is the text of its characters.
     pub part-is : (a b : ℕ) → IsBoundary this a → IsBoundary this b → a ≤ b → text_of width (characters_between this a b) unicode fold ≡ part this a b
     part-is a b f g l =
         let (p, at_p, cut_p) = here a f in
@@ -198,16 +198,16 @@ module _ (spell : ℕ → List ℕ) (width : ℕ → ℕ) (sized : (c : ℕ) →
     cut_inside : (at m : ℕ) → Cuts cs us at m → at ≤ length us
     cut_inside at m c = omega (arith, c.length_is, ap length c.before, length-take at us)
 
-    -- no two ranges of characters are spelled alike
+    -- Ranges of characters with the same units are equal.
     abbrev pub IsInjective : Type 0
     IsInjective = (p q i j : ℕ) → spelt (slice_range cs p q) ≡ spelt (slice_range cs i j) → slice_range cs p q ≡ slice_range cs i j
 
-    -- what has the units of a range is the range
+    -- A range of characters that has the units of another range is equal to it.
     alike : IsInjective → (a b i j p q : ℕ) (ys : List ℕ) → Between cs us a b i j → slice_range us a b ≡ ys → ys ≡ spelt (slice_range cs p q)
         → slice_range cs i j ≡ slice_range cs p q
     alike inject a b i j p q ys btw units same = inject i j p q (sym btw.are ∙ units ∙ same)
 
-    -- from the places of the boundaries: ys are the units of the characters between two of them
+    -- Between places of boundaries, the units of a range stand exactly where its characters do.
     right-spelt : IsInjective → (at k p q to : ℕ) (ys : List ℕ) → HasPlace this at k → Cuts cs us at k → ys ≡ spelt (slice_range cs p q)
         → StandBehind us ys at to → IsBoundary this to → Spelt this (slice_range cs p q) rightwards k to
     right-spelt inject at k p q to ys at_k cut_k same h b =
@@ -261,7 +261,7 @@ module _ (spell : ℕ → List ℕ) (width : ℕ → ℕ) (sized : (c : ℕ) →
         let start : offset this m ≡ at - length ys = omega arith in
         record { to_is = h.to_is ∙ start; fits = omega arith; are = ap (λ n. slice_range us n at) (sym start) ∙ btw.are ∙ units }
 
-    -- an end of such characters is a boundary
+    -- Characters of the text that stand beside a boundary end at a boundary.
     ends-right : (at k to : ℕ) (xs : List ℕ) → HasPlace this at k → Spelt this xs rightwards k to → IsBoundary this to
     ends-right at k to xs p h =
         subst (IsBoundary this) (sym h.to_is) (offset-IsBoundary this (k + length xs) (is_text width positive cs unicode fold) (omega (arith, h.fits, p.within)))
@@ -270,9 +270,9 @@ module _ (spell : ℕ → List ℕ) (width : ℕ → ℕ) (sized : (c : ℕ) →
     ends-left at k to xs p h =
         subst (IsBoundary this) (sym h.to_is) (offset-IsBoundary this (k - length xs) (is_text width positive cs unicode fold) (omega (arith, p.within)))
 
-    -- What is found just where the units of a range stand beside a boundary, up to another one, is found just where its
-    -- characters stand.
-    -- How units stand on a side: at an offset, up to another one.
+    -- `Stand` tells how units stand on one side of an offset, up to another offset. What is found
+    -- exactly where the units of a range stand beside a boundary, up to another one, is found
+    -- exactly where its characters stand.
     found-beside : (d : Direction) (Stand : (ys : List ℕ) (at to : ℕ) → Type 0)
         → ((at k p q to : ℕ) (ys : List ℕ) → HasPlace this at k → Cuts cs us at k → ys ≡ spelt (slice_range cs p q) → Stand ys at to → IsBoundary this to → Spelt this (slice_range cs p q) d k to)
         → ((at k p q to : ℕ) (ys : List ℕ) → HasPlace this at k → Cuts cs us at k → ys ≡ spelt (slice_range cs p q) → Spelt this (slice_range cs p q) d k to → Stand ys at to)
@@ -307,7 +307,8 @@ module _ (spell : ℕ → List ℕ) (width : ℕ → ℕ) (sized : (c : ℕ) →
         → found ≡ past_spelled_if_next this nat_eq (characters_between this a b) leftwards at
     found-left inject = found-beside leftwards (StandBefore us) (left-spelt inject) spelt-left ends-left
 
-    -- The units of a range stand beside a boundary just where its characters do, if where they end is a boundary.
+    -- The units of a range are found beside a boundary exactly where its characters are, if the
+    -- units always end at a boundary.
     abbrev pub IsLiteral : (d : Direction) (Stand : (ys : List ℕ) (at to : ℕ) → Type 0) → Type 0
     IsLiteral d Stand =
         (at a b : ℕ) → IsBoundary this at → IsBoundary this a → IsBoundary this b → a ≤ b

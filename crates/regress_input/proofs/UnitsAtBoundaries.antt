@@ -10,7 +10,7 @@ use lib.Utf8.{encode, next}
 use Rattle.regex_meaning.specs.NumberListHelpers.{contains}
 use Rattle.regex_meaning.specs.Text.{Text, rightwards, leftwards, offsets_from}
 use Rattle.regex_meaning.specs.CodeUnitOffsets.{HasRisingPlaceOffsets, offset, units, place_at, read}
-use Rattle.regex_meaning.specs.CodeUnits.{Encoding, utf8, utf16, ucs2, spelled_in, text_units_in_encoding, IsSpelledIn}
+use Rattle.regex_meaning.specs.CodeUnits.{Encoding, utf8, utf16, ucs2, code_units_of_character, text_units_in_encoding, HasOffsetsInEncoding}
 use Rattle.regress_input.specs.Utf8.{is_continuation_byte}
 use Rattle.regress_input.specs.TextSpellingAndOffsetLimit.{sized_utf8, sized_utf16}
 use Rattle.regress_input.proofs.ListRangeLemmas.{get-cons, get-front, get-behind}
@@ -20,72 +20,72 @@ use Rattle.regress_input.proofs.Utf8Reads.{encode_two, encode_three, encode_four
 use Rattle.regex_meaning.proofs.FirstByteOfCharacter.{encode-1}
 use Rattle.regex_meaning.proofs.CodeUnitOffsetsLemmas.{len_utf8-positive, utf16_width-positive}
 
--- ---- In every encoding
+-- ---- All encodings
 
 abbrev width : Encoding → ℕ → ℕ
-width e c = length (spelled_in e c)
+width e c = length (code_units_of_character e c)
 
--- a character has a unit
-pub has-unit : (e : Encoding) (c : ℕ) → 0 < length (spelled_in e c)
+-- Each character has at least one unit.
+pub has-unit : (e : Encoding) (c : ℕ) → 0 < length (code_units_of_character e c)
 has-unit utf8 c = omega (arith, sized_utf8 c, len_utf8-positive c)
 has-unit utf16 c = omega (arith, sized_utf16 c, utf16_width-positive c)
 has-unit ucs2 c = omega arith
 
-module _ (e : Encoding) (text : Text) (s : IsSpelledIn e text) where
+module _ (e : Encoding) (text : Text) (s : HasOffsetsInEncoding e text) where
   abbrev cs : List ℕ
   cs = text.characters
 
   abbrev spell : List ℕ → List ℕ
-  spell = flat_map (spelled_in e)
+  spell = flat_map (code_units_of_character e)
 
-  -- an offset is the number of units before it
+  -- An offset is the number of the units before it.
   pub offset-units : (k : ℕ) → k ≤ length cs → offset text k ≡ length (spell (take k cs))
   offset-units k l =
       ap (λ (os : List ℕ). slice_index os k) s.offsets
-      ∙ offset-spelling (spelled_in e) (width e) (λ c. refl) 0 cs k l ∙ omega arith
+      ∙ offset-spelling (code_units_of_character e) (width e) (λ c. refl) 0 cs k l ∙ omega arith
 
-  -- the length of the text is that of its units
+  -- The length of the text is the number of its units.
   pub units-length : units text ≡ length (text_units_in_encoding e text)
   units-length = offset-units (length cs) (omega arith) ∙ ap (λ l. length (spell l)) (take_all (length cs) cs (omega arith))
 
-  -- neighbouring offsets differ by the length of the spelling between them
-  pub offset-next : (k c : ℕ) → slice_get cs k ≡ Some c → offset text (suc k) ≡ offset text k + length (spelled_in e c)
+  -- Neighbouring offsets differ by the number of units of the character between them.
+  pub offset-next : (k c : ℕ) → slice_get cs k ≡ Some c → offset text (suc k) ≡ offset text k + length (code_units_of_character e c)
   offset-next k c g =
       ap (λ (os : List ℕ). slice_index os (suc k)) s.offsets
-      ∙ offset-behind (spelled_in e) (width e) (λ d. refl) 0 cs k c g
-      ∙ ap (λ (os : List ℕ). slice_index os k + length (spelled_in e c)) (sym s.offsets)
+      ∙ offset-behind (code_units_of_character e) (width e) (λ d. refl) 0 cs k c g
+      ∙ ap (λ (os : List ℕ). slice_index os k + length (code_units_of_character e c)) (sym s.offsets)
 
-  -- from the offset of a character on stand its units
-  pub unit-at : (k c i : ℕ) → slice_get cs k ≡ Some c → k ≤ length cs → i < length (spelled_in e c)
-      → slice_get (text_units_in_encoding e text) (offset text k + i) ≡ slice_get (spelled_in e c) i
+  -- The units of a character stand from the offset of its place on.
+  pub unit-at : (k c i : ℕ) → slice_get cs k ≡ Some c → k ≤ length cs → i < length (code_units_of_character e c)
+      → slice_get (text_units_in_encoding e text) (offset text k + i) ≡ slice_get (code_units_of_character e c) i
   unit-at k c i g l m =
-      let parts : spell cs ≡ spell (take k cs) ++ (spelled_in e c ++ spell (drop (suc k) cs)) =
-      ap spell (sym (take-append-drop k cs)) ∙ flat_map-append (spelled_in e) (take k cs) (drop k cs)
+      let parts : spell cs ≡ spell (take k cs) ++ (code_units_of_character e c ++ spell (drop (suc k) cs)) =
+      ap spell (sym (take-append-drop k cs)) ∙ flat_map-append (code_units_of_character e) (take k cs) (drop k cs)
       ∙ ap (λ x. spell (take k cs) ++ spell x) (get-cons cs k c g) in
       ap₂ (λ us at. slice_get us (at + i)) parts (offset-units k l)
-      ∙ get-behind (spell (take k cs)) (spelled_in e c ++ spell (drop (suc k) cs)) i
-      ∙ get-front (spelled_in e c) (spell (drop (suc k) cs)) i m
+      ∙ get-behind (spell (take k cs)) (code_units_of_character e c ++ spell (drop (suc k) cs)) i
+      ∙ get-front (code_units_of_character e c) (spell (drop (suc k) cs)) i m
 
-  -- from a character's place its units stand, and behind them the next place
+  -- At the place of a character its first unit stands, and the next place is behind its units.
   unit-from : (place c at to : ℕ) → HasPlace text at place → HasPlace text to (suc place) → slice_get text.characters place ≡ Some c
-      → (slice_get (text_units_in_encoding e text) at ≡ slice_get (spelled_in e c) 0) × (to ≡ at + length (spelled_in e c))
+      → (slice_get (text_units_in_encoding e text) at ≡ slice_get (code_units_of_character e c) 0) × (to ≡ at + length (code_units_of_character e c))
   unit-from place c at to from upto there =
       let zero_on : at ≡ offset text place + 0 = omega (arith, from.offset_is) in (
         ap (slice_get (text_units_in_encoding e text)) zero_on ∙ unit-at place c 0 there from.within (has-unit e c),
-        sym upto.offset_is ∙ offset-next place c there ∙ ap (λ n. n + length (spelled_in e c)) from.offset_is,
+        sym upto.offset_is ∙ offset-next place c there ∙ ap (λ n. n + length (code_units_of_character e c)) from.offset_is,
       )
 
-  -- a read to the right begins at the first of the character's units, and ends behind them
+  -- A read to the right begins at the first unit of the character and ends behind its units.
   pub unit-right : HasRisingPlaceOffsets text → (at c to : ℕ) → read text rightwards at ≡ Some (c, to)
-      → (slice_get (text_units_in_encoding e text) at ≡ slice_get (spelled_in e c) 0) × (to ≡ at + length (spelled_in e c))
+      → (slice_get (text_units_in_encoding e text) at ≡ slice_get (code_units_of_character e c) 0) × (to ≡ at + length (code_units_of_character e c))
   unit-right t at c to r = let step = step_right text t at c to r in unit-from step.place c at to step.from step.upto step.character
 
-  -- a read to the left ends where the character's units begin
+  -- A read to the left ends at the first unit of the character and begins behind its units.
   pub unit-left : HasRisingPlaceOffsets text → (at c to : ℕ) → read text leftwards at ≡ Some (c, to)
-      → (slice_get (text_units_in_encoding e text) to ≡ slice_get (spelled_in e c) 0) × (at ≡ to + length (spelled_in e c))
+      → (slice_get (text_units_in_encoding e text) to ≡ slice_get (code_units_of_character e c) 0) × (at ≡ to + length (code_units_of_character e c))
   unit-left t at c to r = let step = step_left text t at c to r in unit-from step.place c to at step.upto step.from step.character
 
--- ---- In UTF-8: the bytes that continue a character stand where there is no boundary
+-- ---- Continuation bytes and boundaries in UTF-8
 
 false_below : (b : ℕ) → b < 128 → is_continuation_byte b ≡ false
 false_below b l = ap (λ (t : Bool). t && nat_le b 0xBF) (lt-leb 128 b l)
@@ -96,7 +96,7 @@ false_above b l = ap₂ (λ (t u : Bool). t && u) (le-leb 128 b (omega arith)) (
 next-continues : (x : ℕ) → is_continuation_byte (next x) ≡ true
 next-continues x = ap₂ (λ (t u : Bool). t && u) (le-leb 128 (next x) (omega arith)) (le-leb (next x) 0xBF (omega arith))
 
--- whether a byte continues the character, by its number among the character's
+-- A byte of a character continues the character if it is not the first byte.
 abbrev is_further : ℕ → Bool
 is_further zero = false
 is_further (suc i) = true
@@ -138,43 +138,43 @@ byte-of c i b g = by (cases_lt c 128) (cases_lt c 2048) (cases_lt c 65536)
     by (inr _) (inr l) (inl h) = three i _ (c / 64) c (omega arith) (seen _ (encode_three c l h))
     by (inr _) (inr _) (inr l) = four i _ (c / 4096) (c / 64) c (omega arith) (seen _ (encode_four c l))
 
--- no offset stands before the first
+-- No offset stands before the first one.
 none-before : (ws : List ℕ) (at i : ℕ) → i < at → contains (offsets_from at ws) i ≡ false
 none-before [] at i less = rw (ne_eqb i at (omega arith)) refl
 none-before (w ∷ ws) at i less = rw (ne_eqb i at (omega arith)) (none-before ws (at + w) i (omega arith))
 
--- among the offsets of characters are those of the bytes that continue none
-among : (cs : List ℕ) (a i b : ℕ) → slice_get (flat_map (spelled_in utf8) cs) i ≡ Some b
-    → contains (offsets_from a (map (λ c. length (spelled_in utf8 c)) cs)) (a + i) ≡ not (is_continuation_byte b)
+-- The offset of a byte is the offset of a character exactly if the byte continues no character.
+among : (cs : List ℕ) (a i b : ℕ) → slice_get (flat_map (code_units_of_character utf8) cs) i ≡ Some b
+    → contains (offsets_from a (map (λ c. length (code_units_of_character utf8 c)) cs)) (a + i) ≡ not (is_continuation_byte b)
 among [] a i b g = absurd (cc)
-among (c ∷ cs) a i b g = by (cases_lt i (length (spelled_in utf8 c))) (λ j rest. among cs (a + length (spelled_in utf8 c)) j b rest)
+among (c ∷ cs) a i b g = by (cases_lt i (length (code_units_of_character utf8 c))) (λ j rest. among cs (a + length (code_units_of_character utf8 c)) j b rest)
   where
     w : ℕ
-    w = length (spelled_in utf8 c)
+    w = length (code_units_of_character utf8 c)
 
     behind : List ℕ
-    behind = offsets_from (a + w) (map (λ c. length (spelled_in utf8 c)) cs)
+    behind = offsets_from (a + w) (map (λ c. length (code_units_of_character utf8 c)) cs)
 
-    here : (i : ℕ) → i < w → slice_get (spelled_in utf8 c) i ≡ Some b → contains (a ∷ behind) (a + i) ≡ not (is_continuation_byte b)
+    here : (i : ℕ) → i < w → slice_get (code_units_of_character utf8 c) i ≡ Some b → contains (a ∷ behind) (a + i) ≡ not (is_continuation_byte b)
     here zero l e =
         rw (eq-eqb (a + 0) a (omega arith)) (sym (ap not (byte-of c 0 b (ap (λ x. slice_get x 0) (sym (append-nil (encode c))) ∙ e))))
     here (suc i) l e =
         rw (ne_eqb (a + suc i) a (omega arith))
-        (none-before (map (λ c. length (spelled_in utf8 c)) cs) (a + w) (a + suc i) (omega arith)
+        (none-before (map (λ c. length (code_units_of_character utf8 c)) cs) (a + w) (a + suc i) (omega arith)
         ∙ sym (ap not (byte-of c (suc i) b (ap (λ x. slice_get x (suc i)) (sym (append-nil (encode c))) ∙ e))))
 
-    by : (i < w) ⊎ (w ≤ i) → ((j : ℕ) → slice_get (flat_map (spelled_in utf8) cs) j ≡ Some b → contains behind (a + w + j) ≡ not (is_continuation_byte b))
+    by : (i < w) ⊎ (w ≤ i) → ((j : ℕ) → slice_get (flat_map (code_units_of_character utf8) cs) j ≡ Some b → contains behind (a + w + j) ≡ not (is_continuation_byte b))
         → contains (a ∷ behind) (a + i) ≡ not (is_continuation_byte b)
-    by (inl l) more = here i l (sym (get-front (spelled_in utf8 c) (flat_map (spelled_in utf8) cs) i l) ∙ g)
+    by (inl l) more = here i l (sym (get-front (code_units_of_character utf8 c) (flat_map (code_units_of_character utf8) cs) i l) ∙ g)
     by (inr l) more =
         let back : i ≡ w + (i - w) = omega arith in
         let some : 0 < w = has-unit utf8 c in
         let on : a + i ≡ a + w + (i - w) = omega arith in
-        let rest : slice_get (flat_map (spelled_in utf8) cs) (i - w) ≡ Some b =
-        sym (get-behind (spelled_in utf8 c) (flat_map (spelled_in utf8) cs) (i - w)) ∙ ap (slice_get (spelled_in utf8 c ++ flat_map (spelled_in utf8) cs)) (sym back) ∙ g in
+        let rest : slice_get (flat_map (code_units_of_character utf8) cs) (i - w) ≡ Some b =
+        sym (get-behind (code_units_of_character utf8 c) (flat_map (code_units_of_character utf8) cs) (i - w)) ∙ ap (slice_get (code_units_of_character utf8 c ++ flat_map (code_units_of_character utf8) cs)) (sym back) ∙ g in
         rw (ne_eqb (a + i) a (omega arith)) (ap (contains behind) on ∙ more (i - w) rest)
 
--- a list has a first number that passes a test where some number passes
+-- A list has a first number that passes a test exactly if some number of the list passes.
 some-position : (test : ℕ → Bool) (xs : List ℕ) → is_some (position test xs) ≡ list_any test xs
 some-position test xs = some-is (nat_lt (position_or_len test xs) (length xs)) _ ∙ sym (found test xs)
   where
@@ -196,10 +196,10 @@ some-position test xs = some-is (nat_lt (position_or_len test xs) (length xs)) _
       | inr e ↦ rw e (found test xs ∙ step (position_or_len test xs) (length xs))
     ]
 
--- an offset at which a byte stands is a boundary exactly where the byte continues no character
-pub boundary-byte : (text : Text) → IsSpelledIn utf8 text → (at b : ℕ) → slice_get (text_units_in_encoding utf8 text) at ≡ Some b
+-- An offset at which a byte stands is a boundary exactly if the byte continues no character.
+pub boundary-byte : (text : Text) → HasOffsetsInEncoding utf8 text → (at b : ℕ) → slice_get (text_units_in_encoding utf8 text) at ≡ Some b
     → is_some (place_at text at) ≡ not (is_continuation_byte b)
 boundary-byte text s at b g =
     let zero_on : at ≡ 0 + at = omega arith in
     some-position (nat_eq at) text.offsets ∙ ap (λ os. contains os at) s.offsets
-    ∙ ap (contains (offsets_from 0 (map (λ c. length (spelled_in utf8 c)) text.characters))) zero_on ∙ among text.characters 0 at b g
+    ∙ ap (contains (offsets_from 0 (map (λ c. length (code_units_of_character utf8 c)) text.characters))) zero_on ∙ among text.characters 0 at b g

@@ -7,7 +7,7 @@ use Rattle.std.proofs.lemmas.Bool.{and_parts, lt-leb, and_from, false_from_ne_tr
 use Rattle.regex_meaning.specs.Text.{Text, rightwards, leftwards, is_high_surrogate, is_low_surrogate, decode_surrogate_pair, utf16_width}
 use Rattle.regex_meaning.specs.Text.{utf16_characters, utf16_text, is_unit_boundary, fold_code_point}
 use Rattle.regex_meaning.specs.CodeUnitOffsets.{IsBoundary, units, read}
-use Rattle.regex_meaning.specs.CodeUnits.{utf16, spelled_in}
+use Rattle.regex_meaning.specs.CodeUnits.{utf16, code_units_of_character}
 use Rattle.regex_meaning.specs.Laws.{is_within_pair}
 use Rattle.regex_meaning.proofs.CodeUnitOffsetsLemmas.{utf16_text-IsText}
 use Rattle.regex_meaning.proofs.UnitBoundaryLemmas.{unit_boundary-place_at, unit_boundary-between, units-utf16}
@@ -25,7 +25,7 @@ abbrev low_of : ℕ → ℕ
 low_of c = 0xDC00 + (c - 0x1_0000) % 0x400
 
 unfoldable pub spell : ℕ → List ℕ
-spell c = spelled_in utf16 c
+spell c = code_units_of_character utf16 c
 
 pub spell-one : (c : ℕ) → c < 0x1_0000 → spell c ≡ c ∷ []
 unfolding spell
@@ -76,19 +76,19 @@ pair_of : (u v : ℕ) → 0xD800 ≤ u → u ≤ 0xDBFF → 0xDC00 ≤ v → v �
 pair_of u v a b c d =
     and_from _ _ (and_from _ _ (le-leb 0xD800 u a) (le-leb u 0xDBFF b)) (and_from _ _ (le-leb 0xDC00 v c) (le-leb v 0xDFFF d))
 
--- what is on neither side of a range is in it
+-- A number on either side of a range is not in the range.
 outside : (least most u : ℕ) → (u < least) ⊎ (most + 1 ≤ u) → least ≤ u → u ≤ most → ⊥
 outside least most u (inl l) a b = absurd (omega arith)
 outside least most u (inr l) a b = absurd (omega arith)
 
--- what is no high surrogate begins no pair, and what is no low one ends none
+-- A surrogate pair begins with a high surrogate and ends with a low surrogate.
 pub high_apart : (u v : ℕ) → (u < 0xD800) ⊎ (0xDC00 ≤ u) → is_pair u v ≡ false
 high_apart u v h = false_from_ne_true (is_pair u v) (λ e. let r = pair_parts u v e in outside 0xD800 0xDBFF u h r.0 r.1)
 
 pub low_apart : (u v : ℕ) → (v < 0xDC00) ⊎ (0xE000 ≤ v) → is_pair u v ≡ false
 low_apart u v h = false_from_ne_true (is_pair u v) (λ e. let r = pair_parts u v e in outside 0xDC00 0xDFFF v h r.2 r.3)
 
--- the units of a character of two are a pair, and spell it
+-- The units of a character that has two are a surrogate pair, and the pair spells the character.
 pub units_are_pair : (c : ℕ) → 0x1_0000 ≤ c → c < 0x11_0000 → is_pair (high_of c) (low_of c) ≡ true
 units_are_pair c l m = pair_of (high_of c) (low_of c) (omega arith) (omega arith) (omega arith) (omega arith)
 
@@ -116,7 +116,7 @@ decode-apart u v us e = ap (λ (b : Bool). cond b (decode_surrogate_pair u v ∷
 behind : (u : ℕ) (us : List ℕ) → AreU16Units (u ∷ us) → AreU16Units us
 behind u us small k inside = small (suc k) (omega arith)
 
--- the units of the characters of units are these
+-- The units of the characters of a list of units are that list.
 pub spelled : (us : List ℕ) → AreU16Units us → flat_map spell (utf16_characters us) ≡ us
 spelled [] small = refl
 spelled (u ∷ []) small = ap (λ (l : List ℕ). l ++ []) (spell-one u (small 0 (omega arith)))
@@ -130,12 +130,12 @@ spelled (u ∷ v ∷ us) small =
 
 -- ---- Characters that units spell
 
--- the character is no high surrogate before a low one
+-- The character and the next one are not a surrogate pair.
 abbrev pub Apart : ℕ → List ℕ → Type 0
 Apart c [] = Unit {0}
 Apart c (d ∷ cs) = is_pair c d ≡ false
 
--- no two are a pair, and each is a code point
+-- No two neighbouring characters are a surrogate pair, and each is a code point.
 abbrev pub Decoded : List ℕ → Type 0
 Decoded [] = Unit {0}
 Decoded (c ∷ cs) = (c < 0x11_0000) × Apart c cs × Decoded cs
@@ -187,7 +187,7 @@ decoded-get [] k c d e = absurd (cc)
 decoded-get (x ∷ cs) zero c d e = let same : x ≡ c = cc in omega (arith, d.0)
 decoded-get (x ∷ cs) (suc k) c d e = decoded-get cs k c d.2 e
 
--- the characters of the units of such characters are these
+-- Decoding the units of such characters yields the characters.
 pub decode : (cs : List ℕ) → Decoded cs → utf16_characters (flat_map spell cs) ≡ cs
 decode [] d = refl
 decode (c ∷ cs) d = by (cases_lt c 0x1_0000) (decode cs d.2)
@@ -265,7 +265,7 @@ module _ (us : List ℕ) (small : AreU16Units us) where
     pub inside : (at : ℕ) → IsBoundary text at → at ≤ length us
     inside at b = omega (arith, boundary_inside text (utf16_text-IsText us unicode) at b, units-length)
 
-    -- no pair stands around a boundary
+    -- No surrogate pair stands around a boundary.
     none_around : (at : ℕ) → IsBoundary text (at + 1) → is_surrogate_pair_at us at ≡ false
     none_around at b = false_from_ne_true (is_surrogate_pair_at us at) (λ e.
         true_not_false (is_unit_boundary us (at + 1)) (unit_boundary (at + 1) b)
@@ -282,14 +282,14 @@ module _ (us : List ℕ) (small : AreU16Units us) where
     left : (at : ℕ) → IsBoundary text at → ReadsLeft spell utf16_width sized text (utf16_characters us) us at
     left = reads_left spell utf16_width sized (utf16_characters us) us unicode fold (spelled us small) positive
 
-    -- the units that spell a character, where it stands
+    -- A unit from an offset on is the unit with the same index in the list that begins there.
     seen : (at i : ℕ) (p rest : List ℕ) → drop at us ≡ p ++ rest → slice_index us (at + i) ≡ slice_index (p ++ rest) i
     seen at i p rest e = sym (get_or-drop at us i 0) ∙ ap (λ l. get_or l i 0) e
 
     seen_first : (at : ℕ) (p rest : List ℕ) → drop at us ≡ p ++ rest → slice_index us at ≡ slice_index (p ++ rest) 0
     seen_first at p rest e = let z : at ≡ at + 0 = omega arith in ap (slice_index us) z ∙ seen at 0 p rest e
 
-    -- a character of one unit, and of two
+    -- A character of one unit is that unit, and a character of two units is their pair.
     is_one : (at c : ℕ) (rest : List ℕ) → c < 0x1_0000 → drop at us ≡ spell c ++ rest → slice_index us at ≡ c
     is_one at c rest l e = seen_first at (c ∷ []) rest (e ∙ ap (λ (p : List ℕ). p ++ rest) (spell-one c l))
 
@@ -366,7 +366,7 @@ module _ (us : List ℕ) (small : AreU16Units us) where
             r ∙ ap₂ (λ x y. Some (pair x y)) value from
             ∙ ap Some (sym (choice (nat_le 2 at && is_surrogate_pair_at us (at - 2)) true (char_of_surrogate_pair_at us (at - 2), at - 2) (slice_index us (at - 1), at - 1) (and_from _ _ (le-leb 2 at far) stands)))
 
-    -- ---- As what readers answer
+    -- ---- Results of the readers
 
     pub right-is : (at : ℕ) → IsBoundary text at → at ≢ length us → (r : ℕ × ℕ) → r ≡ character_starting_at us at → read text rightwards at ≡ Some (pair r.0 r.1)
     right-is at b n r e = read-right at b n ∙ ap Some (sym e)

@@ -12,7 +12,7 @@ use Rattle.regress_input.proofs.Utf16Reads.{spell, sized, spelled, Decoded, deco
 use Rattle.regress_input.proofs.Utf16Reads.{boundary_of_units}
 use Rattle.regex_meaning.proofs.CodeUnitOffsetsLemmas.{utf16_width-positive}
 
--- what a test of the boundary leaves
+-- If a value passes the test of the boundary, it is unchanged and is a boundary.
 kept : (us : List ℕ) (o : Option ℕ) (to : ℕ) → if_utf16_boundary us o ≡ Some to → (o ≡ Some to) × (is_unit_boundary us to ≡ true)
 kept us None to e = absurd (cc)
 kept us (Some x) to e = let made = chosen (is_unit_boundary us x) x to e in (ap Some (sym made.1), ap (is_unit_boundary us) made.1 ∙ made.0)
@@ -34,7 +34,7 @@ module _ (us : List ℕ) (small : AreU16Units us) (unicode : Bool) where
   injective p q i j e =
       sym (decode (slice_range cs p q) (range_decoded p q)) ∙ ap utf16_characters e ∙ decode (slice_range cs i j) (range_decoded i j)
 
-  -- a range of the units is the text of that range
+  -- A range of units between boundaries is the text of that range.
   pub part-utf16 : (a b : ℕ) → IsBoundary text a → IsBoundary text b → a ≤ b → utf16_text (slice_range us a b) unicode ≡ part text a b
   part-utf16 a b f g l =
       let units = range-units spell utf16_width sized cs us unicode (fold_code_point unicode) (spelled us small) utf16_width-positive a b f g l in
@@ -42,7 +42,7 @@ module _ (us : List ℕ) (small : AreU16Units us) (unicode : Bool) where
       ap (λ (cs : List ℕ). text_of utf16_width cs unicode (fold_code_point unicode)) characters
       ∙ part-is spell utf16_width sized cs us unicode (fold_code_point unicode) (spelled us small) utf16_width-positive a b f g l
 
-  -- the units of a range stand beside a boundary, up to another one, just where its characters do
+  -- The units of a range stand from one boundary to another exactly where its characters do.
   pub literal : (d : Direction) (at a b : ℕ) → IsBoundary text at → IsBoundary text a → IsBoundary text b → a ≤ b
       → if_utf16_boundary us (past_numbers_if_next us (slice_range us a b) d at) ≡ past_spelled_if_next text nat_eq (characters_between text a b) d at
   literal rightwards at a b at_b f g l =

@@ -12,14 +12,14 @@ use Rattle.regress_input.specs.Utf8.{IsEncodedAt, IsEncodedBetween}
 use Rattle.regress_input.proofs.SpelledTextLemmas.{ReadsRight, ReadsLeft, reads_right, reads_left, at_end, before_character, at_start, behind_character}
 use Rattle.regex_meaning.proofs.CodeUnitLengthLemmas.{utf8_text-units}
 
--- a byte that continues a character
+-- The byte continues a character.
 abbrev pub Follows : ℕ → Type 0
 Follows b = (128 ≤ b) × (b < 192)
 
 follows : (x : ℕ) → Follows (next x)
 follows x = (omega arith, omega arith)
 
--- what the bytes of a character are, from where it stands
+-- A character is encoded at an offset by one, two, three or four bytes.
 pub data Bytes (bytes : List ℕ) (at c : ℕ) : Type 0 where
   one : at + 1 ≤ length bytes → len_utf8 c ≡ 1 → get_or bytes at 0 < 128 → get_or bytes at 0 ≡ c → Bytes bytes at c
   two : at + 2 ≤ length bytes → len_utf8 c ≡ 2 → 192 ≤ get_or bytes at 0 → get_or bytes at 0 < 224 → Follows (get_or bytes (at + 1) 0)
@@ -61,7 +61,7 @@ below_top c s = ⊎_elim (λ h. omega arith) (λ h. h.1) (scalar_cases c s)
 pub bytes_at : (bytes : List ℕ) (at c : ℕ) → IsEncodedAt bytes at c → Bytes bytes at c
 bytes_at bytes at c s = by (cases_lt c 128) (cases_lt c 2048) (cases_lt c 65536)
   where
-    -- a byte behind the offset, where these are the character's
+    -- A byte from the offset on is the byte with the same index in the encoding and what follows.
     seen : (p : List ℕ) (i : ℕ) → encode c ≡ p → get_or bytes (at + i) 0 ≡ get_or (p ++ s.rest) i 0
     seen p i e = sym (get_or-drop at bytes i 0) ∙ ap (λ l. get_or l i 0) (s.spelled ∙ ap (λ l. l ++ s.rest) e)
 
@@ -101,7 +101,7 @@ bytes_at bytes at c s = by (cases_lt c 128) (cases_lt c 2048) (cases_lt c 65536)
         let v : get_or bytes (at + 3) 0 ≡ next c = seen _ 3 e in
         four (fits _ e (omega arith)) (long _ e) (omega arith) (omega arith) (follows_as _ (c / 4096) y) (follows_as _ (c / 64) z) (follows_as _ c v) (omega arith)
 
--- which bytes there are, by the first one
+-- The first byte of a character tells how many bytes there are at least.
 pub all_inside : (bytes : List ℕ) (at : ℕ) → (c : ℕ) × IsEncodedAt bytes at c
     → (at < length bytes) × (128 ≤ get_or bytes at 0 → at + 1 < length bytes) × (224 ≤ get_or bytes at 0 → at + 2 < length bytes)
     × (240 ≤ get_or bytes at 0 → at + 3 < length bytes)
@@ -112,7 +112,7 @@ all_inside bytes at (c, s) = elim (bytes_at bytes at c s) [
   | four l n h i f g k e ↦ (omega arith, λ m. omega arith, λ m. omega arith, λ m. omega arith)
 ]
 
--- and which character they spell
+-- The bytes of a character tell which character it is and where it ends.
 pub is_one : (bytes : List ℕ) (at c : ℕ) → IsEncodedAt bytes at c → get_or bytes at 0 < 128 → (get_or bytes at 0 ≡ c) × (at + 1 ≡ at + len_utf8 c)
 is_one bytes at c s m = elim (bytes_at bytes at c s) [
   | one l n h e ↦ (e, omega arith)
@@ -148,9 +148,9 @@ is_four bytes at c s m = elim (bytes_at bytes at c s) [
   | four l n h i f g k e ↦ (e, omega arith)
 ]
 
--- ---- The same from where the character ends
+-- ---- Characters that end at an offset
 
--- the bytes of a character, from its last one on to the left
+-- A character that ends at an offset is encoded by one, two, three or four bytes before it.
 data Back (bytes : List ℕ) (end start c : ℕ) : Type 0 where
   one_back : end ≡ start + 1 → end ≤ length bytes → get_or bytes (end - 1) 0 < 128 → get_or bytes (end - 1) 0 ≡ c → Back bytes end start c
   two_back : end ≡ start + 2 → end ≤ length bytes → 128 ≤ get_or bytes (end - 1) 0 → 192 ≤ get_or bytes (end - 2) 0
@@ -185,7 +185,7 @@ back bytes end start c s = elim (bytes_at bytes start c s.stands) [
     at_same : (i j : ℕ) → i ≡ j → get_or bytes i 0 ≡ get_or bytes j 0
     at_same i j e = ap (λ n. get_or bytes n 0) e
 
--- a character ends there
+-- A character ends at the offset.
 abbrev Ends : List ℕ → ℕ → Type 0
 Ends bytes end = (start : ℕ) × (c : ℕ) × IsEncodedBetween bytes end start c
 
@@ -278,13 +278,13 @@ len_utf8-positive c = omega (arith, (len_utf8_bounds c).0)
 pub spelled_by : (bytes : List ℕ) → IsUtf8 bytes → flat_map encode (chars bytes) ≡ bytes
 spelled_by bytes u = sym (encodes-flat_map (chars bytes)) ∙ encodes-chars bytes u
 
--- what is read to the right of a boundary
+-- A boundary is at the right end, or a character is read to its right.
 pub data Right (bytes : List ℕ) (unicode : Bool) (at : ℕ) : Type 0 where
   at_the_end : at ≡ length bytes → read (utf8_text bytes unicode) rightwards at ≡ None → Right bytes unicode at
   character_behind : (c : ℕ) → IsEncodedAt bytes at c → at + len_utf8 c ≤ length bytes → at < length bytes
       → read (utf8_text bytes unicode) rightwards at ≡ Some (c, at + len_utf8 c) → Right bytes unicode at
 
--- what is read to the left of a boundary
+-- A boundary is at the left end, or a character is read to its left.
 pub data Left (bytes : List ℕ) (unicode : Bool) (at : ℕ) : Type 0 where
   at_the_start : at ≡ 0 → read (utf8_text bytes unicode) leftwards at ≡ None → Left bytes unicode at
   character_before : (start c : ℕ) → IsEncodedBetween bytes at start c → at ≤ length bytes → 0 < at
@@ -315,7 +315,7 @@ module _ (bytes : List ℕ) (unicode : Bool) (is_utf8 : ∥ IsUtf8 bytes ∥₁)
           (record { stands = record { scalar = scalar_among (chars bytes) k c (scalars-chars bytes u) g; rest = rest; spelled = e }; ends = s })
           l (omega (arith, s, len_utf8-positive c)) r
 
-  -- the length of the text is that of its bytes
+  -- The length of the text is the number of its bytes.
   pub units-bytes : units text ≡ length bytes
   units-bytes = utf8_text-units bytes unicode u
 
@@ -325,16 +325,16 @@ module _ (bytes : List ℕ) (unicode : Bool) (is_utf8 : ∥ IsUtf8 bytes ∥₁)
   pub read-start : (at : ℕ) → IsBoundary text at → at ≡ 0 → read text leftwards at ≡ None
   read-start at b e = elim (left at b) [ at_the_start z r ↦ r | character_before start c s l i r ↦ absurd (omega arith) ]
 
-  -- as the code sees the bytes
+  -- The bytes that the code sees are the bytes of the text.
   module _ (bs : List ℕ) (same : bs ≡ bytes) where
-    -- a boundary that is not the right end has a character behind it
+    -- A boundary that is not the right end has a character behind it.
     pub stands_at : (at : ℕ) → IsBoundary text at → at ≢ length bs → (c : ℕ) × IsEncodedAt bs at c
     stands_at at b n = elim (right at b) [
       | at_the_end e r ↦ absurd (n (omega (arith, e, ap length same)))
       | character_behind c s l i r ↦ (c, subst (λ l. IsEncodedAt l at c) (sym same) s)
     ]
 
-    -- an offset inside is not the right end
+    -- An offset before the end of the text is not the right end.
     pub not-ended : (at : ℕ) → at < units text → at ≢ length bs
     not-ended at h z = omega (arith, h, z, units-bytes, ap length same)
 
@@ -347,7 +347,7 @@ module _ (bytes : List ℕ) (unicode : Bool) (is_utf8 : ∥ IsUtf8 bytes ∥₁)
       | character_behind c s l i r ↦ let both = is c (subst (λ l. IsEncodedAt l at c) (sym same) s) in ap₂ (λ v w. Some (v, w)) both.0 both.1 ∙ sym r
     ]
 
-    -- a boundary that is not the left end has a character before it
+    -- A boundary that is not the left end has a character before it.
     pub ends_at : (at : ℕ) → IsBoundary text at → at ≢ 0 → (start : ℕ) × (c : ℕ) × IsEncodedBetween bs at start c
     ends_at at b n = elim (left at b) [
       | at_the_start e r ↦ absurd (n e)

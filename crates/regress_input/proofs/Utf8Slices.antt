@@ -41,7 +41,7 @@ module _ (bytes : List ℕ) (unicode : Bool) (is_utf8 : ∥ IsUtf8 bytes ∥₁)
   abbrev here : (at : ℕ) → IsBoundary text at → (k : ℕ) × HasPlace text at k × Cut encode len_utf8 length-encode (chars bytes) bytes at k
   here = cut_at encode len_utf8 length-encode (chars bytes) bytes unicode (fold_char unicode) (spelled_by bytes u) len_utf8-positive
 
-  -- the bytes on either side of a boundary are text
+  -- The bytes on either side of a boundary are UTF-8.
   pub utf8_behind : (at : ℕ) → IsBoundary text at → IsUtf8 (drop at bytes)
   utf8_behind at b =
       let (k, p, c) = here at b in
@@ -55,11 +55,11 @@ module _ (bytes : List ℕ) (unicode : Bool) (is_utf8 : ∥ IsUtf8 bytes ∥₁)
   inside : (at : ℕ) → IsBoundary text at → at ≤ length bytes
   inside at b = let (k, p, c) = here at b in omega (arith, c.length_is, ap length c.before, length-take at bytes)
 
-  -- boundaries are those of characters
+  -- A boundary of the text is a boundary between characters of the bytes.
   pub char_boundary : (at : ℕ) → IsBoundary text at → IsCharBoundary bytes at
   char_boundary at b = IsCharBoundary-from_drop bytes at (inside at b) (utf8_behind at b)
 
-  -- where the bytes may be cut is a boundary
+  -- An offset at which the bytes can be cut into two UTF-8 parts is a boundary.
   boundary_of_parts : (at : ℕ) → at ≤ length bytes → IsUtf8 (take at bytes) → IsUtf8 (drop at bytes) → IsBoundary text at
   boundary_of_parts at l (cs, (s, e)) (ds, (t, f)) =
       let whole : encodes (cs ++ ds) ≡ bytes = encodes-append cs ds ∙ ap (λ x. x ++ encodes ds) e ∙ ap (λ x. take at bytes ++ x) f ∙ take-append-drop at bytes in
@@ -86,7 +86,7 @@ module _ (bytes : List ℕ) (unicode : Bool) (is_utf8 : ∥ IsUtf8 bytes ∥₁)
       (scalars-take (drop _ cs) _ (scalars-drop cs _ (scalars-chars bytes u))) (slice_range bytes a b)
       (range-units encode len_utf8 length-encode cs bytes unicode (fold_char unicode) (spelled_by bytes u) len_utf8-positive a b f g l)
 
-  -- a range of the bytes is the text of that range
+  -- A range of bytes between boundaries is the text of that range.
   pub part-utf8 : (a b : ℕ) → IsBoundary text a → IsBoundary text b → a ≤ b → utf8_text (slice_range bytes a b) unicode ≡ part text a b
   part-utf8 a b f g l =
       let units = range-units encode len_utf8 length-encode (chars bytes) bytes unicode (fold_char unicode) (spelled_by bytes u) len_utf8-positive a b f g l in
@@ -99,7 +99,7 @@ module _ (bytes : List ℕ) (unicode : Bool) (is_utf8 : ∥ IsUtf8 bytes ∥₁)
   injective p q i j e =
       encodes_same (slice_range (chars bytes) p q) (slice_range (chars bytes) i j) (encodes-flat_map (slice_range (chars bytes) p q) ∙ e ∙ sym (encodes-flat_map (slice_range (chars bytes) i j)))
 
-  -- text that stands beside a boundary ends at one
+  -- UTF-8 bytes that stand beside a boundary end at a boundary.
   ends_behind : (at to : ℕ) (ys : List ℕ) → IsBoundary text at → IsUtf8 ys → StandBehind bytes ys at to → IsBoundary text to
   ends_behind at to ys b w h =
       let le : at ≤ to = omega (arith, h.to_is) in
@@ -112,7 +112,7 @@ module _ (bytes : List ℕ) (unicode : Bool) (is_utf8 : ∥ IsUtf8 bytes ∥₁)
       let back : drop to bytes ≡ ys ++ drop at bytes = drop_split bytes to at le ∙ ap (λ x. x ++ drop at bytes) (ap (λ n. slice_range bytes n at) h.to_is ∙ h.are) in
       boundary_of_char to (IsCharBoundary-from_drop bytes to (omega (arith, inside at b)) (subst IsUtf8 (sym back) (IsUtf8-append ys (drop at bytes) w (utf8_behind at b))))
 
-  -- the bytes of a range stand beside a boundary just where its characters do
+  -- The bytes of a range stand beside a boundary exactly where its characters do.
   pub literal : (d : Direction) (at a b : ℕ) → IsBoundary text at → IsBoundary text a → IsBoundary text b → a ≤ b
       → past_numbers_if_next bytes (slice_range bytes a b) d at ≡ past_spelled_if_next text nat_eq (characters_between text a b) d at
   literal rightwards at a b at_b f g l =

@@ -6,9 +6,9 @@ use Rattle.std.proofs.lemmas.List.{append-nil}
 use Rattle.std.proofs.lemmas.Str.{length-encode, IsUtf8-had}
 use Rattle.std.specs.Char.{len_utf8}
 use lib.Utf8.{encode}
-use Rattle.regex_meaning.specs.Text.{offsets_from, one_unit, utf16_width, utf8_text, ascii_text, utf16_text, ucs2_text}
+use Rattle.regex_meaning.specs.Text.{offsets_from, width_of_single_unit_character, utf16_width, utf8_text, ascii_text, utf16_text, ucs2_text}
 use Rattle.regex_meaning.specs.CodeUnitOffsets.{units}
-use Rattle.regex_meaning.specs.CodeUnits.{Encoding, utf8, utf16, ucs2, surrogate_pair, spelled_in, IsSpelledIn}
+use Rattle.regex_meaning.specs.CodeUnits.{Encoding, utf8, utf16, ucs2, surrogate_pair, code_units_of_character, HasOffsetsInEncoding}
 use Rattle.regex_meaning.proofs.CodeUnitLengthLemmas.{utf8_text-units, ascii_text-units, ucs2_text-units}
 use Rattle.regex_meaning.proofs.UnitBoundaryLemmas.{units-utf16}
 use Rattle.regress_input.specs.ByteTextsAreUtf8.{ascii_widths}
@@ -18,42 +18,43 @@ use Rattle.regress_input.specs.Utf16CharactersAtOffsets.{AreU16Units}
 
 -- If the width of each character is the length of its spelling, this also holds for lists of
 -- characters.
-widths : (e : Encoding) (width : ℕ → ℕ) → ((c : ℕ) → length (spelled_in e c) ≡ width c) → (cs : List ℕ)
-    → map width cs ≡ map (λ c. length (spelled_in e c)) cs
+widths : (e : Encoding) (width : ℕ → ℕ) → ((c : ℕ) → length (code_units_of_character e c) ≡ width c) → (cs : List ℕ)
+    → map width cs ≡ map (λ c. length (code_units_of_character e c)) cs
 widths e width sized [] = refl
 widths e width sized (c ∷ cs) = ap₂ (λ w ws. w ∷ ws) (sym (sized c)) (widths e width sized cs)
 
 -- The UTF-8 spelling of a character has as many bytes as the width of the character.
-pub sized_utf8 : (c : ℕ) → length (spelled_in utf8 c) ≡ len_utf8 c
+pub sized_utf8 : (c : ℕ) → length (code_units_of_character utf8 c) ≡ len_utf8 c
 sized_utf8 c = ap length (append-nil (encode c)) ∙ length-encode c
 
 -- The UTF-16 spelling of a character has as many units as the width of the character.
-pub sized_utf16 : (c : ℕ) → length (spelled_in utf16 c) ≡ utf16_width c
+pub sized_utf16 : (c : ℕ) → length (code_units_of_character utf16 c) ≡ utf16_width c
 sized_utf16 c = by (cases_lt c 0x1_0000)
   where
-    by : (c < 0x1_0000) ⊎ (0x1_0000 ≤ c) → length (spelled_in utf16 c) ≡ utf16_width c
+    by : (c < 0x1_0000) ⊎ (0x1_0000 ≤ c) → length (code_units_of_character utf16 c) ≡ utf16_width c
     by (inl l) = ap (λ (b : Bool). length (if b then c ∷ [] else surrogate_pair c)) (lt-ltb c 0x1_0000 l) ∙ sym
         (ap (λ (b : Bool). if b then 2 else 1) (lt-leb 0x1_0000 c l))
     by (inr l) = ap (λ (b : Bool). length (if b then c ∷ [] else surrogate_pair c)) (le-ltb c 0x1_0000 l) ∙ sym
         (ap (λ (b : Bool). if b then 2 else 1) (le-leb 0x1_0000 c l))
 
 -- The text of UTF-8 bytes is spelled in UTF-8.
-pub utf8_text-IsSpelled : (bytes : List ℕ) (unicode : Bool) → IsSpelledIn utf8 (utf8_text bytes unicode)
+pub utf8_text-IsSpelled : (bytes : List ℕ) (unicode : Bool) → HasOffsetsInEncoding utf8 (utf8_text bytes unicode)
 utf8_text-IsSpelled bytes unicode = record { offsets = ap (offsets_from 0) (widths utf8 len_utf8 sized_utf8 _) }
 
 -- The text of ASCII bytes is spelled in UTF-8.
 pub ascii_text-IsSpelled : (bytes : List ℕ) (unicode : Bool) → IsAscii bytes
-    → IsSpelledIn utf8 (ascii_text bytes unicode)
+    → HasOffsetsInEncoding utf8 (ascii_text bytes unicode)
 ascii_text-IsSpelled bytes unicode h =
     record { offsets = ap (offsets_from 0) (ascii_widths bytes h ∙ widths utf8 len_utf8 sized_utf8 bytes) }
 
 -- The text of UTF-16 units is spelled in UTF-16.
-pub utf16_text-IsSpelled : (us : List ℕ) (unicode : Bool) → IsSpelledIn utf16 (utf16_text us unicode)
+pub utf16_text-IsSpelled : (us : List ℕ) (unicode : Bool) → HasOffsetsInEncoding utf16 (utf16_text us unicode)
 utf16_text-IsSpelled us unicode = record { offsets = ap (offsets_from 0) (widths utf16 utf16_width sized_utf16 _) }
 
 -- The text of 16-bit units that are characters is spelled in UCS-2.
-pub ucs2_text-IsSpelled : (us : List ℕ) (unicode : Bool) → IsSpelledIn ucs2 (ucs2_text us unicode)
-ucs2_text-IsSpelled us unicode = record { offsets = ap (offsets_from 0) (widths ucs2 one_unit (λ c. refl) us) }
+pub ucs2_text-IsSpelled : (us : List ℕ) (unicode : Bool) → HasOffsetsInEncoding ucs2 (ucs2_text us unicode)
+ucs2_text-IsSpelled us unicode =
+    record { offsets = ap (offsets_from 0) (widths ucs2 width_of_single_unit_character (λ c. refl) us) }
 
 -- ---- Offsets are below 2^63 if the lengths of the lists are
 

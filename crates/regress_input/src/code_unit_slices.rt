@@ -69,6 +69,8 @@ pub(crate) fn past_repeated_range_if_next<Unit: PartialEq>(
     past_units_if_next(all, forward, at, &all[start..end])
 }
 
+// Returns the offset past the units `these` if they occur to the right of `at`, and `None`
+// otherwise.
 #[inline(always)]
 fn past_right<Unit: PartialEq>(all: &[Unit], at: usize, these: &[Unit]) -> Option<usize>
     requires { at ≤ length all.now }
@@ -85,6 +87,8 @@ fn past_right<Unit: PartialEq>(all: &[Unit], at: usize, these: &[Unit]) -> Optio
     }
 }
 
+// Returns the offset at which the units `these` begin if they occur to the left of `at`, and `None`
+// otherwise.
 #[inline(always)]
 fn past_left<Unit: PartialEq>(all: &[Unit], at: usize, these: &[Unit]) -> Option<usize>
     requires { at ≤ length all.now }
@@ -111,12 +115,12 @@ pub(crate) fn find_by_byte_searcher_from<Search: ByteSearcher>(
     requires { at ≤ length all.now }
     ensures { IsFirstOccurrenceFrom true (Search.stands_at search.now) all.now at result }
 {
-    let found = search.find_in(rest_from(all, at))?;
+    let found = search.find_in(suffix_from_offset(all, at))?;
     Some(at + found)
 }
 
 #[inline(always)]
-fn rest_from(all: &[u8], at: usize) -> &[u8]
+fn suffix_from_offset(all: &[u8], at: usize) -> &[u8]
     requires { at ≤ length all.now }
     ensures { result.now ≡ drop at all.now }
 {

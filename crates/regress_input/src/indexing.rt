@@ -3,7 +3,7 @@
 ghost use Rattle.std.specs.Prelude.{◌≡◌, ◌<◌, ◌≤◌, ◌^◌, map, option_map, IfSome, IfNone, IsTrue, Some, slice_get};
 ghost use Rattle.std.specs.List.{list_all};
 ghost use Rattle.regex_meaning.specs.{Text.{Text, rightwards, leftwards}, CodeUnitOffsets.{HasRisingPlaceOffsets, IsBoundary, units, read}};
-ghost use Rattle.regex_meaning.specs.CodeUnits.{text_units_in_encoding, IsSpelledIn, is_character_in_encoding};
+ghost use Rattle.regex_meaning.specs.CodeUnits.{text_units_in_encoding, HasOffsetsInEncoding, is_character_in_encoding};
 ghost use Rattle.regress_input.specs.CharAndByteReadsFromOffset.{direction_of_forward_flag, end_if_matched, same_fold, character, past as past_character};
 ghost use Rattle.regress_input.specs.CharAndByteReadsFromOffset.{past_repeated_range_if_next, part};
 ghost use Rattle.regress_input.specs.CharAndByteReadsFromOffset.{ReadsAreInverse, moved_by_units};
@@ -84,7 +84,7 @@ pub trait InputIndexer: Copy + Debug + DeclaresWhetherUnitsAreBytes {
     // Offsets are below 2^63, so one offset is left for the value that stands for no position.
     ghost offsets_fit: { (it : Self) → units (text it) < 2 ^ 63 };
 
-    ghost spelled: { (it : Self) → IsSpelledIn Self.Units.encoding (text it) };
+    ghost spelled: { (it : Self) → HasOffsetsInEncoding Self.Units.encoding (text it) };
 
     ghost characters: { (it : Self) → IsTrue (list_all (is_character_in_encoding Self.Units.encoding)
         (text it).characters) };

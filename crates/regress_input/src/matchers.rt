@@ -52,13 +52,13 @@ pub fn backref_icase<Input: InputIndexer, Dir: Direction>(
         end_if_matched result (at pos.new) ≡ past_folded_range_if_next (Input.text input.now)
         (at orig_range.start) (at orig_range.end) (direction_of_forward_flag Dir.FORWARD) (at pos.old) }
 {
-    chars_match(input, dir, orig_range, Sameness::Folded, pos)
+    backref_char_by_char(input, dir, orig_range, Sameness::Folded, pos)
 }
 
 /// Like `backref`, but characters are the same if `canonicalize` is the same for both. The match
 /// may have a different number of code units than the range.
 #[inline(never)]
-pub fn backref_alike<Input: InputIndexer, Dir: Direction>(
+pub fn backref_canonical<Input: InputIndexer, Dir: Direction>(
     input: &Input,
     dir: Dir,
     orig_range: Range<Input::Position>,
@@ -73,12 +73,12 @@ pub fn backref_alike<Input: InputIndexer, Dir: Direction>(
         end_if_matched result (at pos.new) ≡ past_same_range_if_next (Input.text input.now) (alike unicode)
         (at orig_range.start) (at orig_range.end) (direction_of_forward_flag Dir.FORWARD) (at pos.old) }
 {
-    chars_match(input, dir, orig_range, Sameness::Alike { unicode }, pos)
+    backref_char_by_char(input, dir, orig_range, Sameness::Alike { unicode }, pos)
 }
 
 // Compares character by character.
 #[inline(always)]
-fn chars_match<Input: InputIndexer, Dir: Direction>(
+fn backref_char_by_char<Input: InputIndexer, Dir: Direction>(
     input: &Input,
     dir: Dir,
     orig_range: Range<Input::Position>,
@@ -114,6 +114,7 @@ fn chars_match<Input: InputIndexer, Dir: Direction>(
     true
 }
 
+// Checks whether two characters are the same in this sense.
 #[inline(always)]
 fn are_same<Input: InputIndexer>(
     input: &Input,

@@ -50,7 +50,7 @@ pub trait PositionType: Copy
 
     ghost may_sub_assign: { (p : Self) (n : ℕ) → n ≤ offset p → ⟦<Self as SubAssign<usize>>⟧.can_sub_assign p n };
 
-    ghost may_measure: { (p q : Self) → offset q ≤ offset p → ⟦<Self as Sub<Self>>⟧.can_sub p q };
+    ghost can_subtract_positions: { (p q : Self) → offset q ≤ offset p → ⟦<Self as Sub<Self>>⟧.can_sub p q };
 
     // The new offset is then the sum or the difference.
     ghost added: { (p : Self) (n : ℕ) (q : Self) → ⟦<Self as Add<usize>>⟧.add_gives p n q → offset q ≡ offset p + n };
@@ -234,7 +234,7 @@ impl<'a> PositionType for IndexPosition<'a> {
 
     ghost may_sub_assign = { λ p n fits. fits };
 
-    ghost may_measure = { λ p q fits. fits };
+    ghost can_subtract_positions = { λ p q fits. fits };
 
     ghost added = { λ p n q gives. gives };
 

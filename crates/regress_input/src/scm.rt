@@ -214,7 +214,7 @@ impl<'a, const N: usize, Input: InputIndexer, Dir: Direction> SingleCharMatcher<
             return input.match_bytes(dir, pos, bytes);
         }
         match cursor::next(input, dir, pos) {
-            Some(c) => is_spelled(bytes, c.as_u32()),
+            Some(c) => is_utf8_encoding_of_code_point(bytes, c.as_u32()),
             None => false,
         }
     }
@@ -222,7 +222,7 @@ impl<'a, const N: usize, Input: InputIndexer, Dir: Direction> SingleCharMatcher<
 
 // Checks whether `bytes` are the UTF-8 encoding of `c`.
 #[inline(always)]
-fn is_spelled(bytes: &[u8], c: u32) -> bool
+fn is_utf8_encoding_of_code_point(bytes: &[u8], c: u32) -> bool
     requires { (d : ℕ) × IsScalar d × (bytes.now ≡ encode_utf8 d) }
     ensures { result ≡ accepts (byte_sequence bytes.now) c }
 {

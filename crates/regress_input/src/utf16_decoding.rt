@@ -16,7 +16,7 @@ pub fn is_unit_boundary(units: &[u16], i: usize) -> bool
     if i >= units.len() {
         return i == units.len();
     }
-    !stands_pair(units, i - 1)
+    !is_surrogate_pair_at_offset(units, i - 1)
 }
 
 /// Returns the offset if it is a boundary, and `None` otherwise.
@@ -42,7 +42,7 @@ pub(crate) fn character_at(units: &[u16], at: usize) -> (u32, usize)
     requires { at < length units.now }
     ensures { result ≡ character_starting_at units.now at }
 {
-    if stands_pair(units, at) {
+    if is_surrogate_pair_at_offset(units, at) {
         (decoded_surrogate_pair(units[at], units[at + 1]), at + 2)
     } else {
         (units[at] as u32, at + 1)
@@ -56,7 +56,7 @@ pub(crate) fn character_before(units: &[u16], end: usize) -> (u32, usize)
     requires inside { end ≤ length units.now }
     ensures { result ≡ character_ahead_of units.now end }
 {
-    if end >= 2 && stands_pair(units, end - 2) {
+    if end >= 2 && is_surrogate_pair_at_offset(units, end - 2) {
         (
             decoded_surrogate_pair(units[end - 2], units[end - 1]),
             end - 2,
@@ -68,13 +68,14 @@ pub(crate) fn character_before(units: &[u16], end: usize) -> (u32, usize)
 
 // Checks whether a surrogate pair begins at an offset.
 #[inline(always)]
-fn stands_pair(units: &[u16], at: usize) -> bool
+fn is_surrogate_pair_at_offset(units: &[u16], at: usize) -> bool
     requires { at < length units.now }
     ensures { result ≡ is_surrogate_pair_at units.now at }
 {
     is_high_unit(units[at]) && at + 1 < units.len() && is_low_unit(units[at + 1])
 }
 
+// Checks whether a unit is the first unit of a surrogate pair.
 #[inline(always)]
 fn is_high_unit(unit: u16) -> bool
     ensures { result ≡ is_high_surrogate unit }
@@ -82,6 +83,7 @@ fn is_high_unit(unit: u16) -> bool
     0xD800 <= unit && unit <= 0xDBFF
 }
 
+// Checks whether a unit is the second unit of a surrogate pair.
 #[inline(always)]
 fn is_low_unit(unit: u16) -> bool
     ensures { result ≡ is_low_surrogate unit }

@@ -12,7 +12,7 @@ use lib.Utf8.{scalar, scalars}
 use Rattle.regex_meaning.specs.Text.{Text, Direction, rightwards, leftwards, last_place, moved, offsets_from, is_scalar}
 use Rattle.regex_meaning.specs.CodeUnitOffsets.{offset}
 use Rattle.regex_meaning.specs.OutcomesWithStepTicks.{nearest_first}
-use Rattle.regress_machine.specs.Machine.{moved_by}
+use Rattle.regress_machine.specs.Machine.{offset_moved_in_direction}
 use Rattle.regress_machine.specs.TextsForBytePrograms.{HasUtf8CharactersAndOffsets}
 use Rattle.regress_machine.proofs.SingleCharacterTests.{scalar_of}
 use Rattle.regress_machine.proofs.AdjacentCharacterLemmas.{stands, in_reading_order}
@@ -42,7 +42,7 @@ front-is xs ys zs e = ap (stands nat_eq xs) e ∙ front-stands xs zs
 
 -- ---- Fronts and ends of texts
 
--- the characters whose bytes stand first stand first
+-- If a text's bytes begin with the bytes of characters, the text begins with these characters.
 pub first_characters : (xs ds rest : List ℕ) → encode_utf8_all ds ≡ encode_utf8_all xs ++ rest → (zs : List ℕ) × (ds ≡ xs ++ zs)
 first_characters [] ds rest e = (ds, refl)
 first_characters (x ∷ xs) [] rest e =
@@ -56,7 +56,7 @@ first_characters (x ∷ xs) (d ∷ ds) rest e =
     let later = first_characters xs ds rest s.1 in
     (later.0, ap (λ (c : ℕ). c ∷ ds) s.0 ∙ ap (λ (l : List ℕ). x ∷ l) later.1)
 
--- the characters whose bytes stand last stand last
+-- If a text's bytes end with the bytes of characters, the text ends with these characters.
 last_characters : (xs ds rest : List ℕ) → scalars xs ≡ true → scalars ds ≡ true → encode_utf8_all ds ≡ rest ++ encode_utf8_all xs → (zs : List ℕ) × (ds ≡ zs ++ xs)
 last_characters xs ds rest s t e =
     let boundary : IsCharBoundary (encode_utf8_all ds) (length rest) = IsCharBoundary-at_seam (encode_utf8_all ds) rest (encode_utf8_all xs) e (xs, (s, refl)) in
@@ -81,7 +81,7 @@ reversed : (xs ds zs : List ℕ) → ds ≡ zs ++ xs → reverse ds ≡ reverse 
 reversed xs ds zs e = ap reverse e ∙ reverse-append zs xs
 
 module _ (text : Text) where
-  -- where the bytes of characters stand, the characters do
+  -- Characters begin a text, in reading order, exactly if their bytes begin its bytes.
   pub bytes-stand : (d : Direction) (xs ds : List ℕ) → scalars xs ≡ true → scalars ds ≡ true
       → stands nat_eq (in_reading_order text d (encode_utf8_all xs)) (in_reading_order text d (encode_utf8_all ds))
       ≡ stands nat_eq (in_reading_order text d xs) (in_reading_order text d ds)
@@ -108,7 +108,7 @@ module _ (text : Text) where
 
   -- ---- Offsets
 
-  -- the characters on a side, in the order of the text
+  -- These are the characters on a side of a place, in the order of the text.
   abbrev pub side : Direction → ℕ → List ℕ
   side rightwards p = drop p text.characters
   side leftwards p = take p text.characters
@@ -141,18 +141,18 @@ module _ (text : Text) where
       let w = length-encode c in
       omega (arith, more, l, w)
 
-  -- a place's offset is the length of the bytes before it
+  -- The offset of a place is the length of the bytes before it.
   pub offset-is : HasUtf8CharactersAndOffsets text → (p : ℕ) → p ≤ last_place text → offset text p ≡ length (encode_utf8_all (take p text.characters))
   offset-is reads p inside = ap (λ (os : List ℕ). get_or os p 0) reads.offsets ∙ offsets-are text.characters 0 p inside ∙ zero-add _
 
-  -- the bytes of the text
+  -- These are the bytes of the text.
   abbrev pub bytes : List ℕ
   bytes = encode_utf8_all text.characters
 
   parted : (p : ℕ) → bytes ≡ encode_utf8_all (take p text.characters) ++ encode_utf8_all (drop p text.characters)
   parted p = ap encode_utf8_all (sym (take-append-drop p text.characters)) ∙ encodes-append (take p text.characters) (drop p text.characters)
 
-  -- the bytes on a side of an offset, the nearest first
+  -- These are the bytes on a side of an offset, nearest first.
   abbrev pub bytes_near : Direction → ℕ → List ℕ
   bytes_near rightwards at = drop at bytes
   bytes_near leftwards at = reverse (take at bytes)
@@ -176,10 +176,10 @@ module _ (text : Text) where
       let l = ap length (parted p) ∙ length-append a b in
       omega (arith, o, l)
 
-  -- the offset behind characters that stand beside a place
+  -- Behind characters next to a place, the offset has moved by the length of their bytes.
   pub offset-moved : HasUtf8CharactersAndOffsets text → (d : Direction) (xs : List ℕ) (p : ℕ) → p ≤ last_place text
       → stands nat_eq (in_reading_order text d xs) (nearest_first text d p) ≡ true → moved text d (length xs) p ≤ last_place text
-      → offset text (moved text d (length xs) p) ≡ moved_by d (length (encode_utf8_all xs)) (offset text p)
+      → offset text (moved text d (length xs) p) ≡ offset_moved_in_direction d (length (encode_utf8_all xs)) (offset text p)
   offset-moved reads rightwards xs p inside h within =
       let cs = text.characters in
       let n = length xs in

@@ -12,7 +12,7 @@ use Rattle.regex_meaning.proofs.BoolLemmas.{and-right}
 
 -- ---- Lists
 
--- each character of the first list is the same as the one of the second at its place, and the second is no shorter
+-- Each element of the first list is the same as that of the second at its place, which exists.
 abbrev pub stands : (ℕ → ℕ → Bool) → List ℕ → List ℕ → Bool
 stands same [] ds = true
 stands same (c ∷ cs) [] = false
@@ -67,7 +67,7 @@ pointwise-reverse same (c ∷ cs) (d ∷ ds) e =
 -- ---- Texts
 
 module _ (text : Text) where
-  -- what stands to be read in a direction, in the order of reading
+  -- These are the characters in the order in which they are read in a direction.
   abbrev pub in_reading_order : Direction → List ℕ → List ℕ
   in_reading_order rightwards cs = cs
   in_reading_order leftwards cs = reverse cs
@@ -83,7 +83,7 @@ module _ (text : Text) where
       ap (λ (l : List ℕ). pointwise same l (reverse ds)) (sym (reverse-reverse cs))
       ∙ pointwise-reverse same (reverse cs) ds (length-reverse cs ∙ e)
 
-  -- the characters beside a place are the same as these where these stand on its side
+  -- The next characters are these exactly if these begin the characters read from there.
   pub beside-stands : (same : ℕ → ℕ → Bool) (cs : List ℕ) (d : Direction) (p : ℕ) → p ≤ last_place text
       → (nat_le (length cs) (characters_ahead text d p) && pointwise same cs (next_characters text d (length cs) p))
       ≡ stands same (in_reading_order d cs) (nearest_first text d p)

@@ -8,16 +8,16 @@ use lib.Utf8.{scalar, scalars}
 use Rattle.std.proofs.lemmas.List.{reverse-append, length-reverse, take-append-drop, length-take-le, drop-drop}
 use Rattle.std.proofs.Math.Seq.{drop-append_seam}
 use Rattle.regex_meaning.specs.NumberListHelpers.{contains}
-use Rattle.regex_meaning.specs.Laws.{IsOnward}
+use Rattle.regex_meaning.specs.Laws.{IsAtOrAheadInDirection}
 use Rattle.regex_meaning.specs.Tree.{byte_set, byte_sequence}
 use Rattle.regex_meaning.specs.Text.{Text, Direction, rightwards, leftwards, last_place, next_character, moved, characters_ahead}
 use Rattle.regex_meaning.specs.CodeUnitOffsets.{HasRisingPlaceOffsets, offset}
 use Rattle.regex_meaning.specs.Outcomes.{Groups, Outcome, is_some_and, spelled, outcomes}
 use Rattle.regex_meaning.specs.WellFormedTrees.{has_text_in_sequence, set_sizes_and_characters_fit_instructions}
 use Rattle.regex_meaning.specs.OutcomesWithStepTicks.{TickOrOutcome, tick, pair, ticks, outcomes_replaced_by_lists, nearest_first, compared_chunks, compared_chunk_count, ticked}
-use Rattle.regex_meaning.specs.CompilationRelation.{Program, Counters, counters_after_insn, HasInsnsBetween, IsCode, ByteSeq, ordered, chunks}
+use Rattle.regex_meaning.specs.CompilationRelation.{Program, Counters, counters_after_insn, HasInsnsBetween, IsCode, ByteSeq, reversed_if_in_lookbehind, chunks}
 use Rattle.regex_meaning.proofs.FirstByteOfCharacter.{encode-1}
-use Rattle.regress_machine.specs.Machine.{LoopData, State, running, go_if, has_bytes, moved_by, act}
+use Rattle.regress_machine.specs.Machine.{LoopData, State, running, go_if, occurs_beside_offset, offset_moved_in_direction, act}
 use Rattle.regress_machine.specs.TextsForBytePrograms.{HasUtf8CharactersAndOffsets}
 use Rattle.regress_machine.proofs.ThreadYieldLemmas.{Ending, Yields, yields_none, yields_same, yields_turn}
 use Rattle.regress_machine.proofs.UnchangedGroupsAndLoops.{kept_itself}
@@ -57,9 +57,9 @@ utf8_scalars bs u = and-left (scalars (chars bs)) (pointwise nat_eq (encode_utf8
 -- ---- Offsets
 
 module _ (text : Text) where
-  -- what is near an offset behind bytes that stand beside another one
+  -- Behind bytes next to an offset, the nearest bytes are those that follow them.
   near-moved : (d : Direction) (bs : List ℕ) (at : ℕ) → at ≤ length (bytes text) → stands nat_eq (in_reading_order text d bs) (bytes_near text d at) ≡ true
-      → (bytes_near text d (moved_by d (length bs) at) ≡ drop (length bs) (bytes_near text d at)) × (moved_by d (length bs) at ≤ length (bytes text))
+      → (bytes_near text d (offset_moved_in_direction d (length bs) at) ≡ drop (length bs) (bytes_near text d at)) × (offset_moved_in_direction d (length bs) at ≤ length (bytes text))
   near-moved rightwards bs at inside h =
       let few = stands-length nat_eq bs (drop at (bytes text)) h in
       let left = length-drop at (bytes text) in
@@ -76,24 +76,24 @@ module _ (text : Text) where
         omega arith,
       )
 
-  moved_by-add : (d : Direction) (m n at : ℕ) → moved_by d n (moved_by d m at) ≡ moved_by d (m + n) at
-  moved_by-add rightwards m n at = omega arith
-  moved_by-add leftwards m n at = omega arith
+  offset_moved_in_direction-add : (d : Direction) (m n at : ℕ) → offset_moved_in_direction d n (offset_moved_in_direction d m at) ≡ offset_moved_in_direction d (m + n) at
+  offset_moved_in_direction-add rightwards m n at = omega arith
+  offset_moved_in_direction-add leftwards m n at = omega arith
 
-  moved_by-zero : (d : Direction) (at : ℕ) → moved_by d 0 at ≡ at
-  moved_by-zero rightwards at = omega arith
-  moved_by-zero leftwards at = omega arith
+  offset_moved_in_direction-zero : (d : Direction) (at : ℕ) → offset_moved_in_direction d 0 at ≡ at
+  offset_moved_in_direction-zero rightwards at = omega arith
+  offset_moved_in_direction-zero leftwards at = omega arith
 
-  has_bytes-stands : (d : Direction) (bs : List ℕ) (at : ℕ) → has_bytes (bytes text) d bs at ≡ stands nat_eq (in_reading_order text d bs) (bytes_near text d at)
-  has_bytes-stands rightwards bs at = starts-stands (drop at (bytes text)) bs
-  has_bytes-stands leftwards bs at = starts-stands (reverse (take at (bytes text))) (reverse bs)
+  occurs_beside_offset-stands : (d : Direction) (bs : List ℕ) (at : ℕ) → occurs_beside_offset (bytes text) d bs at ≡ stands nat_eq (in_reading_order text d bs) (bytes_near text d at)
+  occurs_beside_offset-stands rightwards bs at = starts-stands (drop at (bytes text)) bs
+  occurs_beside_offset-stands leftwards bs at = starts-stands (reverse (take at (bytes text))) (reverse bs)
 
   compared_chunk_count-are : HasUtf8CharactersAndOffsets text → (d : Direction) (bs : List ℕ) (p : ℕ) → p ≤ last_place text
       → compared_chunk_count text bs d p ≡ compared_chunks (chunks_read d (in_code_order d (chunks bs))) (bytes_near text d (offset text p))
   compared_chunk_count-are reads rightwards bs p inside = ap (compared_chunks (chunks bs)) (sym (bytes_near-side text reads rightwards p inside))
   compared_chunk_count-are reads leftwards bs p inside = ap (compared_chunks (map reverse (reverse (chunks bs)))) (sym (bytes_near-side text reads leftwards p inside))
 
-  -- a text's bytes stand near an offset where its characters do
+  -- The bytes of characters occur next to an offset exactly if the characters do.
   near-stands : HasUtf8CharactersAndOffsets text → (d : Direction) (xs : List ℕ) (p : ℕ) → p ≤ last_place text → scalars xs ≡ true
       → stands nat_eq (in_reading_order text d (encode_utf8_all xs)) (bytes_near text d (offset text p)) ≡ stands nat_eq (in_reading_order text d xs) (nearest_first text d p)
   near-stands reads d xs p inside spelt =
@@ -101,7 +101,7 @@ module _ (text : Text) where
       ∙ bytes-stand text d xs (side text d p) spelt (scalars-side text d p (scalars_of text.characters reads.scalars))
       ∙ ap (stands nat_eq (in_reading_order text d xs)) (sym (nearest-side text d p))
 
-  -- one character stands where it is the next one
+  -- A single character occurs next to a place exactly if it is the next character.
   one_stands : (d : Direction) (b p : ℕ) → p ≤ last_place text
       → stands nat_eq (in_reading_order text d (b ∷ [])) (nearest_first text d p) ≡ is_some_and (next_character text d p) (contains (b ∷ []))
   one_stands d b p inside = ap (λ (l : List ℕ). stands nat_eq l (nearest_first text d p)) (one_read d) ∙ go (beside text d p inside)
@@ -117,28 +117,28 @@ module _ (text : Text) where
 
 module _ (program : Program) (text : Text) (is_text : HasRisingPlaceOffsets text) where
   module _ (d : Direction) (E : Ending) (g : Groups) (s : List ℕ) (ls : List LoopData) where
-    -- ---- Chunks in a row
+    -- ---- Chunks one after another
 
-    -- between two chunks an offset may stand inside a character
+    -- This is the state at an offset, which may lie inside a character between two chunks.
     abbrev at_offset : (ip at : ℕ) → State
     at_offset ip at = record { ip = ip; pos = at; groups = over program text is_text g; starts = s; loops = ls }
 
     chunk_turn : (bs : List ℕ) (ip at : ℕ) → slice_get program.insns ip ≡ Some (ByteSeq bs)
-        → act program text d (at_offset ip at) ≡ go_if (stands nat_eq (in_reading_order text d bs) (bytes_near text d at)) (at_offset (ip + 1) (moved_by d (length bs) at))
+        → act program text d (at_offset ip at) ≡ go_if (stands nat_eq (in_reading_order text d bs) (bytes_near text d at)) (at_offset (ip + 1) (offset_moved_in_direction d (length bs) at))
     chunk_turn bs ip at has =
         act_at program text is_text d (at_offset ip at) (ByteSeq bs) has
-        ∙ ap (λ b. go_if b (at_offset (ip + 1) (moved_by d (length bs) at))) (has_bytes-stands text d bs at)
+        ∙ ap (λ b. go_if b (at_offset (ip + 1) (offset_moved_in_direction d (length bs) at))) (occurs_beside_offset-stands text d bs at)
 
     abbrev ChunksYield : (ip end : ℕ) → List (List ℕ) → (at : ℕ) → List TickOrOutcome → Type 0
     ChunksYield ip end cs at items =
-        (chunks_stand (chunks_read d cs) (bytes_near text d at) ≡ true → Yields program text d E (running (at_offset end (moved_by d (total cs) at)) ∷ []) items)
+        (chunks_stand (chunks_read d cs) (bytes_near text d at) ≡ true → Yields program text d E (running (at_offset end (offset_moved_in_direction d (total cs) at)) ∷ []) items)
         → Yields program text d E (running (at_offset ip at) ∷ [])
         (ticks (compared_chunks (chunks_read d cs) (bytes_near text d at)) ++ items_if (chunks_stand (chunks_read d cs) (bytes_near text d at)) items)
 
-    -- what is found at a chunk where it stands, or does not
+    -- The items at a chunk follow from two cases: the chunk occurs at the offset, or it does not.
     by_chunk : (c : List ℕ) (cs : List (List ℕ)) (ip end at : ℕ) (items : List TickOrOutcome) → at ≤ length (bytes text) → slice_get program.insns ip ≡ Some (ByteSeq c)
         → ((q : ℕ) → q ≤ length (bytes text) → ChunksYield (ip + 1) end cs q items)
-        → (chunks_stand (chunks_read d (c ∷ cs)) (bytes_near text d at) ≡ true → Yields program text d E (running (at_offset end (moved_by d (total (c ∷ cs)) at)) ∷ []) items)
+        → (chunks_stand (chunks_read d (c ∷ cs)) (bytes_near text d at) ≡ true → Yields program text d E (running (at_offset end (offset_moved_in_direction d (total (c ∷ cs)) at)) ∷ []) items)
         → (b : Bool) → stands nat_eq (in_reading_order text d c) (bytes_near text d at) ≡ b
         → Yields program text d E (running (at_offset ip at) ∷ [])
         (ticks (if b then compared_chunks (chunks_read d cs) (drop (length (in_reading_order text d c)) (bytes_near text d at)) + 1 else 1)
@@ -147,7 +147,7 @@ module _ (program : Program) (text : Text) (is_text : HasRisingPlaceOffsets text
         let r = in_reading_order text d c in
         let near = bytes_near text d at in
         let rest = chunks_read d cs in
-        let q = moved_by d (length c) at in
+        let q = offset_moved_in_direction d (length c) at in
         let on = near-moved text d c at inside e in
         let same : bytes_near text d q ≡ drop (length r) near = on.0 ∙ ap (λ n. drop n near) (sym (length-reading text d c)) in
         yields_same program text d E _ _ _
@@ -156,14 +156,14 @@ module _ (program : Program) (text : Text) (is_text : HasRisingPlaceOffsets text
         (yields_turn program text d E (at_offset ip at) (running (at_offset (ip + 1) q) ∷ []) (ticks (compared_chunks rest (bytes_near text d q)) ++ items_if (chunks_stand rest (bytes_near text d q)) items)
         (chunk_turn c ip at has ∙ ap (λ b. go_if b (at_offset (ip + 1) q)) e)
         (later q on.1
-        (λ h. subst (λ (i : ℕ). Yields program text d E (running (at_offset end i) ∷ []) items) (sym (moved_by-add text d (length c) (total cs) at))
+        (λ h. subst (λ (i : ℕ). Yields program text d E (running (at_offset end i) ∷ []) items) (sym (offset_moved_in_direction-add text d (length c) (total cs) at))
         (behind
         (ap (λ (l : List (List ℕ)). chunks_stand l near) (chunks_read-cons text d c cs)
         ∙ ap (λ b. b && chunks_stand rest (drop (length r) near)) e
         ∙ ap (chunks_stand rest) (sym same) ∙ h)))))
     by_chunk c cs ip end at items inside has later behind false e =
         yields_turn program text d E (at_offset ip at) [] []
-        (chunk_turn c ip at has ∙ ap (λ b. go_if b (at_offset (ip + 1) (moved_by d (length c) at))) e) (yields_none program text d E)
+        (chunk_turn c ip at has ∙ ap (λ b. go_if b (at_offset (ip + 1) (offset_moved_in_direction d (length c) at))) e) (yields_none program text d E)
 
     step_yields : (c : List ℕ) (cs : List (List ℕ)) (ip end at : ℕ) (items : List TickOrOutcome) → at ≤ length (bytes text) → slice_get program.insns ip ≡ Some (ByteSeq c)
         → ((q : ℕ) → q ≤ length (bytes text) → ChunksYield (ip + 1) end cs q items) → ChunksYield ip end (c ∷ cs) at items
@@ -182,7 +182,7 @@ module _ (program : Program) (text : Text) (is_text : HasRisingPlaceOffsets text
     chunks_yield [] m n at items inside has behind =
         yields_same program text d E _ _ _ (none_read d)
         (subst (λ (ip : ℕ). Yields program text d E (running (at_offset ip at) ∷ []) items) (sym (ap (λ (m : Counters). m.insn) has))
-        (subst (λ (i : ℕ). Yields program text d E (running (at_offset n.insn i) ∷ []) items) (moved_by-zero text d at) (behind (all_stand d))))
+        (subst (λ (i : ℕ). Yields program text d E (running (at_offset n.insn i) ∷ []) items) (offset_moved_in_direction-zero text d at) (behind (all_stand d))))
       where
         all_stand : (d : Direction) → chunks_stand (chunks_read d []) (bytes_near text d at) ≡ true
         all_stand rightwards = refl
@@ -194,11 +194,11 @@ module _ (program : Program) (text : Text) (is_text : HasRisingPlaceOffsets text
     chunks_yield (c ∷ cs) m n at items inside has behind =
         step_yields c cs m.insn n.insn at items inside has.0 (λ q within. chunks_yield cs (counters_after_insn m) n q items within has.1) behind
 
-    -- ---- A sequence
+    -- ---- The code of a byte sequence
 
     sequence_yields : HasUtf8CharactersAndOffsets text → (bs : List ℕ) (m n : Counters) (p : ℕ) (k : Outcome → List TickOrOutcome) → is_utf8 bs ≡ true → p ≤ last_place text
         → HasInsnsBetween program (map ByteSeq (in_code_order d (chunks bs))) m n
-        → ((q : ℕ) → IsOnward text d p q → q ≤ last_place text → Yields program text d E (running (state_at program text is_text n.insn q g s ls) ∷ []) (k (record { end = q; groups = g })))
+        → ((q : ℕ) → IsAtOrAheadInDirection text d p q → q ≤ last_place text → Yields program text d E (running (state_at program text is_text n.insn q g s ls) ∷ []) (k (record { end = q; groups = g })))
         → Yields program text d E (running (state_at program text is_text m.insn p g s ls) ∷ [])
         (outcomes_replaced_by_lists (ticks (compared_chunk_count text bs d p) ++ map pair (spelled text nat_eq (chars bs) d p g)) k)
     sequence_yields reads bs m n p k u inside has behind =
@@ -228,14 +228,14 @@ module _ (program : Program) (text : Text) (is_text : HasRisingPlaceOffsets text
         let few : length xs ≤ characters_ahead text d p = omega (arith, enough, left, long) in
         let onward = reached_behind program text is_text d (length xs) p g inside few in
         let within = inside_by program text is_text d p e inside onward in
-        let offset_is : offset text e ≡ moved_by d (total cs) at =
-        offset-moved text reads d xs p inside h within ∙ ap (λ (l : List ℕ). moved_by d (length l) at) spelt ∙ ap (λ i. moved_by d i at) (sym (total-chunks text d bs)) in
+        let offset_is : offset text e ≡ offset_moved_in_direction d (total cs) at =
+        offset-moved text reads d xs p inside h within ∙ ap (λ (l : List ℕ). offset_moved_in_direction d (length l) at) spelt ∙ ap (λ i. offset_moved_in_direction d i at) (sym (total-chunks text d bs)) in
         subst (λ (i : ℕ). Yields program text d E (running (at_offset n.insn i) ∷ []) (k o)) offset_is (behind e onward within)))
 
-    -- ---- One byte
+    -- ---- The code of one byte
 
     byte_yields : HasUtf8CharactersAndOffsets text → (b : ℕ) (m n : Counters) (p : ℕ) (k : Outcome → List TickOrOutcome) → b < 128 → p ≤ last_place text → HasInsnsBetween program (ByteSeq (b ∷ []) ∷ []) m n
-        → ((q : ℕ) → IsOnward text d p q → q ≤ last_place text → Yields program text d E (running (state_at program text is_text n.insn q g s ls) ∷ []) (k (record { end = q; groups = g })))
+        → ((q : ℕ) → IsAtOrAheadInDirection text d p q → q ≤ last_place text → Yields program text d E (running (state_at program text is_text n.insn q g s ls) ∷ []) (k (record { end = q; groups = g })))
         → Yields program text d E (running (state_at program text is_text m.insn p g s ls) ∷ []) (outcomes_replaced_by_lists (one_items program text is_text (contains (b ∷ [])) d p g) k)
     byte_yields reads b m n p k low inside has behind =
         let at = offset text p in
@@ -244,12 +244,12 @@ module _ (program : Program) (text : Text) (is_text : HasRisingPlaceOffsets text
         let passes = is_some_and (next_character text d p) (contains (b ∷ [])) in
         let is : encode_utf8_all (b ∷ []) ≡ b ∷ [] = ap (λ (l : List ℕ). l ++ []) (encode-1 b low) in
         let stand : stands nat_eq (in_reading_order text d (b ∷ [])) (nearest_first text d p) ≡ passes = one_stands text d b p inside in
-        let turn : act program text d (at_offset m.insn at) ≡ go_if passes (at_offset (m.insn + 1) (moved_by d 1 at)) =
+        let turn : act program text d (at_offset m.insn at) ≡ go_if passes (at_offset (m.insn + 1) (offset_moved_in_direction d 1 at)) =
         chunk_turn (b ∷ []) m.insn at has.0
-        ∙ ap (λ c. go_if c (at_offset (m.insn + 1) (moved_by d 1 at)))
+        ∙ ap (λ c. go_if c (at_offset (m.insn + 1) (offset_moved_in_direction d 1 at)))
         (ap (λ (l : List ℕ). stands nat_eq (in_reading_order text d l) (bytes_near text d at)) (sym is)
         ∙ near-stands text reads d (b ∷ []) p inside (and_from (scalar b) true (scalar_of b (low_scalar b low)) refl) ∙ stand) in
-        leaf_yields program text is_text d E (at_offset m.insn at) (at_offset (m.insn + 1) (moved_by d 1 at)) passes o k turn
+        leaf_yields program text is_text d E (at_offset m.insn at) (at_offset (m.insn + 1) (offset_moved_in_direction d 1 at)) passes o k turn
         (λ passed.
         let h = stand ∙ passed in
         let long = length-reading text d (b ∷ []) in
@@ -258,15 +258,15 @@ module _ (program : Program) (text : Text) (is_text : HasRisingPlaceOffsets text
         let few : 1 ≤ characters_ahead text d p = omega (arith, enough, left, long) in
         let onward = reached_behind program text is_text d 1 p g inside few in
         let within = inside_by program text is_text d p e inside onward in
-        let offset_is : offset text e ≡ moved_by d 1 at =
-        offset-moved text reads d (b ∷ []) p inside h within ∙ ap (λ (l : List ℕ). moved_by d (length l) at) is in
+        let offset_is : offset text e ≡ offset_moved_in_direction d 1 at =
+        offset-moved text reads d (b ∷ []) p inside h within ∙ ap (λ (l : List ℕ). offset_moved_in_direction d (length l) at) is in
         let ip_is : n.insn ≡ m.insn + 1 = ap (λ (m : Counters). m.insn) (sym has.1) in
         subst (λ (i : ℕ). Yields program text d E (running (at_offset (m.insn + 1) i) ∷ []) (k o)) offset_is
         (subst (λ (i : ℕ). Yields program text d E (running (at_offset i (offset text e)) ∷ []) (k o)) ip_is (behind e onward within)))
 
   -- ---- The nodes
 
-  code_in_order : (behind : Bool) (cs : List (List ℕ)) → in_code_order (direction_at behind) cs ≡ ordered behind cs
+  code_in_order : (behind : Bool) (cs : List (List ℕ)) → in_code_order (direction_at behind) cs ≡ reversed_if_in_lookbehind behind cs
   code_in_order true cs = refl
   code_in_order false cs = refl
 
@@ -280,7 +280,7 @@ module _ (program : Program) (text : Text) (is_text : HasRisingPlaceOffsets text
       on.at (record { end = q; groups = g }) s ls (record { onward = onward; inside = within; same_groups = refl; fit = enters.fit })
       (kept_itself [] m.loop n.loop s ls))
 
-  -- in the direction that the code was made for
+  -- The code of a byte sequence finds its outcomes in the direction that it was compiled for.
   pub byte_sequence_finds : (d : Direction) (behind : Bool) (bs : List ℕ) → d ≡ direction_at behind → HasUtf8CharactersAndOffsets text
       → has_text_in_sequence (byte_sequence bs) ≡ true → Finds program text is_text d behind (byte_sequence bs)
   byte_sequence_finds d behind bs same reads spelt =
@@ -301,4 +301,4 @@ module _ (program : Program) (text : Text) (is_text : HasRisingPlaceOffsets text
 
   pub byte_sequence_rising : (behind : Bool) (bs : List ℕ) → Rising program text is_text behind (byte_sequence bs)
   unfolding IsCode
-  byte_sequence_rising behind bs m n code = insns_rising program text is_text (map ByteSeq (ordered behind (chunks bs))) m n code
+  byte_sequence_rising behind bs m n code = insns_rising program text is_text (map ByteSeq (reversed_if_in_lookbehind behind (chunks bs))) m n code

@@ -6,7 +6,7 @@ use Rattle.std.specs.Char.{len_utf8}
 use Rattle.std.specs.Str.{is_utf8}
 use Rattle.std.proofs.lemmas.Str.{len_utf8_ascii}
 use lib.Utf8.{scalar, scalars}
-use Rattle.regex_meaning.specs.Text.{is_scalar, offsets_from, one_unit, utf8_text, ascii_text}
+use Rattle.regex_meaning.specs.Text.{is_scalar, offsets_from, width_of_single_unit_character, utf8_text, ascii_text}
 use Rattle.regress_machine.specs.TextsForBytePrograms.{HasUtf8CharactersAndOffsets}
 use Rattle.regress_machine.proofs.SingleCharacterTests.{low_scalar}
 use Rattle.regress_machine.proofs.ByteNodeOutcomes.{utf8_scalars}
@@ -26,7 +26,7 @@ ascii_scalars [] h = refl
 ascii_scalars (b ∷ bs) h =
     and_from (is_scalar b) (list_all is_scalar bs) (low_scalar b (ltb-true b 128 (and-left (nat_lt b 128) _ h))) (ascii_scalars bs (and-right (nat_lt b 128) _ h))
 
-ascii_offsets : (bs : List ℕ) (at : ℕ) → list_all (λ b. nat_lt b 128) bs ≡ true → offsets_from at (map one_unit bs) ≡ offsets_from at (map len_utf8 bs)
+ascii_offsets : (bs : List ℕ) (at : ℕ) → list_all (λ b. nat_lt b 128) bs ≡ true → offsets_from at (map width_of_single_unit_character bs) ≡ offsets_from at (map len_utf8 bs)
 ascii_offsets [] at h = refl
 ascii_offsets (b ∷ bs) at h =
     let one = len_utf8_ascii b (ltb-true b 128 (and-left (nat_lt b 128) _ h)) in

@@ -6,10 +6,10 @@ use Rattle.std.specs.List.{concat}
 use Rattle.std.proofs.lemmas.List.{reverse-append, length-reverse, take-append-drop}
 use Rattle.std.proofs.lemmas.List.Folds.{concat-append}
 use Rattle.regex_meaning.specs.Text.{Text, Direction, rightwards, leftwards}
-use Rattle.regex_meaning.specs.CompilationRelation.{chunks, chunks_of}
+use Rattle.regex_meaning.specs.CompilationRelation.{chunks, first_chunks_of_bytes}
 use Rattle.regress_machine.proofs.AdjacentCharacterLemmas.{and_assoc, stands, in_reading_order, length-reading}
 
--- the chunks stand one after another
+-- Chunks stand in bytes if each one begins the bytes that the ones before it leave.
 abbrev pub chunks_stand : List (List ℕ) → List ℕ → Bool
 chunks_stand [] bs = true
 chunks_stand (c ∷ cs) bs = stands nat_eq c bs && chunks_stand cs (drop (length c) bs)
@@ -23,20 +23,20 @@ pub chunks_stand-concat : (cs : List (List ℕ)) (bs : List ℕ) → chunks_stan
 chunks_stand-concat [] bs = refl
 chunks_stand-concat (c ∷ cs) bs = ap (λ b. stands nat_eq c bs && b) (chunks_stand-concat cs (drop (length c) bs)) ∙ sym (stands-append c (concat cs) bs)
 
--- the length of all chunks
+-- This is the length of all chunks together.
 abbrev pub total : List (List ℕ) → ℕ
 total [] = 0
 total (c ∷ cs) = length c + total cs
 
 -- ---- The chunks of a list of bytes are that list
 
-concat-chunks_of : (count : ℕ) (bs : List ℕ) → length bs ≤ count → concat (chunks_of count bs) ≡ bs
-concat-chunks_of zero [] le = refl
-concat-chunks_of zero (b ∷ bs) le = absurd (omega arith)
-concat-chunks_of (suc count) [] le = refl
-concat-chunks_of (suc count) (b ∷ bs) le =
+concat-first_chunks_of_bytes : (count : ℕ) (bs : List ℕ) → length bs ≤ count → concat (first_chunks_of_bytes count bs) ≡ bs
+concat-first_chunks_of_bytes zero [] le = refl
+concat-first_chunks_of_bytes zero (b ∷ bs) le = absurd (omega arith)
+concat-first_chunks_of_bytes (suc count) [] le = refl
+concat-first_chunks_of_bytes (suc count) (b ∷ bs) le =
     let l = length-drop 15 bs in
-    ap (λ (l : List ℕ). b ∷ (take 15 bs ++ l)) (concat-chunks_of count (drop 15 bs) (omega (arith, l))) ∙ ap (λ (l : List ℕ). b ∷ l) (take-append-drop 15 bs)
+    ap (λ (l : List ℕ). b ∷ (take 15 bs ++ l)) (concat-first_chunks_of_bytes count (drop 15 bs) (omega (arith, l))) ∙ ap (λ (l : List ℕ). b ∷ l) (take-append-drop 15 bs)
 
 concat-reversed : (cs : List (List ℕ)) → concat (map reverse (reverse cs)) ≡ reverse (concat cs)
 concat-reversed [] = refl
@@ -52,12 +52,12 @@ concat-reversed (c ∷ cs) =
     map-append [] ys = refl
     map-append (x ∷ xs) ys = ap (λ (l : List (List ℕ)). reverse x ∷ l) (map-append xs ys)
 
--- the last chunk first, where bytes are read backwards
+-- The code has the last chunk first if bytes are read leftwards.
 abbrev pub in_code_order : Direction → List (List ℕ) → List (List ℕ)
 in_code_order rightwards cs = cs
 in_code_order leftwards cs = reverse cs
 
--- the chunks as they are read
+-- These are the chunks with their bytes in reading order.
 abbrev pub chunks_read : Direction → List (List ℕ) → List (List ℕ)
 chunks_read rightwards cs = cs
 chunks_read leftwards cs = map reverse cs
@@ -68,8 +68,8 @@ module _ (text : Text) where
   chunks_read-cons leftwards c cs = refl
 
   pub concat-chunks : (d : Direction) (bytes : List ℕ) → concat (chunks_read d (in_code_order d (chunks bytes))) ≡ in_reading_order text d bytes
-  concat-chunks rightwards bytes = concat-chunks_of (length bytes) bytes (omega arith)
-  concat-chunks leftwards bytes = concat-reversed (chunks bytes) ∙ ap reverse (concat-chunks_of (length bytes) bytes (omega arith))
+  concat-chunks rightwards bytes = concat-first_chunks_of_bytes (length bytes) bytes (omega arith)
+  concat-chunks leftwards bytes = concat-reversed (chunks bytes) ∙ ap reverse (concat-first_chunks_of_bytes (length bytes) bytes (omega arith))
 
   total-read : (d : Direction) (cs : List (List ℕ)) → total cs ≡ length (concat (chunks_read d cs))
   total-read rightwards [] = refl

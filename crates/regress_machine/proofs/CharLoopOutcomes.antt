@@ -6,7 +6,7 @@ use Rattle.std.specs.List.{prefix_len}
 use Rattle.std.proofs.lemmas.List.Sums.{prefix_len-le-length}
 use lib.Pointwise.{pointwise}
 use Rattle.regex_meaning.specs.NumberListHelpers.{numbers_from}
-use Rattle.regex_meaning.specs.Laws.{Each, IsOnward}
+use Rattle.regex_meaning.specs.Laws.{Each, IsAtOrAheadInDirection}
 use Rattle.regex_meaning.specs.Tree.{Quantifier, Node, char, char_set, byte_set, byte_sequence, bracket, match_any, match_any_except_line_terminator}
 use Rattle.regex_meaning.specs.Tree.{loop_1_char_body, group_ids}
 use Rattle.regex_meaning.specs.Text.{Text, Direction, rightwards, leftwards, last_place, next_character, moved, characters_ahead, next_characters}
@@ -75,7 +75,7 @@ body_is_one text d (byte_sequence bytes) one p g inside =
 body_is_one text d _ one p g inside = cc
 
 module _ (program : Program) (text : Text) (is_text : HasRisingPlaceOffsets text) where
-  -- one thread after another, of which all but the first wait
+  -- The first thread runs and the others wait, so a tick stands between the items of two threads.
   turns_yield : (d : Direction) (E : Ending) (st : ℕ → State) (out : ℕ → Outcome) (k : Outcome → List TickOrOutcome) (ns : List ℕ)
       → Each (λ n. Yields program text d E (running (st n) ∷ []) (k (out n))) ns
       → Yields program text d E (first_running_and_others_waiting (map st ns)) (outcomes_replaced_by_lists (with_ticks_between (map out ns)) k)
@@ -90,12 +90,12 @@ module _ (program : Program) (text : Text) (is_text : HasRisingPlaceOffsets text
   each_in_turns P true ns h = Each-reverse P ns h
   each_in_turns P false ns h = h
 
-  -- a place behind so many characters
-  pub reached_behind : (d : Direction) (n p : ℕ) (g : Groups) → p ≤ last_place text → n ≤ characters_ahead text d p → IsOnward text d p (moved text d n p)
+  -- A place behind `n` of the characters ahead lies onward in the direction.
+  pub reached_behind : (d : Direction) (n p : ℕ) (g : Groups) → p ≤ last_place text → n ≤ characters_ahead text d p → IsAtOrAheadInDirection text d p (moved text d n p)
   reached_behind rightwards n p g inside few = (omega arith, omega arith)
   reached_behind leftwards n p g inside few = (omega arith, tt)
 
-  -- The loop finds the places behind so many accepted characters, the preferred one first.
+  -- The code of a char loop finds the places behind accepted characters, the preferred one first.
   runs_find : (d : Direction) (q : Quantifier) (node : Node) (E : Ending) (m n : Counters) (p : ℕ) (ids : List ℕ) (g : Groups) (s : List ℕ) (ls : List LoopData) (k : Outcome → List TickOrOutcome)
       → is_one_character node ≡ true → HasInsnAt program m (Loop1CharBody q.min (max_iterations q) q.greedy) → ReadsOne program text node (counters_after_insn m) n
       → Enters program text is_text p g s ls n.loop → GoesOn program text is_text d E n.insn p ids m.loop n.loop g s ls k

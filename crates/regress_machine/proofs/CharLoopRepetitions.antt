@@ -1,4 +1,5 @@
--- The repetition of a node of one character has an outcome for each allowed number of accepted characters.
+-- The repetition of a node of one character has an outcome for each allowed number of accepted
+-- characters.
 use Rattle.std.proofs.Common.{◌≡◌, ℕ, zero, suc, ◌+◌, ◌-◌, ◌<◌, ◌≤◌, min, List, [], ◌∷◌, ◌++◌, map, filter, flat_map, Bool, true, false, not, ◌&&◌}
 use Rattle.std.proofs.Common.{refl, ap, ◌∙◌, sym, arith, append-nil, reverse, cond}
 use Rattle.std.specs.Prelude.{if◌then◌else◌, nat_le, nat_lt, ◌==◌}
@@ -13,7 +14,7 @@ use Rattle.regex_meaning.specs.OutcomesWithStepTicks.{nearest_first}
 use Rattle.std.proofs.lemmas.Bool.{leb-false, ltb-false, ltb-true, leb-true, ne_eqb}
 use Rattle.regress_machine.proofs.NearestCharacterLemmas.{Beside, nothing_left, one_more, beside, moved-suc, moved-zero, length-nearest}
 
--- ---- Numbers in a row
+-- ---- Successive numbers
 
 abbrev pub in_turns : Bool → List ℕ → List ℕ
 in_turns greedy ns = if greedy then reverse ns else ns
@@ -74,7 +75,7 @@ module _ (text : Text) (d : Direction) where
   in_turns-suc true ns = reverse-suc ns
   in_turns-suc false ns = refl
 
-  -- one count before the later ones
+  -- The outcome here comes first, or, if the loop is greedy, behind those of more characters.
   with_first : (greedy : Bool) (p : ℕ) (g : Groups) (ns : List ℕ)
       → preferred greedy (run p g (in_turns greedy ns)) (record { end = p; groups = g } ∷ []) ≡ run p g (in_turns greedy (0 ∷ ns))
   with_first true p g ns =
@@ -98,7 +99,7 @@ module _ (text : Text) (d : Direction) where
     abbrev pub accepted_len : ℕ → ℕ
     accepted_len p = prefix_len accepted (nearest_first text d p)
 
-    -- the counts that are left after k iterations, where so many characters are accepted
+    -- These are the counts allowed after `k` iterations if `len` more characters are accepted.
     abbrev counts_left : (k len : ℕ) → List ℕ
     counts_left k len = numbers_from (r.least - k) (min (r.most - k) len + 1 - (r.least - k))
 
@@ -115,7 +116,7 @@ module _ (text : Text) (d : Direction) where
     nothing_again greedy true leave = refl
     nothing_again greedy false leave = refl
 
-    -- no character is accepted
+    -- If no character is accepted, leaving the loop gives the outcomes of the counts that are left.
     ends_here : (k p : ℕ) (g : Groups) (c : Bool) → nat_le r.least k ≡ c
         → preferred r.greedy [] (if c then here p g else []) ≡ run p g (in_turns r.greedy (counts_left k 0))
     ends_here k p g true e =
@@ -127,7 +128,7 @@ module _ (text : Text) (d : Direction) where
         let none = numbers_none (r.least - k) (min (r.most - k) 0 + 1 - (r.least - k)) (omega arith) in
         only_again r.greedy [] ∙ sym (no_counts r.greedy p g) ∙ ap (λ ns. run p g (in_turns r.greedy ns)) (sym none)
 
-    -- one character is accepted, and so many behind it
+    -- If characters are accepted, going on or leaving gives the outcomes of the counts left.
     goes_again : (k p len : ℕ) (g : Groups) (b c : Bool) (again : List Outcome) → nat_lt k r.most ≡ b → nat_le r.least k ≡ c
         → again ≡ run p g (in_turns r.greedy (map suc (counts_left (k + 1) len)))
         → preferred r.greedy (if b then again else []) (if c then here p g else []) ≡ run p g (in_turns r.greedy (counts_left k (suc len)))
@@ -155,7 +156,7 @@ module _ (text : Text) (d : Direction) where
         let none = numbers_none (r.least - k) (min (r.most - k) (suc len) + 1 - (r.least - k)) (omega arith) in
         only_again r.greedy [] ∙ sym (no_counts r.greedy p g) ∙ ap (λ ns. run p g (in_turns r.greedy ns)) (sym none)
 
-    -- the iteration itself
+    -- This is the outcome of one iteration, which exists if the character is accepted.
     abbrev one_if : (p : ℕ) (g : Groups) → Bool → List Outcome
     one_if p g b = if b then record { end = moved text d 1 p; groups = g } ∷ [] else []
 
@@ -189,7 +190,7 @@ module _ (text : Text) (d : Direction) where
     moves_on : (p : ℕ) → characters_ahead text d p ≡ suc (characters_ahead text d (moved text d 1 p)) → (moved text d 1 p == p) ≡ false
     moves_on p e = ne_eqb (moved text d 1 p) p (λ same. let f = ap (characters_ahead text d) same in omega arith)
 
-    -- with one turn more than are needed behind it
+    -- With more turns than accepted characters, iterations after `k` give the counts that are left.
     abbrev Later : (turns k : ℕ) → Groups → Type 0
     Later turns k g = (p len : ℕ) → p ≤ last_place text → accepted_len p ≡ len → suc len ≤ turns
         → bounded_repeat r turns (k + 1) p g ≡ run p g (in_turns r.greedy (counts_left (k + 1) len))
@@ -211,14 +212,14 @@ module _ (text : Text) (d : Direction) where
                 not_again turns k p g inside (ap (λ o. is_some_and o accepted) is ∙ e)
                 (ap (prefix_len accepted) rest ∙ ap (λ b. cond b (1 + accepted_len (moved text d 1 p)) 0) e)
 
-    -- enough rounds give the places behind the accepted characters
+    -- With enough turns, the repetition has an outcome for each count that is left.
     rounds_run : (turns k p : ℕ) (g : Groups) → p ≤ last_place text → accepted_len p ≤ turns → Runs turns k p g
     rounds_run zero k p g inside enough = by_character zero k p g inside enough (λ q len within is few. absurd (omega arith))
     rounds_run (suc turns) k p g inside enough =
         by_character (suc turns) k p g inside enough
         (λ q len within is few. rounds_run turns (k + 1) q g within (omega arith) ∙ ap (λ n. run q g (in_turns r.greedy (counts_left (k + 1) n))) is)
 
-    -- the loop's outcomes stand behind so many accepted characters
+    -- The repetition of the loop has an outcome for each allowed number of accepted characters.
     pub repeat_run : (p : ℕ) (g : Groups) → p ≤ last_place text
         → repeat text r d 0 p g ≡ run p g (in_turns r.greedy (numbers_from r.least (min r.most (accepted_len p) + 1 - r.least)))
     repeat_run p g inside =

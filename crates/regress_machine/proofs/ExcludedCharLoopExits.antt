@@ -1,4 +1,5 @@
--- Exits of a char loop find nothing if the table of the instruction after it excludes the next units.
+-- Exits of a char loop find nothing if the table of the instruction after it excludes the next
+-- units.
 use Rattle.std.proofs.Common.{◌≡◌, ◌<◌, ◌≤◌, ℕ, zero, suc, ◌+◌, List, [], ◌∷◌, Some, Bool, true, false, refl, ap, ◌∙◌, sym, arith, slice_get, drop}
 use Rattle.std.proofs.Common.{length, cond}
 use Rattle.std.specs.List.{prefix_len}
@@ -11,11 +12,11 @@ use Rattle.regex_meaning.proofs.CodeUnitOffsetsLemmas.{place_at-offset}
 use Rattle.regress_machine.specs.Machine.{State}
 use Rattle.regress_machine.specs.FirstSetTables.{AllowedNextKeys, table_allows_key_or_end, is_character_in_encoding, HasUnitsForTables, first_unit_key, unit_key_at}
 use Rattle.regress_machine.specs.FirstSetTables.{AreCovered}
-use Rattle.regress_machine.specs.CharLoopExitStatesByPreference.{behind, NothingAfterChars}
+use Rattle.regress_machine.specs.CharLoopExitStatesByPreference.{behind, StatesAfterCharsFindNothing}
 use Rattle.regress_machine.proofs.FirstUnitsOfCharacters.{passes-one}
 use Rattle.regress_machine.proofs.FirstSetTableLemmas.{seen-next, covered-nothing}
 
--- each character of a run passes the test
+-- Each character of a run passes the test.
 pub one-of-run : (test : ℕ → Bool) (xs : List ℕ) (n : ℕ) → n < prefix_len test xs → (c : ℕ) × (slice_get xs n ≡ Some c) × (test c ≡ true)
 one-of-run test [] n less = absurd (omega (arith, less))
 one-of-run test (x ∷ xs) n less = by (λ m l. one-of-run test xs m l) (test x) refl n less
@@ -38,15 +39,15 @@ inside-of (x ∷ xs) (suc n) c e = let more = inside-of xs n c e in omega (arith
 
 module _ (e : Encoding) (key : ℕ → ℕ) (program : Program) (text : Text) (tables : ℕ → AllowedNextKeys) (units : HasUnitsForTables e text) (all : AreCovered e key program tables)
     (place : ℕ) (s : State) where
-  -- the table behind the loop excludes each of these places
+  -- If the table behind the loop excludes the units at its exits, the exits find nothing.
   pub places-excluded : (least count : ℕ)
       → ((n : ℕ) → least ≤ n → n < least + count → table_allows_key_or_end (tables (s.ip + 2)) (unit_key_at e key text (offset text (place + n))) ≡ false)
-      → NothingAfterChars program text rightwards place s least count
+      → StatesAfterCharsFindNothing program text rightwards place s least count
   places-excluded least count excludes = λ n le less. covered-nothing e key program text tables units all (behind text rightwards place s n) (excludes n le less)
 
-  -- A run that can end only at its end: no character that the loop accepts may stand behind it.
+  -- Exits before accepted characters find nothing if the table behind the loop excludes these.
   pub run-excluded : (test : ℕ → Bool) → ((c : ℕ) → is_character_in_encoding e c ≡ true → test c ≡ true → table_allows_key_or_end (tables (s.ip + 2)) (first_unit_key e key c) ≡ false)
-      → (least count : ℕ) → least + count ≤ prefix_len test (nearest_first text rightwards place) → NothingAfterChars program text rightwards place s least count
+      → (least count : ℕ) → least + count ≤ prefix_len test (nearest_first text rightwards place) → StatesAfterCharsFindNothing program text rightwards place s least count
   run-excluded test disjoint least count within = places-excluded least count excludes
     where
       excludes : (n : ℕ) → least ≤ n → n < least + count → table_allows_key_or_end (tables (s.ip + 2)) (unit_key_at e key text (offset text (place + n))) ≡ false

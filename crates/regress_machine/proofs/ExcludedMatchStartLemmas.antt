@@ -19,7 +19,7 @@ no-match : (text : Text) (o : Option Match) → None ≡ option_map (match_in_of
 no-match text None e = refl
 no-match text (Some m) e = cc
 
--- where the first thread finds nothing no match begins
+-- If the first thread finds nothing at a place, no match begins there.
 pub nothing-no-match : (program : Program) (tree : Tree) (text : Text) → TreeProgramCanSearchText program tree text → (place : ℕ) → place ≤ last_place text
     → FindsNothing program text rightwards (running (state_before_first_insn program (offset text place))) → match_at tree.root text place ≡ None
 nothing-no-match program tree text can place inside nothing =

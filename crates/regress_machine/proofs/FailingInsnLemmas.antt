@@ -15,11 +15,11 @@ use Rattle.regex_meaning.specs.CompilationRelation.{BeginCaptureGroup, EndCaptur
 use Rattle.regex_meaning.proofs.CodeUnitOffsetsLemmas.{offset-place_at}
 use Rattle.regress_machine.specs.Machine.{LoopData, State, running, waiting, Next, goes, asks, state_with_ip, state_at_next_ip, with_some, go, go_if}
 use Rattle.regress_machine.specs.Machine.{iterate_or_leave_at_loop_head}
-use Rattle.regress_machine.specs.Machine.{effect_at_iteration_end, loop_again_effect, test_of, has_bytes, next_insn_at_place, read_one, read_bytes, stay_if, char_loop_states, scan, act_on}
+use Rattle.regress_machine.specs.Machine.{effect_at_iteration_end, loop_again_effect, test_of, occurs_beside_offset, next_insn_at_place, read_one, read_bytes, stay_if, char_loop_states, scan, act_on}
 use Rattle.regress_machine.specs.Machine.{act, after_lookaround, range_swapped_if_leftwards}
 use Rattle.regress_machine.proofs.NearestCharacterLemmas.{Beside, nothing_left, one_more, beside, moved-zero}
 use Rattle.regress_machine.specs.ThreadSimulation.{FindsNothing}
-use Rattle.regress_machine.specs.FailingInsnsAtOffset.{holds_there, accepts_char_at_offset, may_repeat, insn_may_find, IsClosed}
+use Rattle.regress_machine.specs.FailingInsnsAtOffset.{holds_there, accepts_char_at_offset, may_repeat, insn_may_find, IsClosedSetOfInsnsThatMayFind}
 use Rattle.regress_machine.proofs.FailureByStepInduction.{NothingBelow, Drops, DropAll, NothingNext, EachNothing, turn-nothing, nothing-here, nothing-more}
 use Rattle.regress_machine.proofs.FailureByStepInduction.{nothing-one, nothing-waits, nothing-ends, nothing-goes, nothing-only, nothing-some, nothing-go}
 use Rattle.regress_machine.proofs.FailureByStepInduction.{nothing-in_turn, nothing-loop, nothing-below-none, finds-nothing}
@@ -31,7 +31,7 @@ and-false-then : (a b : Bool) → (a && b) ≡ false → a ≡ true → b ≡ fa
 and-false-then true b e h = e
 and-false-then false b e h = cc
 
--- one of both fails
+-- At least one of two tests fails.
 data Fails (a b : Bool) : Type 0 where
   first : a ≡ false → Fails a b
   second : a ≡ true → b ≡ false → Fails a b
@@ -50,7 +50,7 @@ module _ (program : Program) (text : Text) (is : HasRisingPlaceOffsets text) (ma
   NoNext x = NothingNext program text n rightwards x
 
   module _ (s : State) (known : (u : State) → u.pos ≡ s.pos → may u.ip ≡ false → Nothing u) where
-    -- the state one instruction on, at the same offset
+    -- If a closed set excludes the next instruction, the state there finds nothing.
     nothing-on : (p : ℕ) → place_at text s.pos ≡ Some p → may (s.ip + 1) ≡ false → Nothing (next_insn_at_place text p s)
     nothing-on p at bar = known (next_insn_at_place text p s) (offset-place_at text s.pos p is at).0 bar
 
@@ -79,7 +79,7 @@ module _ (program : Program) (text : Text) (is : HasRisingPlaceOffsets text) (ma
         by (Some p) none =
             subst (λ b. NoNext (go_if b (next_insn_at_place text (moved text rightwards 1 p) s))) (sym none) (nothing-goes program text n rightwards)
 
-    nothing-bytes : (bytes : List ℕ) → has_bytes (encode_utf8_all text.characters) rightwards bytes s.pos ≡ false → NoNext (read_bytes text bytes rightwards s)
+    nothing-bytes : (bytes : List ℕ) → occurs_beside_offset (encode_utf8_all text.characters) rightwards bytes s.pos ≡ false → NoNext (read_bytes text bytes rightwards s)
     nothing-bytes bytes bar =
         subst (λ b. NoNext (go_if b (record s { ip = s.ip + 1; pos = s.pos + length bytes }))) (sym bar) (nothing-goes program text n rightwards)
 
@@ -121,7 +121,7 @@ module _ (program : Program) (text : Text) (is : HasRisingPlaceOffsets text) (ma
             (nothing-ends program text n rightwards k (running (state_at_next_ip s)) g
             (known (state_at_next_ip s) refl (or-false-right negate (may (s.ip + 1)) inside)) e few)
 
-    -- ---- A loop over one character
+    -- ---- Char loops
 
     none-accepted : (p : ℕ) → place_at text s.pos ≡ Some p → (test : ℕ → Bool) → is_some_and (next_character text rightwards p) test ≡ false
         → prefix_len test (nearest_first text rightwards p) ≡ 0
@@ -243,7 +243,7 @@ module _ (program : Program) (text : Text) (is : HasRisingPlaceOffsets text) (ma
 
 -- ---- Every number of steps
 
-module _ (program : Program) (text : Text) (is : HasRisingPlaceOffsets text) (may : ℕ → Bool) (at : ℕ) (all : IsClosed program text at may) where
+module _ (program : Program) (text : Text) (is : HasRisingPlaceOffsets text) (may : ℕ → Bool) (at : ℕ) (all : IsClosedSetOfInsnsThatMayFind program text at may) where
   closed-below : (n : ℕ) (s : State) → at ≡ s.pos → may s.ip ≡ false → NothingBelow program text n rightwards 1 (running s ∷ [])
   closed-below zero s here bar = nothing-below-none program text rightwards s
   closed-below (suc n) s here bar =
@@ -251,6 +251,6 @@ module _ (program : Program) (text : Text) (is : HasRisingPlaceOffsets text) (ma
       (subst (λ at. insn_may_find program text at may (slice_get program.insns s.ip) s.ip ≡ false) here (all.closed s.ip bar))
 
 pub closed-nothing : (program : Program) (text : Text) → HasRisingPlaceOffsets text → (may : ℕ → Bool) (s : State)
-    → IsClosed program text s.pos may → may s.ip ≡ false → FindsNothing program text rightwards (running s)
+    → IsClosedSetOfInsnsThatMayFind program text s.pos may → may s.ip ≡ false → FindsNothing program text rightwards (running s)
 closed-nothing program text is may s all bar =
     finds-nothing program text rightwards (running s) (λ n. closed-below program text is may s.pos all n s refl bar)

@@ -6,11 +6,11 @@ use Rattle.regex_meaning.specs.Text.{Text, Direction}
 use Rattle.regex_meaning.specs.CompilationRelation.{Program, LoopFields}
 use Rattle.regex_meaning.proofs.EachElementLemmas.{Each, Each-append, Each-when}
 use Rattle.regress_machine.specs.Machine.{State, Thread, running, waiting, Next, goes, scans, ends, asks, stuck, Found, result_without_threads, state_with_ip, with_some}
-use Rattle.regress_machine.specs.Machine.{only_if, go, go_if, first_running_and_others_waiting, preferring, iterate_or_leave_at_loop_head, act, after_lookaround, search}
+use Rattle.regress_machine.specs.Machine.{only_if, go, go_if, first_running_and_others_waiting, choice_in_order_of_greediness, iterate_or_leave_at_loop_head, act, after_lookaround, search}
 use Rattle.regress_machine.proofs.MachineSearchLemmas.{Later, never_stuck, waits-later, goes-later, scans-later, asked-inner}
 use Rattle.regress_machine.specs.ThreadSimulation.{Within, FindsNothing}
 
--- The threads may be dropped where what they begin takes less than so many steps.
+-- The threads may be dropped if the search that they begin takes fewer than `bound` steps.
 pub record NothingBelow (program : Program) (text : Text) (bound : ℕ) (d : Direction) (spent : ℕ) (ts : List Thread) : Type 0 where
   pub within : (turns : ℕ) (vs : List Thread) (f : Found) → f.steps < bound → search program text turns d (ts ++ vs) ≡ Some f
       → Within program text false turns d spent vs f
@@ -22,9 +22,9 @@ module _ (program : Program) (text : Text) (n : ℕ) (d : Direction) where
   abbrev pub DropAll : List Thread → Type 0
   DropAll ts = NothingBelow program text n d 0 ts
 
-  -- ---- What a turn leaves
+  -- ---- What an effect leaves
 
-  -- what comes next finds nothing
+  -- The threads that an effect leaves find nothing in searches of fewer than `n` steps.
   abbrev pub NothingNext : Next → Type 0
   NothingNext (goes ss) = DropAll ss
   NothingNext (scans tries ss) = DropAll ss
@@ -32,7 +32,7 @@ module _ (program : Program) (text : Text) (n : ℕ) (d : Direction) where
   NothingNext (asks inner negate u w) = (k : ℕ) (g : Found) → search program text k inner (running u ∷ []) ≡ Some g → g.steps < n → DropAll (after_lookaround negate w g.end)
   NothingNext stuck = Unit {0}
 
-  -- so many steps before
+  -- If threads left after some steps find nothing, the threads behind them end as the whole search.
   pub drops-later : (turns spent : ℕ) (ss vs : List Thread) (f : Found) → DropAll ss → 0 < spent → f.steps < suc n → Later program text turns d spent (ss ++ vs) f → Within program text false turns d 1 vs f
   drops-later turns spent ss vs f h some few l =
       let steps = l.steps in
@@ -79,7 +79,7 @@ module _ (program : Program) (text : Text) (n : ℕ) (d : Direction) where
         record { found = w.found; searches = w.searches; end = w.end ∙ sym l.end; few = omega (arith, steps, le); counted = λ x. cc };
   }
 
-  -- the contents of a lookaround that find nothing
+  -- If the contents of a lookaround find nothing, their search ends without a state.
   pub nothing-ends : (turns : ℕ) (t : Thread) (f : Found) → Drops t → search program text turns d (t ∷ []) ≡ Some f → f.steps < n → None ≡ f.end
   unfolding search
   nothing-ends turns t f a e few = by turns refl (a.within turns [] f few e)
@@ -116,9 +116,9 @@ module _ (program : Program) (text : Text) (n : ℕ) (d : Direction) where
   nothing-in_turn [] h = nothing-here
   nothing-in_turn (s ∷ ss) h = nothing-more (running s) (map waiting ss) h.0 (nothing-waiting ss h.1)
 
-  pub nothing-preferring : (greedy : Bool) (xs ys : List State) → EachNothing xs → EachNothing ys → EachNothing (preferring greedy xs ys)
-  nothing-preferring true xs ys h k = Each-append (λ s. Drops (running s)) xs ys h k
-  nothing-preferring false xs ys h k = Each-append (λ s. Drops (running s)) ys xs k h
+  pub nothing-choice_in_order_of_greediness : (greedy : Bool) (xs ys : List State) → EachNothing xs → EachNothing ys → EachNothing (choice_in_order_of_greediness greedy xs ys)
+  nothing-choice_in_order_of_greediness true xs ys h k = Each-append (λ s. Drops (running s)) xs ys h k
+  nothing-choice_in_order_of_greediness false xs ys h k = Each-append (λ s. Drops (running s)) ys xs k h
 
   pub nothing-loop : (f : LoopFields) (begin k : ℕ) (s : State)
       → (nat_lt k f.max_iters ≡ true → Drops (running (record s { ip = begin + 1; loops = slice_set s.loops f.loop_id (record { iters = k; entry = s.pos }) })))
@@ -128,9 +128,9 @@ module _ (program : Program) (text : Text) (n : ℕ) (d : Direction) where
       let out = state_with_ip f.exit s in
       let mores = if nat_lt k f.max_iters then more ∷ [] else [] in
       let outs = if nat_le f.min_iters k then out ∷ [] else [] in
-      nothing-only (nat_lt f.loop_id (length s.loops)) (goes (first_running_and_others_waiting (preferring f.greedy mores outs)))
-      (nothing-in_turn (preferring f.greedy mores outs)
-      (nothing-preferring f.greedy mores outs
+      nothing-only (nat_lt f.loop_id (length s.loops)) (goes (first_running_and_others_waiting (choice_in_order_of_greediness f.greedy mores outs)))
+      (nothing-in_turn (choice_in_order_of_greediness f.greedy mores outs)
+      (nothing-choice_in_order_of_greediness f.greedy mores outs
       (Each-when (λ s. Drops (running s)) (nat_lt k f.max_iters) more again)
       (Each-when (λ s. Drops (running s)) (nat_le f.min_iters k) out leave)))
 
@@ -138,6 +138,6 @@ module _ (program : Program) (text : Text) (d : Direction) where
   pub nothing-below-none : (s : State) → NothingBelow program text 0 d 1 (running s ∷ [])
   nothing-below-none s = record { within = λ turns vs f few e. absurd (omega arith) }
 
-  -- what finds nothing below every bound finds nothing
+  -- A thread that finds nothing below every bound finds nothing.
   pub finds-nothing : (t : Thread) → ((n : ℕ) → NothingBelow program text n d 1 (t ∷ [])) → FindsNothing program text d t
   finds-nothing t h = record { within = λ turns vs f e. (h (suc f.steps)).within turns vs f (omega arith) e }

@@ -12,19 +12,19 @@ use Rattle.regex_meaning.specs.CompilationRelation.{MatchAnyExceptLineTerminator
 use Rattle.regress_machine.specs.Machine.{test_of}
 use Rattle.regress_machine.specs.FirstSetTables.{AllowedNextKeys, table_allows_key_or_end, unit_table_of, TableAllowsAll, IsSubtable, AllowsWhatBothAllow, first_unit_key}
 use Rattle.regress_machine.specs.FirstSetTables.{AllowsAcceptedChars}
-use Rattle.regress_machine.specs.FirstSetTables.{HasFirst, AllowsLineEnds}
+use Rattle.regress_machine.specs.FirstSetTables.{AllowsFirstByteOf, AllowsLineEnds}
 use Rattle.regress_machine.specs.FirstSetTables.{AllowsLoopRepeat, IsCovered}
 
 -- ---- Bits
 
--- a bit of a table, which is set where there is none
+-- A bit behind the end of a table counts as set.
 bit-there : (bits : List Bool) (k : ℕ) → unwrap_or (slice_get bits k) true ≡ get_or bits k true
 bit-there bits k = unwrap_or-slice_get bits k true
 
 bit-past : (bits : List Bool) (k : ℕ) → length bits ≤ k → unwrap_or (slice_get bits k) true ≡ true
 bit-past bits k past = ap (λ o. unwrap_or o true) (slice_get_past bits k past)
 
--- each bit is set
+-- If each bit is set, the table allows all units and the end.
 pub bits-all : (bits : List Bool) → ((k : ℕ) → k < length bits → get_or bits k true ≡ true) → TableAllowsAll (unit_table_of bits true)
 bits-all bits h None = refl
 bits-all bits h (Some k) = elim (cases_lt k (length bits)) [
@@ -32,7 +32,7 @@ bits-all bits h (Some k) = elim (cases_lt k (length bits)) [
   | inr past ↦ bit-past bits k past
 ]
 
--- each bit that is set is set in the second one
+-- If the second table has each bit of the first one, the first one is its subtable.
 pub bits-within : (xs ys : List Bool) (a b : Bool) → (a ≡ true → b ≡ true)
     → ((k : ℕ) → k < length ys → get_or xs k true ≡ true → get_or ys k true ≡ true) → IsSubtable (unit_table_of xs a) (unit_table_of ys b)
 bits-within xs ys a b ends h None allowed = ends allowed
@@ -53,7 +53,7 @@ bits-both-within xs ys zs a b c ends h (Some k) first second = elim (cases_lt k 
 -- ---- Characters
 
 module _ (e : Encoding) (key : ℕ → ℕ) where
-  -- a table within which the class of the accepted characters lies
+  -- A table that contains the class of the accepted characters allows these characters.
   pub accepted-within : (o : Option (ℕ → Bool)) (class table : AllowedNextKeys) → AllowsAcceptedChars e key o class → IsSubtable class table → AllowsAcceptedChars e key o table
   accepted-within None class table has within = tt
   accepted-within (Some test) class table has within = λ c is accepted. within (first_unit_key e key c) (has c is accepted)
@@ -62,7 +62,7 @@ module _ (e : Encoding) (key : ℕ → ℕ) where
   either true b P f g h = f refl
   either false b P f g h = g h
 
-  -- the four characters that end a line
+  -- A table allows the line ends that another one allows if it has its end and line terminators.
   pub edges-of : (multiline : Bool) (other table : AllowedNextKeys) → (other.end ≡ true → table.end ≡ true)
       → (multiline ≡ true → Each (λ c. table_allows_key_or_end other (first_unit_key e key c) ≡ true → table_allows_key_or_end table (first_unit_key e key c) ≡ true) (0x0A ∷ 0x0D ∷ 0x2028 ∷ 0x2029 ∷ []))
       → AllowsLineEnds e key multiline other table
@@ -93,7 +93,7 @@ module _ (e : Encoding) (key : ℕ → ℕ) (program : Program) (tables : ℕ �
   repeated-by-all (Some (EnterLoop f)) begin table all = (λ seen h. all seen, λ seen h. all seen)
   repeated-by-all _ begin table all = tt
 
-  -- an instruction whose table allows all needs no check
+  -- An instruction whose table allows all is covered.
   pub covered-by-all : (i : Option Insn) (ip : ℕ) → TableAllowsAll (tables ip) → IsCovered e key program tables i ip
   covered-by-all None ip all = tt
   covered-by-all (Some Goal) ip all = all
@@ -103,7 +103,7 @@ module _ (e : Encoding) (key : ℕ → ℕ) (program : Program) (tables : ℕ �
   covered-by-all (Some (ByteSet members)) ip all = accepted-by-all (test_of program (Some (ByteSet members))) (tables ip) all
   covered-by-all (Some (ByteSeq bytes)) ip all = by e bytes
     where
-      by : (e : Encoding) (bytes : List ℕ) → HasFirst e key e bytes (tables ip)
+      by : (e : Encoding) (bytes : List ℕ) → AllowsFirstByteOf e key e bytes (tables ip)
       by utf8 [] = all
       by utf8 (b ∷ bytes) = all (Some (key b))
       by utf16 bytes = all

@@ -7,7 +7,7 @@ use Rattle.std.specs.List.{list_all, starts_with}
 use Rattle.std.proofs.lemmas.Str.{length-encode, len_utf8_bounds}
 use Rattle.regex_meaning.specs.Text.{Text, rightwards, next_character, offsets_from}
 use Rattle.regex_meaning.specs.CodeUnitOffsets.{HasRisingPlaceOffsets, offset, place_at}
-use Rattle.regex_meaning.specs.CodeUnits.{Encoding, utf8, utf16, ucs2, spelled_in, text_units_in_encoding, surrogate_pair, IsSpelledIn}
+use Rattle.regex_meaning.specs.CodeUnits.{Encoding, utf8, utf16, ucs2, code_units_of_character, text_units_in_encoding, surrogate_pair, HasOffsetsInEncoding}
 use Rattle.regex_meaning.proofs.CodeUnitOffsetsLemmas.{offset-place_at}
 use Rattle.std.proofs.lemmas.Bool.{eqb-true}
 use Rattle.regex_meaning.proofs.BoolLemmas.{and-left, and-right}
@@ -28,7 +28,7 @@ slice_get-drop zero xs = refl
 slice_get-drop (suc n) [] = refl
 slice_get-drop (suc n) (x ∷ xs) = slice_get-drop n xs
 
--- one of a list whose elements all pass a test
+-- An element of a list passes a test that all its elements pass.
 pub passes-one : (p : ℕ → Bool) (xs : List ℕ) (i x : ℕ) → list_all p xs ≡ true → slice_get xs i ≡ Some x → p x ≡ true
 passes-one p [] i x h e = cc
 passes-one p (y ∷ ys) zero x h e = let same : y ≡ x = cc in ap p (sym same) ∙ and-left (p y) (list_all p ys) h
@@ -46,7 +46,7 @@ module _ (units : ℕ → List ℕ) (some : (c : ℕ) → 0 < length (units c)) 
   offsets-from (c ∷ cs) at zero le = omega arith
   offsets-from (c ∷ cs) at (suc p) le = let more = offsets-from cs (at + length (units c)) p (omega (arith, le)) in omega (arith, more)
 
-  -- a character takes its units
+  -- The offset behind a character is its own offset and the number of its units.
   pub offset-behind : (cs : List ℕ) (at p c : ℕ) → slice_get cs p ≡ Some c
       → get_or (offsets_from at (widths cs)) (suc p) 0 ≡ get_or (offsets_from at (widths cs)) p 0 + length (units c)
   offset-behind [] at p c e = cc
@@ -54,7 +54,7 @@ module _ (units : ℕ → List ℕ) (some : (c : ℕ) → 0 < length (units c)) 
   offset-behind (d ∷ f ∷ cs) at zero c e = let same : d ≡ c = cc in ap (λ x. at + length (units x)) same
   offset-behind (d ∷ cs) at (suc p) c e = offset-behind cs (at + length (units d)) p c e
 
-  -- at an offset stands the first unit of the character there
+  -- The unit at the offset of a position is the first unit of the character at that position.
   units-at : (cs : List ℕ) (at n p : ℕ) → p ≤ length cs → get_or (offsets_from at (widths cs)) p 0 ≡ at + n
       → slice_get (flat_map units cs) n ≡ option_and_then (λ c. slice_get (units c) 0) (slice_get cs p)
   units-at [] at n zero le e = refl
@@ -70,7 +70,7 @@ module _ (units : ℕ → List ℕ) (some : (c : ℕ) → 0 < length (units c)) 
       ∙ behind-prefix (units c) (flat_map units cs) (n - length (units c))
       ∙ units-at cs (at + length (units c)) (n - length (units c)) p (omega (arith, le)) (e ∙ (let f : at + n ≡ at + length (units c) + (n - length (units c)) = omega (arith, whole) in f))
 
-pub some-units : (e : Encoding) (c : ℕ) → 0 < length (spelled_in e c)
+pub some-units : (e : Encoding) (c : ℕ) → 0 < length (code_units_of_character e c)
 some-units utf8 c =
     let l = ap length (append-nil (encode c)) in
     let w = length-encode c in
@@ -83,35 +83,35 @@ some-units utf16 c = by (nat_lt c 0x1_0000)
     by false = omega arith
 some-units ucs2 c = omega arith
 
--- the first unit of the next character, or none at the end
-pub unit-there : (e : Encoding) (text : Text) → HasRisingPlaceOffsets text → IsSpelledIn e text → (at p : ℕ) → place_at text at ≡ Some p
-    → slice_get (text_units_in_encoding e text) at ≡ option_and_then (λ c. slice_get (spelled_in e c) 0) (next_character text rightwards p)
+-- The unit at the offset of a place is the first unit of the next character, if there is one.
+pub unit-there : (e : Encoding) (text : Text) → HasRisingPlaceOffsets text → HasOffsetsInEncoding e text → (at p : ℕ) → place_at text at ≡ Some p
+    → slice_get (text_units_in_encoding e text) at ≡ option_and_then (λ c. slice_get (code_units_of_character e c) 0) (next_character text rightwards p)
 unit-there e text is spelled at p here =
     let o = offset-place_at text at p is here in
-    units-at (spelled_in e) (some-units e) text.characters 0 at p o.1
+    units-at (code_units_of_character e) (some-units e) text.characters 0 at p o.1
     (ap (λ (os : List ℕ). get_or os p 0) (sym spelled.offsets) ∙ o.0 ∙ (let f : at ≡ 0 + at = omega arith in f))
 
--- the place behind a character of one unit is one unit on
-pub one-unit-on : (e : Encoding) (text : Text) → IsSpelledIn e text → (p c : ℕ) → slice_get text.characters p ≡ Some c → length (spelled_in e c) ≡ 1
+-- The place behind a character of one unit has the next offset.
+pub one-unit-on : (e : Encoding) (text : Text) → HasOffsetsInEncoding e text → (p c : ℕ) → slice_get text.characters p ≡ Some c → length (code_units_of_character e c) ≡ 1
     → offset text (p + 1) ≡ offset text p + 1
 one-unit-on e text spelled p c is one =
     let n : p + 1 ≡ suc p = omega arith in
     ap (offset text) n ∙ ap (λ (os : List ℕ). get_or os (suc p) 0) spelled.offsets
-    ∙ offset-behind (spelled_in e) (some-units e) text.characters 0 p c is
-    ∙ ap (λ (os : List ℕ). get_or os p 0 + length (spelled_in e c)) (sym spelled.offsets)
+    ∙ offset-behind (code_units_of_character e) (some-units e) text.characters 0 p c is
+    ∙ ap (λ (os : List ℕ). get_or os p 0 + length (code_units_of_character e c)) (sym spelled.offsets)
     ∙ ap (λ w. offset text p + w) one
 
 -- ---- Bytes
 
-pub units-bytes : (cs : List ℕ) → flat_map (spelled_in utf8) cs ≡ encode_utf8_all cs
+pub units-bytes : (cs : List ℕ) → flat_map (code_units_of_character utf8) cs ≡ encode_utf8_all cs
 units-bytes [] = refl
-units-bytes (c ∷ cs) = ap (λ (l : List ℕ). l ++ flat_map (spelled_in utf8) cs) (append-nil (encode c)) ∙ ap (λ (l : List ℕ). encode c ++ l) (units-bytes cs)
+units-bytes (c ∷ cs) = ap (λ (l : List ℕ). l ++ flat_map (code_units_of_character utf8) cs) (append-nil (encode c)) ∙ ap (λ (l : List ℕ). encode c ++ l) (units-bytes cs)
 
 started : (b : ℕ) (bytes ds : List ℕ) → starts_with nat_eq ds (b ∷ bytes) ≡ true → slice_get ds 0 ≡ Some b
 started b bytes [] h = cc
 started b bytes (d ∷ ds) h = let same : b ≡ d = eqb-true b d (and-left (nat_eq b d) (starts_with nat_eq ds bytes) h) in ap Some (sym same)
 
--- where bytes stand in a text, the first of them is the unit there
+-- If bytes stand at an offset of a text, the first of them is the unit there.
 pub byte-there : (text : Text) (at b : ℕ) (bytes : List ℕ) → starts_with nat_eq (drop at (encode_utf8_all text.characters)) (b ∷ bytes) ≡ true
     → slice_get (text_units_in_encoding utf8 text) at ≡ Some b
 byte-there text at b bytes h =

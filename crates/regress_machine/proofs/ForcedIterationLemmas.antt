@@ -1,10 +1,11 @@
--- Successive iterations of one code unit each may be executed at once if the loop can only continue.
+-- Successive iterations of one code unit each may be executed at once if the loop can only
+-- continue.
 use Rattle.std.proofs.Common.{◌≡◌, ◌<◌, ℕ, zero, suc, ◌+◌, List, [], ◌∷◌, Option, Some, None, Bool, true, false, refl, ap, ◌∙◌, sym, subst, arith}
 use Rattle.std.proofs.Common.{length, slice_get, slice_set}
 use Rattle.regex_meaning.specs.Text.{Text, Direction, rightwards, next_character, moved}
 use Rattle.regex_meaning.specs.CodeUnitOffsets.{offset, place_at}
 use Rattle.regex_meaning.specs.Outcomes.{is_some_and}
-use Rattle.regex_meaning.specs.CodeUnits.{Encoding, spelled_in}
+use Rattle.regex_meaning.specs.CodeUnits.{Encoding, code_units_of_character}
 use Rattle.regex_meaning.specs.CompilationRelation.{Program, LoopFields, EnterLoop, LoopAgain}
 use Rattle.regex_meaning.proofs.CodeUnitOffsetsLemmas.{offset-place_at}
 use Rattle.regress_machine.specs.Machine.{LoopData, State, running, goes, stuck, with_some, go_if, next_insn_at_place, read_one, act}
@@ -17,7 +18,7 @@ use Rattle.regress_machine.proofs.InsnSimulationLemmas.{loop-inside}
 use Rattle.regress_machine.proofs.FirstSetTableLemmas.{seen-next}
 use Rattle.regress_machine.proofs.FirstUnitsOfCharacters.{passes-one, one-unit-on}
 
--- ---- Rows in which an element is set
+-- ---- Lists in which an element is replaced
 
 pub set-twice : {X : Type 0} (xs : List X) (i : ℕ) (x y : X) → slice_set (slice_set xs i x) i y ≡ slice_set xs i y
 set-twice [] i x y = refl
@@ -31,7 +32,7 @@ set-there (y ∷ xs) (suc i) x old e = set-there xs i x old e
 
 -- ---- One character of one unit
 
--- The character that stands next is one, if its key tells so.
+-- A state with key `k` next is stuck, or reads the next character, which has that key.
 pub data ReadsNext (e : Encoding) (key : ℕ → ℕ) (program : Program) (text : Text) (s : State) (k : ℕ) : Type 0 where
   cannot : act program text rightwards s ≡ stuck → ReadsNext e key program text s k
   reads : (p c : ℕ) → place_at text s.pos ≡ Some p → next_character text rightwards p ≡ Some c → is_character_in_encoding e c ≡ true → first_unit_key e key c ≡ Some k
@@ -57,9 +58,9 @@ reads-next e key program text units s test k acts seen accepted = at_place (plac
             (acts ∙ ap (λ o. with_some o (λ p. go_if (is_some_and (next_character text rightwards p) test) (next_insn_at_place text (moved text rightwards 1 p) s))) here
             ∙ ap (λ b. go_if b (next_insn_at_place text (moved text rightwards 1 p) s)) passes)
 
--- one unit on
+-- If each character with the key has one unit, the state that reads one moves on by one unit.
 pub reads-unit : (e : Encoding) (key : ℕ → ℕ) (program : Program) (text : Text) → HasUnitsForTables e text → (s : State) (k : ℕ) → ReadsNext e key program text s k
-    → ((c : ℕ) → is_character_in_encoding e c ≡ true → first_unit_key e key c ≡ Some k → length (spelled_in e c) ≡ 1)
+    → ((c : ℕ) → is_character_in_encoding e c ≡ true → first_unit_key e key c ≡ Some k → length (code_units_of_character e c) ≡ 1)
     → Simulates program text false rightwards 1 (running (record s { ip = s.ip + 1; pos = s.pos + 1 }) ∷ []) (running s ∷ [])
 reads-unit e key program text units s k (cannot is) one = stuck-simulates program text rightwards false 1 _ s is
 reads-unit e key program text units s k (reads p c here is character first acts) one =
@@ -71,7 +72,7 @@ reads-unit e key program text units s k (reads p c here is character first acts)
 -- ---- One iteration
 
 module _ (program : Program) (text : Text) (d : Direction) (s : State) where
-  -- where the loop cannot be left, and from its body's beginning the thread can only come to its end
+  -- If leaving finds nothing and the body reads a unit, the loop goes on to its next end.
   pub round : (begin : ℕ) (f : LoopFields) → slice_get program.insns s.ip ≡ Some (LoopAgain begin) → slice_get program.insns begin ≡ Some (EnterLoop f)
       → (e : LoopData) → slice_get s.loops f.loop_id ≡ Some e → MayIterate f e s.pos
       → FindsNothing program text d (running (leave f begin (e.iters + 1) s))
@@ -83,11 +84,11 @@ module _ (program : Program) (text : Text) (d : Direction) (s : State) where
       simulates-fewer program text d 1 (1 + 0) _ _ (omega arith)
       (simulates-then program text false d 1 0 _ _ _ (loop-inside program text d s f begin (e.iters + 1) turn more may.enough none) body)
 
-  -- ---- Several
+  -- ---- Several iterations
 
   module _ (begin : ℕ) (f : LoopFields) (here : slice_get program.insns s.ip ≡ Some (LoopAgain begin)) (there : slice_get program.insns begin ≡ Some (EnterLoop f))
       (e : LoopData) (known : slice_get s.loops f.loop_id ≡ Some e) where
-    -- the state behind so many
+    -- This is the state behind `n + 1` more iterations of one unit each.
     abbrev behind : ℕ → State
     behind n = state_in_iteration s f.loop_id (e.iters + suc n) (s.pos + n) (s.pos + suc n)
 
@@ -105,7 +106,7 @@ module _ (program : Program) (text : Text) (d : Direction) (s : State) where
         (subst (λ ls. Simulates program text false d 1 (running (record s { pos = s.pos + suc n + 1; loops = ls }) ∷ []) (running (behind n) ∷ []))
         (set-twice s.loops f.loop_id (data_behind n) (record { iters = e.iters + suc n + 1; entry = s.pos + suc n })) to))
 
-    -- one iteration and so many more, over a unit each
+    -- The state behind `n + 1` iterations of one unit each simulates the state before them.
     pub rounds : (n : ℕ) → MayIterate f e s.pos → e.iters + suc n < f.max_iters
         → ((i : ℕ) → i < suc n → (t : State) → t.ip ≡ s.ip → t.pos ≡ s.pos + i → IterationMayRepeat program text d t)
         → Simulates program text false d 1 (running (behind n) ∷ []) (running s ∷ [])

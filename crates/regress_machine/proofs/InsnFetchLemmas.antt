@@ -23,7 +23,7 @@ some-below f (x ∷ xs) (suc i) h = let less = some-below f xs i h in omega (ari
 pub fetched-below : {X Y : Type 0} (f : X → Y) (xs : List X) (ys : List Y) (i : ℕ) → map f xs ≡ ys → IsTrue (is_some (slice_get ys i)) → i < length xs
 fetched-below f xs ys i same h = some-below f xs i (subst (λ ys. IsTrue (is_some (slice_get ys i))) (sym same) h)
 
--- where the machine is not stuck there is one
+-- ---- Instructions at which the machine is not stuck
 
 pub act-some : (program : Program) (text : Text) (d : Direction) (o : Option Insn) (s : State) → IsNotStuck (act_on program text d o s) → IsTrue (is_some o)
 act-some program text d None s can = absurd can

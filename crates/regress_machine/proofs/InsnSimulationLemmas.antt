@@ -20,7 +20,7 @@ use Rattle.regress_machine.proofs.CharLoopExitStateLemmas.{run-turn}
 use Rattle.std.proofs.lemmas.Bool.{ltb-true}
 
 module _ (program : Program) (text : Text) (d : Direction) (s : State) where
-  -- the state goes on as this one, where it goes on
+  -- The state continues as `u` if the condition holds, and fails otherwise.
   pub arm-if : (exact found : Bool) (u : State) → act program text d s ≡ go_if found u
       → Simulates program text exact d 1 (if found then running u ∷ [] else []) (running s ∷ [])
   arm-if exact true u is = only-way program text d s u is exact
@@ -79,7 +79,7 @@ module _ (program : Program) (text : Text) (d : Direction) (s : State) where
 
   -- ---- The head of a loop
 
-  -- where it begins iteration k
+  -- A state at the head of a loop is about to begin iteration `k`.
   module _ (f : LoopFields) (begin k : ℕ) (is : act program text d s ≡ iterate_or_leave_at_loop_head f begin k s) where
     abbrev on : State
     on = again f begin k s
@@ -103,7 +103,7 @@ module _ (program : Program) (text : Text) (d : Direction) (s : State) where
     pub loop-dead : (exact : Bool) → f.max_iters ≤ k → k < f.min_iters → Simulates program text exact d 1 [] (running s ∷ [])
     loop-dead exact full few = with-slot exact 1 [] (λ inside. dead-end program text d exact s (is ∙ head-dead f begin k s inside full few))
 
-    -- both ways
+    -- Both another iteration and the exit are allowed.
     module _ (more : k < f.max_iters) (enough : f.min_iters ≤ k) where
       pub loop-greedy : (exact : Bool) → f.greedy ≡ true → Simulates program text exact d 1 (running on ∷ waiting out ∷ []) (running s ∷ [])
       loop-greedy exact greedy =
@@ -113,7 +113,7 @@ module _ (program : Program) (text : Text) (d : Direction) (s : State) where
       loop-lazy exact lazy =
           with-slot exact 1 (running out ∷ waiting on ∷ []) (λ inside. both-ways program text d s out on (is ∙ head-lazy f begin k s inside more enough lazy) exact)
 
-      -- by either preference
+      -- What simulates the state for either preference of the loop simulates it.
       by-preference : (us : List Thread) → (act program text d s ≡ goes (first_running_and_others_waiting (on ∷ out ∷ [])) → Simulates program text false d 1 us (running s ∷ []))
           → (act program text d s ≡ goes (first_running_and_others_waiting (out ∷ on ∷ [])) → Simulates program text false d 1 us (running s ∷ [])) → Simulates program text false d 1 us (running s ∷ [])
       by-preference us first second = with-slot false 1 us (λ inside. by inside f.greedy refl)
@@ -131,7 +131,7 @@ module _ (program : Program) (text : Text) (d : Direction) (s : State) where
       pub loop-neither : FindsNothing program text d (running on) → FindsNothing program text d (running out) → Simulates program text false d 1 [] (running s ∷ [])
       loop-neither none_on none_out = by-preference [] (λ e. no-way program text d s on out e none_on none_out) (λ e. no-way program text d s out on e none_out none_on)
 
-  -- the end of an iteration, at which the machine knows the loop
+  -- A simulation of the end of an iteration may assume loop data below the maximum.
   pub arm-again : (exact : Bool) (n : ℕ) (us : List Thread) (begin : ℕ) (f : LoopFields) → slice_get program.insns s.ip ≡ Some (LoopAgain begin) → slice_get program.insns begin ≡ Some (EnterLoop f)
       → ((e : LoopData) → slice_get s.loops f.loop_id ≡ Some e → e.iters < f.max_iters → Simulates program text exact d n us (running s ∷ [])) → Simulates program text exact d n us (running s ∷ [])
   arm-again exact n us begin f here there h =
@@ -139,10 +139,10 @@ module _ (program : Program) (text : Text) (d : Direction) (s : State) where
       (ap (λ i. act_on program text d i s) here ∙ ap (λ i. loop_again_effect i begin s) there)
       (λ e known is. only-simulates program text d exact n us s (nat_lt e.iters f.max_iters) _ is (λ before there. h e known (ltb-true e.iters f.max_iters before)))
 
-  -- ---- A loop over one character
+  -- ---- Char loops
 
   module _ (least most_iters : ℕ) (greedy : Bool) (here : slice_get program.insns s.ip ≡ Some (Loop1CharBody least most_iters greedy)) where
-    -- the machine knows the test, and the place
+    -- A simulation of a char loop may assume a test of its character and a place.
     pub arm-run : (exact : Bool) (n : ℕ) (us : List Thread)
         → ((test : ℕ → Bool) (place : ℕ) → test_of program (slice_get program.insns (s.ip + 1)) ≡ Some test → place_at text s.pos ≡ Some place
         → Simulates program text exact d n us (running s ∷ [])) → Simulates program text exact d n us (running s ∷ [])
@@ -153,7 +153,7 @@ module _ (program : Program) (text : Text) (d : Direction) (s : State) where
 
   module _ (least most_iters : ℕ) (test : ℕ → Bool) (place : ℕ) (one : test_of program (slice_get program.insns (s.ip + 1)) ≡ Some test) (at : place_at text s.pos ≡ Some place)
       (total : ℕ) (all : total ≡ min most_iters (prefix_len test (nearest_first text d place)) + 1 - least) where
-    -- how often the machine tries the character
+    -- This is the number of characters that the machine tries.
     abbrev tries : ℕ
     tries = min most_iters (prefix_len test (nearest_first text d place) + 1)
 

@@ -1,4 +1,4 @@
--- From the primitives of a search to what the code of a whole tree finds.
+-- These modules lead from the primitives of a search to what the code of a whole tree finds.
 pub mod MachineSearchLemmas
 pub mod ThreadYieldLemmas
 pub mod UnchangedGroupsAndLoops
@@ -25,7 +25,7 @@ pub mod InsnFetchLemmas
 pub mod StatesInEffects
 pub mod OffsetsInsideText
 pub mod RemainingThreads
--- From the relation of threads to what an executor does at each instruction.
+-- These modules lead from the simulation of threads to what an executor does at each instruction.
 pub mod ThreadSimulationLemmas
 pub mod ExecutorLoopLemmas
 pub mod FailureByStepInduction

@@ -16,7 +16,7 @@ module _ (program : Program) (text : Text) (d : Direction) where
   abbrev Standing : (spent : ℕ) (us ts : List Thread) → Type 0
   Standing spent us ts = Simulates program text false d spent us ts
 
-  -- a thread that waits to go on so may wait behind its turn in place of before it
+  -- The next thread may wait in place of a waiting thread that leads to it.
   waits-goes : (s t : State) (us : List Thread) → act program text d s ≡ goes (running t ∷ us) → Standing 1 (waiting t ∷ us) (waiting s ∷ [])
   unfolding search
   waits-goes s t us is = record { within = λ turns vs f e. by turns vs f e }
@@ -55,7 +55,7 @@ module _ (program : Program) (text : Text) (d : Direction) where
     branches : (ip other : ℕ) → slice_get program.insns ip ≡ Some (Alt other) → act program text d (at ip) ≡ goes (running (at (ip + 1)) ∷ waiting (at other) ∷ [])
     branches ip other is = ap (λ o. act_on program text d o (at ip)) is
 
-    -- where an arm waits, those that are left of it and of the others may wait
+    -- The live arms of a chain may wait in place of its first instruction.
     arms-wait : (count ip : ℕ) (arms : List ℕ) → AreLiveArms program may count ip arms → Standing 0 (wait arms) (waiting (at ip) ∷ [])
     arms-wait zero ip arms (inl is) = subst (λ l. Standing 0 (wait l) (waiting (at ip) ∷ [])) (sym is) (simulates-same program text false d (waiting (at ip) ∷ []))
     arms-wait zero ip arms (inr is) =
@@ -79,7 +79,7 @@ module _ (program : Program) (text : Text) (d : Direction) where
               behind))
         ]
 
-    -- a step is spent on one alternative
+    -- If the other arms simulate the second way of an alternative, all arms simulate it in a step.
     arm-run : (ip other : ℕ) (others arms : List ℕ) → slice_get program.insns ip ≡ Some (Alt other) → IsArmKeptIfLive may (ip + 1) others arms
         → Standing 0 (wait others) (waiting (at other) ∷ []) → Standing 0 (run others) (running (at other) ∷ []) → Standing 1 (run arms) (running (at ip) ∷ [])
     arm-run ip other others arms alt before behind on =
@@ -99,7 +99,7 @@ module _ (program : Program) (text : Text) (d : Direction) where
               (simulates-waits program text false d (at other)) on)))
         ]
 
-    -- those that are left go on in turn in place of the thread that stands before them all
+    -- The live arms of a chain simulate the running thread at its first instruction.
     arms-run : (count ip : ℕ) (arms : List ℕ) → AreLiveArms program may count ip arms → Standing 0 (run arms) (running (at ip) ∷ [])
     arms-run zero ip arms (inl is) = subst (λ l. Standing 0 (run l) (running (at ip) ∷ [])) (sym is) (simulates-same program text false d (running (at ip) ∷ []))
     arms-run zero ip arms (inr is) =
@@ -109,7 +109,7 @@ module _ (program : Program) (text : Text) (d : Direction) where
         simulates-fewer program text d 0 1 (run arms) (running (at ip) ∷ []) (omega arith)
         (arm-run ip other others arms alt before (arms-wait count other others rest) (arms-run count other others rest))
 
-    -- and where there is one alternative at least, a step is spent
+    -- The live arms of a chain of at least one alternative simulate it in one step.
     pub arms-turn : (count ip : ℕ) (arms : List ℕ) → AreLiveArms program may (suc count) ip arms → Standing 1 (run arms) (running (at ip) ∷ [])
     arms-turn count ip arms (other, others, alt, before, rest) =
         arm-run ip other others arms alt before (arms-wait count other others rest) (arms-run count other others rest)

@@ -9,20 +9,20 @@ use Rattle.regex_meaning.specs.Outcomes.{Groups, Outcome, lookaround_outcomes, d
 use Rattle.regex_meaning.specs.OutcomesWithStepTicks.{TickOrOutcome, tick, pair, outcomes_without_ticks, ticks, ticks_to_first, outcomes_replaced_by_lists}
 use Rattle.regex_meaning.specs.OutcomesWithStepTicks.{ticks_before_outcomes, ticked}
 use Rattle.regex_meaning.specs.CompilationRelation.{Program, Counters, counters_after_insn, IsCode, Goal, Lookahead, Lookbehind, lookaround_insn}
-use Rattle.regex_meaning.proofs.OutcomeDirectionLemmas.{IsOnward-refl}
+use Rattle.regex_meaning.proofs.OutcomeDirectionLemmas.{IsAtOrAheadInDirection-refl}
 use Rattle.regress_machine.specs.Machine.{LoopData, State, running, asks, state_with_ip, state_at_next_ip, after_lookaround, act_on}
-use Rattle.regress_machine.proofs.ThreadYieldLemmas.{Ending, EndIs, first_pair, Yields, yields_none, yields_same, yields_end, yields_asks}
+use Rattle.regress_machine.proofs.ThreadYieldLemmas.{Ending, EndIs, first_outcome_among_ticks, Yields, yields_none, yields_same, yields_end, yields_asks}
 use Rattle.regress_machine.proofs.UnchangedGroupsAndLoops.{Kept, kept_itself, kept_more, inside_itself}
 use Rattle.regress_machine.proofs.NodeCodeOutcomes.{and_then-ticks, state_at, Reached, GoesOn, Enters, here, act_at, Finds}
 
--- the outcome of a lookaround whose contents have this one first
+-- These are the outcomes of a lookaround whose contents have this first outcome.
 abbrev looked_first : (negate : Bool) → Option Outcome → ℕ → Groups → List Outcome
 looked_first false None place groups = []
 looked_first false (Some o) place groups = record { end = place; groups = o.groups } ∷ []
 looked_first true None place groups = record { end = place; groups = groups } ∷ []
 looked_first true (Some o) place groups = []
 
-looked-pairs : (negate : Bool) (items : List TickOrOutcome) (p : ℕ) (g : Groups) → lookaround_outcomes negate (outcomes_without_ticks items) p g ≡ looked_first negate (first_pair items) p g
+looked-pairs : (negate : Bool) (items : List TickOrOutcome) (p : ℕ) (g : Groups) → lookaround_outcomes negate (outcomes_without_ticks items) p g ≡ looked_first negate (first_outcome_among_ticks items) p g
 looked-pairs false [] p g = refl
 looked-pairs true [] p g = refl
 looked-pairs negate (tick ∷ items) p g = looked-pairs negate items p g
@@ -30,7 +30,7 @@ looked-pairs false (pair o ∷ items) p g = refl
 looked-pairs true (pair o ∷ items) p g = refl
 
 module _ (program : Program) (text : Text) (is_text : HasRisingPlaceOffsets text) where
-  -- an end of the contents, from where the lookaround was entered
+  -- An end of the contents has the outcome's place and groups and keeps all that is not theirs.
   abbrev Inner : Direction → (ip p : ℕ) → (ids : List ℕ) → (lo hi : ℕ) → Groups → List ℕ → List LoopData → Ending
   Inner d ip p ids lo hi g s ls o t =
       (s' : List ℕ) × ((ls' : List LoopData) × (t ≡ state_at program text is_text ip o.end o.groups s' ls') × Reached program text is_text d p (length g) o × Kept ids lo hi s s' ls ls')
@@ -62,7 +62,7 @@ module _ (program : Program) (text : Text) (is_text : HasRisingPlaceOffsets text
       let states : after_lookaround false w e ≡ running (state_at program text is_text exit p o.groups s' ls') ∷ [] =
       ap (after_lookaround false w) is.1 ∙ ap (λ (t : State). running (record t { ip = w.ip; pos = w.pos }) ∷ []) is.2.1.1 in
       rw states (yields_same program text d E _ (k there) (k there ++ []) (sym (append-nil (k there)))
-      (on.at there s' ls' (record { onward = IsOnward-refl text d p; inside = enters.inside; same_groups = r.same_groups; fit = r.fit }) kept))
+      (on.at there s' ls' (record { onward = IsAtOrAheadInDirection-refl text d p; inside = enters.inside; same_groups = r.same_groups; fit = r.fit }) kept))
 
   pub lookaround_finds : (d : Direction) (behind : Bool) (l : Lookaround) (contents : Node) → Finds program text is_text (direction_of l) l.backwards contents
       → Finds program text is_text d behind (lookaround l contents)
@@ -86,9 +86,9 @@ module _ (program : Program) (text : Text) (is_text : HasRisingPlaceOffsets text
             yields_end program text inner F v o (act_at program text is_text inner v Goal code.3.0)
             (s', (ls', refl, r, kept_more ids ids m.loop j.loop m.loop n.loop s s' ls ls' (inside_itself ids) (let le : m.loop ≤ m.loop = omega arith in le) (let le : j.loop ≤ n.loop = omega arith in le) kept));
       }) in
-      yields_same program text d E (running t ∷ []) (tick ∷ (ticks (ticks_to_first items) ++ outcomes_replaced_by_lists (map pair (looked_first l.negate (first_pair items) p g)) k)) _
+      yields_same program text d E (running t ∷ []) (tick ∷ (ticks (ticks_to_first items) ++ outcomes_replaced_by_lists (map pair (looked_first l.negate (first_outcome_among_ticks items) p g)) k)) _
       (ap (λ (os : List Outcome). tick ∷ (ticks (ticks_to_first items) ++ outcomes_replaced_by_lists (map pair os) k)) (sym (looked-pairs l.negate items p g))
       ∙ ap (λ (l : List TickOrOutcome). tick ∷ l) (sym (and_then-ticks (ticks_to_first items) (map pair (lookaround_outcomes l.negate (outcomes_without_ticks items) p g)) k)))
       (yields_asks program text d inner E F t u w l.negate items _
       (act_at program text is_text d t (lookaround_insn l n.insn) code.1 ∙ asks-if d l.backwards l.negate l.start_group l.end_group n.insn t) inside
-      (λ e is. resumed_yields d inner l.negate E j.insn n.insn p ids m.loop n.loop g s ls k enters on (first_pair items) e is))
+      (λ e is. resumed_yields d inner l.negate E j.insn n.insn p ids m.loop n.loop g s ls k enters on (first_outcome_among_ticks items) e is))

@@ -6,15 +6,15 @@ use Rattle.std.proofs.lemmas.Bool.{le-ltb, lt-ltb, le-leb, leb-true, eq-eqb, eqb
 use Rattle.regex_meaning.specs.Text.{Text, Direction}
 use Rattle.regex_meaning.specs.CompilationRelation.{Program, LoopFields, EnterLoop, LoopAgain}
 use Rattle.regress_machine.specs.Machine.{LoopData, State, Thread, running, Next, goes, stuck, state_with_ip, with_some, only_if, first_running_and_others_waiting}
-use Rattle.regress_machine.specs.Machine.{preferring}
+use Rattle.regress_machine.specs.Machine.{choice_in_order_of_greediness}
 use Rattle.regress_machine.specs.Machine.{iterate_or_leave_at_loop_head, effect_at_iteration_end, loop_again_effect, act_on, act}
 use Rattle.regress_machine.proofs.MachineSearchLemmas.{never_stuck}
 use Rattle.regress_machine.specs.ThreadSimulation.{Simulates}
 
--- ---- Turns that the machine cannot take
+-- ---- Steps at which the machine is stuck
 
 module _ (program : Program) (text : Text) (d : Direction) (exact : Bool) (n : ℕ) (us : List Thread) (s : State) where
-  -- No search that answers comes to them, so anything simulates.
+  -- Any threads simulate a state at which the machine is stuck, as no search from it answers.
   pub stuck-simulates : act program text d s ≡ stuck → Simulates program text exact d n us (running s ∷ [])
   stuck-simulates is = record { within = λ turns vs f e. absurd (never_stuck program text turns d s vs f is e) }
 
@@ -28,19 +28,19 @@ module _ (program : Program) (text : Text) (d : Direction) (exact : Bool) (n : �
   some-simulates None f is h = stuck-simulates is
   some-simulates (Some x) f is h = h x refl is
 
--- ---- What the head of a loop leaves
+-- ---- The threads that the head of a loop leaves
 
 module _ (f : LoopFields) (begin k : ℕ) (s : State) where
-  -- another iteration
+  -- This is the state at the beginning of iteration `k`.
   abbrev pub again : State
   again = record s { ip = begin + 1; loops = slice_set s.loops f.loop_id (record { iters = k; entry = s.pos }) }
 
-  -- behind the loop
+  -- This is the state behind the loop.
   abbrev pub leave : State
   leave = state_with_ip f.exit s
 
   abbrev ways : (more out : Bool) → Next
-  ways more out = goes (first_running_and_others_waiting (preferring f.greedy (if more then again ∷ [] else []) (if out then leave ∷ [] else [])))
+  ways more out = goes (first_running_and_others_waiting (choice_in_order_of_greediness f.greedy (if more then again ∷ [] else []) (if out then leave ∷ [] else [])))
 
   head : f.loop_id < length s.loops → (more out : Bool) → nat_lt k f.max_iters ≡ more → nat_le f.min_iters k ≡ out → iterate_or_leave_at_loop_head f begin k s ≡ ways more out
   head inside more out m o =
@@ -59,36 +59,36 @@ module _ (f : LoopFields) (begin k : ℕ) (s : State) where
 
   pub head-greedy : f.loop_id < length s.loops → k < f.max_iters → f.min_iters ≤ k → f.greedy ≡ true → iterate_or_leave_at_loop_head f begin k s ≡ goes (first_running_and_others_waiting (again ∷ leave ∷ []))
   head-greedy inside more out greedy =
-      head inside true true (lt-ltb k f.max_iters more) (le-leb f.min_iters k out) ∙ ap (λ b. goes (first_running_and_others_waiting (preferring b (again ∷ []) (leave ∷ [])))) greedy
+      head inside true true (lt-ltb k f.max_iters more) (le-leb f.min_iters k out) ∙ ap (λ b. goes (first_running_and_others_waiting (choice_in_order_of_greediness b (again ∷ []) (leave ∷ [])))) greedy
 
   pub head-lazy : f.loop_id < length s.loops → k < f.max_iters → f.min_iters ≤ k → f.greedy ≡ false → iterate_or_leave_at_loop_head f begin k s ≡ goes (first_running_and_others_waiting (leave ∷ again ∷ []))
   head-lazy inside more out lazy =
-      head inside true true (lt-ltb k f.max_iters more) (le-leb f.min_iters k out) ∙ ap (λ b. goes (first_running_and_others_waiting (preferring b (again ∷ []) (leave ∷ [])))) lazy
+      head inside true true (lt-ltb k f.max_iters more) (le-leb f.min_iters k out) ∙ ap (λ b. goes (first_running_and_others_waiting (choice_in_order_of_greediness b (again ∷ []) (leave ∷ [])))) lazy
 
-  -- before the minimum
+  -- Below its minimum, a loop begins another iteration and cannot be left.
   pub head-again : f.loop_id < length s.loops → k < f.max_iters → k < f.min_iters → iterate_or_leave_at_loop_head f begin k s ≡ goes (running again ∷ [])
   head-again inside more few = head inside true false (lt-ltb k f.max_iters more) (not-out few) ∙ by f.greedy
     where
-      by : (b : Bool) → goes (first_running_and_others_waiting (preferring b (again ∷ []) [])) ≡ goes (running again ∷ [])
+      by : (b : Bool) → goes (first_running_and_others_waiting (choice_in_order_of_greediness b (again ∷ []) [])) ≡ goes (running again ∷ [])
       by true = refl
       by false = refl
 
-  -- at the maximum
+  -- At its maximum, a loop can only be left.
   pub head-leave : f.loop_id < length s.loops → f.max_iters ≤ k → f.min_iters ≤ k → iterate_or_leave_at_loop_head f begin k s ≡ goes (running leave ∷ [])
   head-leave inside full out = head inside false true (not-more full) (le-leb f.min_iters k out) ∙ by f.greedy
     where
-      by : (b : Bool) → goes (first_running_and_others_waiting (preferring b [] (leave ∷ []))) ≡ goes (running leave ∷ [])
+      by : (b : Bool) → goes (first_running_and_others_waiting (choice_in_order_of_greediness b [] (leave ∷ []))) ≡ goes (running leave ∷ [])
       by true = refl
       by false = refl
 
   pub head-dead : f.loop_id < length s.loops → f.max_iters ≤ k → k < f.min_iters → iterate_or_leave_at_loop_head f begin k s ≡ goes []
   head-dead inside full few = head inside false false (not-more full) (not-out few) ∙ by f.greedy
     where
-      by : (b : Bool) → goes (first_running_and_others_waiting (preferring b [] [])) ≡ goes []
+      by : (b : Bool) → goes (first_running_and_others_waiting (choice_in_order_of_greediness b [] [])) ≡ goes []
       by true = refl
       by false = refl
 
--- ---- The turns that come to it
+-- ---- The steps that lead to the head of a loop
 
 module _ (program : Program) (text : Text) (d : Direction) (s : State) (f : LoopFields) where
   pub enter-turn : slice_get program.insns s.ip ≡ Some (EnterLoop f) → act program text d s ≡ iterate_or_leave_at_loop_head f s.ip 0 s
@@ -104,12 +104,12 @@ module _ (program : Program) (text : Text) (d : Direction) (s : State) (f : Loop
         ∙ ap (λ b. only_if b (if e.entry == s.pos && nat_lt f.min_iters (e.iters + 1) then goes [] else iterate_or_leave_at_loop_head f begin (e.iters + 1) s)) (lt-ltb e.iters f.max_iters before)
         ∙ ap (λ b. if b then goes [] else iterate_or_leave_at_loop_head f begin (e.iters + 1) s) is
 
-    -- an empty iteration past the minimum
+    -- An empty iteration beyond the minimum fails.
     pub again-empty : e.entry ≡ s.pos → f.min_iters ≤ e.iters → act program text d s ≡ goes []
     again-empty same enough =
         again-by true (ap (λ b. b && nat_lt f.min_iters (e.iters + 1)) (eq-eqb e.entry s.pos same) ∙ lt-ltb f.min_iters (e.iters + 1) (omega (arith, enough)))
 
-    -- an iteration that counts
+    -- An iteration that is not empty, or is still required, leads to the head of the loop.
     pub again-counts : (e.entry ≡ s.pos → e.iters < f.min_iters) → act program text d s ≡ iterate_or_leave_at_loop_head f begin (e.iters + 1) s
     again-counts moves = again-by false (by (e.entry == s.pos) refl)
       where

@@ -6,7 +6,7 @@ use Rattle.std.proofs.lemmas.List.{length-map}
 use Rattle.std.proofs.lemmas.Bool.{eqb-false}
 use Rattle.std.specs.Prelude.{option_map, not, if◌then◌else◌, ◌&&◌, ◌==◌}
 use Rattle.regex_meaning.specs.NumberListHelpers.{numbers_from}
-use Rattle.regex_meaning.specs.Laws.{IsOnward}
+use Rattle.regex_meaning.specs.Laws.{IsAtOrAheadInDirection}
 use Rattle.regex_meaning.specs.Tree.{Quantifier, Node, loop, group_ids}
 use Rattle.regex_meaning.specs.Text.{Text, Direction, rightwards, leftwards, last_place, characters_ahead}
 use Rattle.regex_meaning.specs.CodeUnitOffsets.{HasRisingPlaceOffsets, offset}
@@ -15,7 +15,7 @@ use Rattle.regex_meaning.specs.OutcomesWithStepTicks.{TickOrOutcome, tick, pair,
 use Rattle.regex_meaning.specs.CompilationRelation.{Program, LoopFields, Insn, Counters, counters_after_insn, HasInsnsBetween, IsCode, ResetCaptureGroup, EnterLoop}
 use Rattle.regex_meaning.specs.CompilationRelation.{LoopAgain}
 use Rattle.regex_meaning.proofs.CodeUnitOffsetsLemmas.{offset-injective}
-use Rattle.regress_machine.specs.Machine.{LoopData, State, Thread, running, waiting, goes, go, with_some, only_if, first_running_and_others_waiting, preferring}
+use Rattle.regress_machine.specs.Machine.{LoopData, State, Thread, running, waiting, goes, go, with_some, only_if, first_running_and_others_waiting, choice_in_order_of_greediness}
 use Rattle.regress_machine.specs.Machine.{iterate_or_leave_at_loop_head}
 use Rattle.regress_machine.specs.Machine.{effect_at_iteration_end, loop_again_effect, act}
 use Rattle.regress_machine.proofs.ThreadYieldLemmas.{Ending, Yields, yields_none, yields_append, yields_same, yields_turn, yields_wait}
@@ -41,17 +41,17 @@ length-cleared : (first n : ℕ) (g : Groups) → length (cleared first n g) ≡
 length-cleared first zero g = refl
 length-cleared first (suc n) g = length-cleared (first + 1) n (slice_set g first None) ∙ length-set g first None
 
--- ---- Marks
+-- ---- Loop counters
 
 pub same_loop : (program : Program) (is : List Insn) (m n : Counters) → HasInsnsBetween program is m n → n.loop ≡ m.loop
 same_loop program [] m n h = ap (λ (m : Counters). m.loop) (sym h)
 same_loop program (i ∷ is) m n h = same_loop program is (counters_after_insn m) n h.1
 
--- the numbers from one on, so many of them, are below another one
+-- The `count` numbers from `first` on are below `bound`.
 abbrev pub AreBelow : (first count bound : ℕ) → Type 0
 AreBelow first count bound = (i : ℕ) → first ≤ i → i < first + count → i < bound
 
--- ---- Rounds
+-- ---- Iterations
 
 module _ (program : Program) (text : Text) (is_text : HasRisingPlaceOffsets text) where
   Fit-cleared : (first n : ℕ) (g : Groups) → Fit program text is_text g → Fit program text is_text (cleared first n g)
@@ -79,10 +79,10 @@ module _ (program : Program) (text : Text) (is_text : HasRisingPlaceOffsets text
       yields_turn program text d E t (running u ∷ []) (ticks count ++ items) turn
       (resets_yield d E (first + 1) count (counters_after_insn i) k p g1 s ls items has.1 later y)
 
-  -- both ways of a loop
+  -- At the head of a loop, its two ways yield their items in the order that the loop prefers.
   ways_yield : (d : Direction) (E : Ending) (a b greedy : Bool) (again leave : State) (xs ys : List TickOrOutcome)
       → (a ≡ true → Yields program text d E (running again ∷ []) xs) → (b ≡ true → Yields program text d E (running leave ∷ []) ys)
-      → Yields program text d E (first_running_and_others_waiting (preferring greedy (if a then again ∷ [] else []) (if b then leave ∷ [] else []))) (ticked_preferred a b greedy xs ys)
+      → Yields program text d E (first_running_and_others_waiting (choice_in_order_of_greediness greedy (if a then again ∷ [] else []) (if b then leave ∷ [] else []))) (ticked_preferred a b greedy xs ys)
   ways_yield d E false false true again leave xs ys p q = yields_none program text d E
   ways_yield d E false false false again leave xs ys p q = yields_none program text d E
   ways_yield d E true false true again leave xs ys p q = p refl
@@ -101,8 +101,8 @@ module _ (program : Program) (text : Text) (is_text : HasRisingPlaceOffsets text
       by true q = let same : p ≡ e = sym (eqb-true e p q) in eq-eqb (offset text p) (offset text e) (ap (offset text) same)
       by false q = ne_eqb (offset text p) (offset text e) (λ same. eqb-false e p q (sym (offset-injective text p e is_text h k same)))
 
-  -- what is left falls, or the minimum comes nearer
-  falls : (d : Direction) (least i p e turns : ℕ) (a : Bool) → IsOnward text d p e → p ≤ last_place text → e ≤ last_place text
+  -- After an iteration, fewer turns are needed: characters were read or the minimum is nearer.
+  falls : (d : Direction) (least i p e turns : ℕ) (a : Bool) → IsAtOrAheadInDirection text d p e → p ≤ last_place text → e ≤ last_place text
       → nat_eq e p ≡ a → (a && nat_lt least (i + 1)) ≡ false
       → least - i + characters_ahead text d p + 1 ≤ suc turns → least - (i + 1) + characters_ahead text d e + 1 ≤ turns
   falls rightwards least i p e turns true on h k same kept fuel =
@@ -141,9 +141,9 @@ module _ (program : Program) (text : Text) (is_text : HasRisingPlaceOffsets text
 
     abbrev pub threads : (i p : ℕ) → Groups → List ℕ → List LoopData → List Thread
     threads i p g s ls =
-        first_running_and_others_waiting (preferring q.greedy (if nat_lt i (max_iterations q) then again_state i p g s ls ∷ [] else []) (if nat_le q.min i then leave_state p g s ls ∷ [] else []))
+        first_running_and_others_waiting (choice_in_order_of_greediness q.greedy (if nat_lt i (max_iterations q) then again_state i p g s ls ∷ [] else []) (if nat_le q.min i then leave_state p g s ls ∷ [] else []))
 
-    -- between two iterations
+    -- Between iterations, a place is reached, and all that is not the loop's own is kept.
     pub record Stands (p : ℕ) (g : Groups) (s : List ℕ) (ls : List LoopData) : Type 0 where
       pub reached : Reached program text is_text d p0 (length g0) (record { end = p; groups = g })
       pub kept : Kept (group_ids loopee) m.loop n.loop s0 s ls0 ls
@@ -159,9 +159,9 @@ module _ (program : Program) (text : Text) (is_text : HasRisingPlaceOffsets text
 
     turn_is : (i : ℕ) (t : State) → m.loop < length t.loops
         → iterate_or_leave_at_loop_head fields m.insn i t
-        ≡ goes (first_running_and_others_waiting (preferring q.greedy (if nat_lt i (max_iterations q) then record t { ip = m.insn + 1; loops = slice_set t.loops m.loop (record { iters = i; entry = t.pos }) } ∷ [] else []) (if nat_le q.min i then record t { ip = n.insn } ∷ [] else [])))
+        ≡ goes (first_running_and_others_waiting (choice_in_order_of_greediness q.greedy (if nat_lt i (max_iterations q) then record t { ip = m.insn + 1; loops = slice_set t.loops m.loop (record { iters = i; entry = t.pos }) } ∷ [] else []) (if nat_le q.min i then record t { ip = n.insn } ∷ [] else [])))
     turn_is i t h =
-        ap (λ b. only_if b (goes (first_running_and_others_waiting (preferring q.greedy (if nat_lt i (max_iterations q) then record t { ip = m.insn + 1; loops = slice_set t.loops m.loop (record { iters = i; entry = t.pos }) } ∷ [] else []) (if nat_le q.min i then record t { ip = n.insn } ∷ [] else []))))) (lt-ltb m.loop (length t.loops) h)
+        ap (λ b. only_if b (goes (first_running_and_others_waiting (choice_in_order_of_greediness q.greedy (if nat_lt i (max_iterations q) then record t { ip = m.insn + 1; loops = slice_set t.loops m.loop (record { iters = i; entry = t.pos }) } ∷ [] else []) (if nat_le q.min i then record t { ip = n.insn } ∷ [] else []))))) (lt-ltb m.loop (length t.loops) h)
 
     leaves : (p : ℕ) (g : Groups) (s : List ℕ) (ls : List LoopData) → Stands p g s ls
         → Yields program text d E (running (leave_state p g s ls) ∷ []) (outcomes_replaced_by_lists (pair (record { end = p; groups = g }) ∷ []) k)
@@ -169,7 +169,7 @@ module _ (program : Program) (text : Text) (is_text : HasRisingPlaceOffsets text
         let o : Outcome = record { end = p; groups = g } in
         yields_same program text d E _ (k o) (k o ++ []) (sym (append-nil (k o))) (on.at o s ls h.reached h.kept)
 
-    -- where an iteration has begun
+    -- The beginning of an iteration sets the loop's own data alone.
     begun : (i p : ℕ) (s : List ℕ) (ls : List LoopData) → length ls ≡ length ls0
         → Kept (group_ids loopee) m.loop n.loop s s ls (slice_set ls m.loop (data_at i p))
     begun i p s ls e =
@@ -182,9 +182,9 @@ module _ (program : Program) (text : Text) (is_text : HasRisingPlaceOffsets text
           above = λ x le. slice_get-set_other ls m.loop x (data_at i p) (omega (arith, j_loop, l_loop));
         }
 
-    -- an iteration, each of whose ends goes on as k' says
+    -- An iteration yields the outcomes of the body, each followed by what `k'` says of it.
     iterates : (i p : ℕ) (g : Groups) (s : List ℕ) (ls : List LoopData) (k' : Outcome → List TickOrOutcome) → Stands p g s ls
-        → ((o : Outcome) (s' : List ℕ) (ls' : List LoopData) → IsOnward text d p o.end → Stands o.end o.groups s' ls' → slice_get ls' m.loop ≡ Some (data_at i p)
+        → ((o : Outcome) (s' : List ℕ) (ls' : List LoopData) → IsAtOrAheadInDirection text d p o.end → Stands o.end o.groups s' ls' → slice_get ls' m.loop ≡ Some (data_at i p)
         → Yields program text d E (running (state_at program text is_text l.insn o.end o.groups s' ls') ∷ []) (k' o))
         → Yields program text d E (running (again_state i p g s ls) ∷ []) (ticks (end - first) ++ outcomes_replaced_by_lists (ticked text loopee d p (cleared first (end - first) g)) k')
     iterates i p g s ls k' h next_round =
@@ -219,7 +219,7 @@ module _ (program : Program) (text : Text) (is_text : HasRisingPlaceOffsets text
               (kept.below m.loop (omega (arith, j_loop)) ∙ slice_get-set_same ls m.loop entry own);
         }))
 
-    -- the end of an iteration
+    -- The end of an iteration yields a tick, and the items of its threads unless it is refused.
     round_yields : (t : State) (ts : List Thread) (c : Bool) (items : List TickOrOutcome) → act program text d t ≡ (if c then goes [] else goes ts)
         → (c ≡ false → Yields program text d E ts (outcomes_replaced_by_lists items k)) → Yields program text d E (running t ∷ []) (tick ∷ outcomes_replaced_by_lists (if not c then items else []) k)
     round_yields t ts true items e y = yields_turn program text d E t [] [] e (yields_none program text d E)

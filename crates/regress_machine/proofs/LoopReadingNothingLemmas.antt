@@ -21,9 +21,9 @@ use Rattle.regress_machine.proofs.LoopHeadSimulation.{again, again-counts, only-
 use Rattle.regress_machine.proofs.InsnSimulationLemmas.{arm-again, loop-again}
 use Rattle.regress_machine.proofs.ForcedIterationLemmas.{set-twice}
 
--- ---- What changes in a row do to one group
+-- ---- The effects of successive instructions on one group
 
--- nothing; its range is away; it has the one from where it began before; it began here; it has the one from here to here
+-- An effect keeps a group, unsets it, closes it, begins it, or makes its range empty here.
 data Effect : Type 0 where
   keeps : Effect
   unset : Effect
@@ -31,7 +31,7 @@ data Effect : Type 0 where
   begun : Effect
   empty : Effect
 
--- by cases
+-- A property holds of each effect if it holds of these five.
 abbrev each-effect : (P : Effect → Type 0) → P keeps → P unset → P spans → P begun → P empty → (e : Effect) → P e
 each-effect P a b c d f keeps = a
 each-effect P a b c d f unset = b
@@ -69,14 +69,14 @@ module _ (d : Direction) (at : ℕ) where
   start-close : (e : Effect) (start : Option ℕ) → start_by e start ≡ start_by (then_close e) start
   start-close e start = each-effect (λ e. start_by e start ≡ start_by (then_close e) start) refl refl refl refl refl e
 
-  -- the second time it does nothing
+  -- The same effect on a group a second time changes nothing.
   group-twice : (e : Effect) (g : Option Range) (start : Option ℕ) → group_by e g start ≡ group_by e (group_by e g start) (start_by e start)
   group-twice e g start = each-effect (λ e. group_by e g start ≡ group_by e (group_by e g start) (start_by e start)) refl refl refl refl refl e
 
   start-twice : (e : Effect) (start : Option ℕ) → start_by e start ≡ start_by e (start_by e start)
   start-twice e start = each-effect (λ e. start_by e start ≡ start_by e (start_by e start)) refl refl refl refl refl e
 
-  -- a state came of another one so
+  -- A state at an offset comes of another one by an effect on each group, with the same loops.
   record Came (x : State) (e : ℕ → Effect) (y : State) : Type 0 where
     groups : (i : ℕ) → slice_get y.groups i ≡ group_by (e i) (slice_get x.groups i) (slice_get x.starts i)
     starts : (i : ℕ) → slice_get y.starts i ≡ start_by (e i) (slice_get x.starts i)
@@ -85,9 +85,9 @@ module _ (d : Direction) (at : ℕ) where
     groups_length : length y.groups ≡ length x.groups
     starts_length : length y.starts ≡ length x.starts
 
--- ---- Straight on
+-- ---- One way through the body
 
--- an effect on one group only
+-- This changes the effect on one group alone.
 abbrev at_one : (id : ℕ) → (Effect → Effect) → (ℕ → Effect) → ℕ → Effect
 at_one id change e i = if id == i then change (e i) else e i
 
@@ -99,7 +99,7 @@ data Path (program : Program) (stop : ℕ) : (ip : ℕ) → Type 0 where
   closes : (ip id : ℕ) → slice_get program.insns ip ≡ Some (EndCaptureGroup id) → Path program stop (ip + 1) → Path program stop ip
 
 module _ {program : Program} {stop : ℕ} where
-  -- what it does to groups of which this was done
+  -- These are the effects of a way through the body after other effects.
   effects : {ip : ℕ} → Path program stop ip → (ℕ → Effect) → ℕ → Effect
   effects stops e = e
   effects (jumps ip to is rest) e = effects rest e
@@ -111,7 +111,7 @@ module _ (d : Direction) (at : ℕ) (x y : State) (e : ℕ → Effect) (came : C
   came-on : (ip : ℕ) → Came d at x e (state_with_ip ip y)
   came-on ip = record { groups = came.groups; starts = came.starts; pos = came.pos; loops = came.loops; groups_length = came.groups_length; starts_length = came.starts_length }
 
-  -- one group's range is another one
+  -- A change to the range of one group changes the effect on that group alone.
   group-set : (id : ℕ) (change : Effect → Effect) (r : Option (ℕ × ℕ)) → id < length y.groups
       → Some r ≡ group_by d at (change (e id)) (slice_get x.groups id) (slice_get x.starts id)
       → (i : ℕ) → slice_get (slice_set y.groups id r) i ≡ group_by d at (at_one id change e i) (slice_get x.groups i) (slice_get x.starts i)
@@ -174,7 +174,7 @@ module _ (d : Direction) (at : ℕ) (x y : State) (e : ℕ → Effect) (came : C
 came-itself : (d : Direction) (x : State) → Came d x.pos x (λ i. keeps) x
 came-itself d x = record { groups = λ i. refl; starts = λ i. refl; pos = refl; loops = refl; groups_length = refl; starts_length = refl }
 
--- ---- Rows
+-- ---- Equal lists
 
 same-row : {X : Type 0} (xs ys : List X) → ((i : ℕ) → slice_get xs i ≡ slice_get ys i) → xs ≡ ys
 same-row [] [] same = refl
@@ -203,13 +203,13 @@ state-by : (ip ip' pos pos' : ℕ) (groups groups' : List (Option (ℕ × ℕ)))
     → state_of ip pos groups starts loops ≡ state_of ip' pos' groups' starts' loops'
 state-by ip ip' pos pos' groups groups' starts starts' loops loops' a b c d e = rw (a, b, c, d, e) refl
 
--- ---- To the end of the body
+-- ---- The way to the end of the body
 
 module _ (program : Program) (text : Text) (d : Direction) where
   turn-at : (y : State) (ip : ℕ) (insn : Insn) → y.ip ≡ ip → slice_get program.insns ip ≡ Some insn → act program text d y ≡ act_on program text d (Some insn) y
   turn-at y ip insn here is = ap (λ n. act_on program text d (slice_get program.insns n) y) here ∙ ap (λ i. act_on program text d i y) is
 
-  -- what an instruction that changes a group leaves
+  -- These are the states that instructions which change a group leave.
   abbrev unset_at : (id : ℕ) → State → State
   unset_at id y = record y { ip = y.ip + 1; groups = slice_set y.groups id None }
 
@@ -228,7 +228,7 @@ module _ (program : Program) (text : Text) (d : Direction) where
         simulates-fewer program text d 0 (1 + 0) us (running y ∷ []) (omega arith)
         (simulates-then program text false d 1 0 (running y ∷ []) (running u ∷ []) us (simulates-goes program text false d y (running u ∷ []) is) on)
 
-    -- what stands in place of the thread at the end stands in place of this one
+    -- What simulates the thread at the end of the way simulates the thread at its beginning.
     forward : {ip : ℕ} (path : Path program stop ip) (x y : State) (e : ℕ → Effect) → y.ip ≡ ip → Came d at x e y → (us : List Thread)
         → ((z : State) → z.ip ≡ stop → Came d at x (effects path e) z → Onto us z) → Onto us y
     unfolding effects
@@ -252,12 +252,12 @@ module _ (program : Program) (text : Text) (d : Direction) where
         (forward rest x (closed_at id n y) (at_one id then_close e) (ap (λ n. n + 1) here)
         (came-close d at x y e came id (y.ip + 1) n (ltb-true id (length y.groups) inside) began) us h)))
 
-    -- ---- Two threads side by side
+    -- ---- Two threads that take the same steps
 
     both-on : (y z u v : State) → act program text d y ≡ go u → act program text d z ≡ go v → Onto (running u ∷ []) v → Onto (running y ∷ []) z
     both-on y z u v is is' on = simulates-both program text d y z (running u ∷ []) (running v ∷ []) is is' on
 
-    -- at the end of the body they are the same, if all that was done leaves the same in both
+    -- At the end of the body, two states are the same if the effects leave the same groups in both.
     module _ (w x : State) (loops : w.loops ≡ x.loops) (groups_length : length w.groups ≡ length x.groups) (starts_length : length w.starts ≡ length x.starts) where
       record SameBehind (e : ℕ → Effect) : Type 0 where
         groups : (i : ℕ) → group_by d at (e i) (slice_get w.groups i) (slice_get w.starts i) ≡ group_by d at (e i) (slice_get x.groups i) (slice_get x.starts i)
@@ -317,7 +317,7 @@ module _ (program : Program) (text : Text) (d : Direction) where
           (alike rest (closed_at id m.0 y) (closed_at id n z) (at_one id then_close e) (ap (λ n. n + 1) here) (ap (λ n. n + 1) there)
           (came-close d at w y e a id (y.ip + 1) m.0 in_y m.1) (came-close d at x z e b id (z.ip + 1) n in_z began) same)))
 
--- ---- Several ways that change nothing
+-- ---- Several ways that change no group
 
 data Ways (program : Program) (stop : ℕ) : (ip : ℕ) → Type 0 where
   arrives : Ways program stop stop
@@ -340,12 +340,12 @@ module _ (program : Program) (text : Text) (d : Direction) (stop : ℕ) (us : Li
       (simulates-goes program text false d (state_with_ip ip z) (running (state_with_ip (ip + 1) z) ∷ waiting after ∷ []) (ap (λ i. act_on program text d i (state_with_ip ip z)) is))
       (simulates-twice program text d us (running (state_with_ip (ip + 1) z)) (waiting after) (silent next on) waits))
 
--- ---- Iterations that have to be made
+-- ---- Required iterations
 
 module _ (program : Program) (text : Text) (d : Direction) (begin stop : ℕ) (f : LoopFields)
     (goes_back : slice_get program.insns stop ≡ Some (LoopAgain begin)) (enters : slice_get program.insns begin ≡ Some (EnterLoop f))
     (last : ℕ) (least : f.min_iters ≡ last + 1) (fits : f.min_iters ≤ f.max_iters) where
-  -- from the end of one of them the next one begins
+  -- What simulates the next iteration simulates the end of a required one before the last.
   next-begins : (k : ℕ) (s z : State) → k < last → z.ip ≡ stop → z.loops ≡ slice_set s.loops f.loop_id (record { iters = k; entry = s.pos })
       → (us : List Thread) → Simulates program text false d 0 us (running (again f begin (k + 1) z) ∷ []) → Simulates program text false d 0 us (running z ∷ [])
   next-begins k s z few here loops us on =
@@ -361,20 +361,20 @@ module _ (program : Program) (text : Text) (d : Direction) (begin stop : ℕ) (f
       (simulates-then program text false d 1 0 (running z ∷ []) (running (again f begin (k + 1) z) ∷ []) us
       (loop-again program text d z f begin (k + 1) turn false (omega (arith, few, least, fits)) (omega (arith, few, least))) on))
 
-  -- none is left before the last of them
+  -- If iteration `k` is the last required one, that one simulates it.
   last-will-do : (k : ℕ) (s : State) → k + 0 ≡ last → Simulates program text false d 0 (running (again f begin last s) ∷ []) (running (again f begin k s) ∷ [])
   last-will-do k s at =
       let same : last ≡ k = omega (arith, at) in
       subst (λ k. Simulates program text false d 0 (running (again f begin last s) ∷ []) (running (again f begin k s) ∷ [])) same
       (simulates-same program text false d (running (again f begin last s) ∷ []))
 
-  -- ---- One way through the body
+  -- ---- Required iterations with one way through the body
 
   module _ (path : Path program stop (begin + 1)) where
     abbrev done : ℕ → Effect
     done = effects path (λ i. keeps)
 
-    -- the last of them, from the state before one of them and from that behind it
+    -- The last required iteration from before the body simulates the one from behind it.
     last-alike : (k : ℕ) (s z : State) → Came d s.pos (again f begin k s) done z
         → Simulates program text false d 0 (running (again f begin last s) ∷ []) (running (again f begin last z) ∷ [])
     last-alike k s z came =
@@ -401,7 +401,7 @@ module _ (program : Program) (text : Text) (d : Direction) (begin stop : ℕ) (f
         (simulates-then program text false d 0 0 (running (again f begin (k + 1) z) ∷ []) (running (again f begin last z) ∷ []) (running (again f begin last s) ∷ [])
         (straight-will-do n (k + 1) z (omega (arith, at))) (last-alike k s z came)))
 
-  -- ---- Several ways that change nothing
+  -- ---- Required iterations with several ways that change no group
 
   module _ (ways : Ways program stop (begin + 1)) where
     silent-will-do : (n k : ℕ) (s : State) → k + n ≡ last → Simulates program text false d 0 (running (again f begin last s) ∷ []) (running (again f begin k s) ∷ [])
@@ -415,10 +415,10 @@ module _ (program : Program) (text : Text) (d : Direction) (begin stop : ℕ) (f
         (subst (λ ls. Simulates program text false d 0 (running (record (again f begin last s) { loops = ls }) ∷ []) (running (again f begin (k + 1) z) ∷ [])) twice
         (silent-will-do n (k + 1) z (omega (arith, at)))))
 
--- ---- Any of them
+-- ---- Ways of either kind
 
 module _ (program : Program) (from stop : ℕ) (inside : stop < length program.insns) where
-  -- by the ways from what is nearer to the end
+  -- A way exists from each instruction if it follows from the ways of later instructions.
   module _ (Way : ℕ → Type 0) (there : Way stop) (forks : Bool)
       (on : (ip : ℕ) → (insn : Insn) → slice_get program.insns ip ≡ Some insn → ReadsNothingAndLeadsOnward forks stop ip insn → ((to : ℕ) → ip < to → to ≤ stop → Way to) → ip < stop → Way ip)
       (reads : ReadsNothingUntil forks program from stop) where

@@ -8,7 +8,7 @@ use Rattle.regex_meaning.specs.OutcomesWithStepTicks.{nearest_first}
 
 -- ---- Lists
 
--- an element and what stands on either side of it
+-- A list has an element at a place, with the others on either side, or the place is past its end.
 data At (xs : List ℕ) (i : ℕ) : Type 0 where
   past : slice_get xs i ≡ None → drop i xs ≡ [] → length xs ≤ i → At xs i
   at : (x : ℕ) → slice_get xs i ≡ Some x → drop i xs ≡ x ∷ drop (suc i) xs → take (suc i) xs ≡ take i xs ++ (x ∷ []) → i < length xs → At xs i
@@ -23,7 +23,7 @@ at_index (x ∷ xs) (suc i) = go (at_index xs i)
     go (past none nothing le) = past none nothing (omega arith)
     go (at y is rest before less) = at y is rest (ap (λ (l : List ℕ). x ∷ l) before) (omega arith)
 
--- a list that is read backwards, by its last ones and what stands before them
+-- A reversed list is its reversed last elements, followed by those before them, reversed.
 pub halves-reversed : (n : ℕ) (xs : List ℕ) → n ≤ length xs
     → (reverse xs ≡ reverse (drop (length xs - n) xs) ++ reverse (take (length xs - n) xs)) × (n ≡ length (reverse (drop (length xs - n) xs)))
 halves-reversed n xs le =
@@ -31,7 +31,7 @@ halves-reversed n xs le =
     let last : length (drop k xs) ≡ n = length-drop k xs ∙ (let e : length xs - k ≡ n = omega arith in e) in
     (ap reverse (sym (take-append-drop k xs)) ∙ reverse-append (take k xs) (drop k xs), sym (length-reverse (drop k xs) ∙ last))
 
--- the first of a list that is read backwards are its last
+-- The first elements of a reversed list are the reversed last elements of the list.
 take-reverse : (n : ℕ) (xs : List ℕ) → n ≤ length xs → take n (reverse xs) ≡ reverse (drop (length xs - n) xs)
 take-reverse n xs le =
     let k = length xs - n in
@@ -39,7 +39,7 @@ take-reverse n xs le =
     ap₂ take halves.1 halves.0 ∙ take-append_seam (reverse (drop k xs)) (reverse (take k xs))
 
 module _ (text : Text) where
-  -- what stands on the direction's side of a place
+  -- On a side of a place, no character is left, or the next one is followed by the others.
   pub data Beside (d : Direction) (p : ℕ) : Type 0 where
     nothing_left : next_character text d p ≡ None → nearest_first text d p ≡ [] → characters_ahead text d p ≡ 0 → Beside d p
     one_more : (c : ℕ) → next_character text d p ≡ Some c → nearest_first text d p ≡ c ∷ nearest_first text d (moved text d 1 p)
@@ -67,7 +67,7 @@ module _ (text : Text) where
   length-nearest rightwards p inside = length-drop p text.characters
   length-nearest leftwards p inside = let l = length-reverse (take p text.characters) in let t = length-take p text.characters in omega (arith, l, t)
 
-  -- so many characters on and then one more
+  -- A move over one character and then `n` is a move over `n + 1`.
   pub moved-suc : (d : Direction) (n p : ℕ) → moved text d n (moved text d 1 p) ≡ moved text d (suc n) p
   moved-suc rightwards n p = omega arith
   moved-suc leftwards n p = omega arith
@@ -76,7 +76,7 @@ module _ (text : Text) where
   moved-zero rightwards p = omega arith
   moved-zero leftwards p = omega arith
 
-  -- the characters beside a place, in the order of the text, are the nearest
+  -- These are the nearest characters beside a place, in the order of the text.
   abbrev pub in_text_order : Direction → List ℕ → List ℕ
   in_text_order rightwards cs = cs
   in_text_order leftwards cs = reverse cs

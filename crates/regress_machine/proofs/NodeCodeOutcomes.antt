@@ -2,14 +2,14 @@
 use Rattle.std.proofs.Common.{◌≡◌, ℕ, zero, suc, ◌+◌, ◌≤◌, List, [], ◌∷◌, ◌++◌, length, map, Option, Some, None, Bool, true, false, refl, ap, ◌∙◌}
 use Rattle.std.proofs.Common.{sym, subst, arith, append_assoc, append-nil, slice_get, le_refl}
 use Rattle.std.specs.Prelude.{option_map, if◌then◌else◌}
-use Rattle.regex_meaning.specs.Laws.{Each, IsOnward}
+use Rattle.regex_meaning.specs.Laws.{Each, IsAtOrAheadInDirection}
 use Rattle.regex_meaning.specs.Tree.{Node, cat, alt, group_ids}
 use Rattle.regex_meaning.specs.Text.{Text, Direction, rightwards, leftwards, last_place, next_character, moved}
 use Rattle.regex_meaning.specs.CodeUnitOffsets.{HasRisingPlaceOffsets, offset}
 use Rattle.regex_meaning.specs.Outcomes.{Groups, Outcome, is_some_and, one_character}
 use Rattle.regex_meaning.specs.OutcomesWithStepTicks.{TickOrOutcome, tick, pair, ticks, outcomes_replaced_by_lists, ticks_before_outcomes, ticked}
 use Rattle.regex_meaning.specs.CompilationRelation.{Program, Insn, Counters, counters_after_insn, HasInsnsBetween, IsCode, Alt, Jump}
-use Rattle.regex_meaning.proofs.OutcomeDirectionLemmas.{IsOnward-refl, IsOnward-trans, one_character-onward}
+use Rattle.regex_meaning.proofs.OutcomeDirectionLemmas.{IsAtOrAheadInDirection-refl, IsAtOrAheadInDirection-trans, one_character-onward}
 use Rattle.regex_meaning.proofs.CodeUnitOffsetsLemmas.{place_at-offset}
 use Rattle.regress_machine.specs.Machine.{LoopData, State, running, waiting, with_some, go_if, next_insn_at_place, read_one, act_on, act}
 use Rattle.regress_machine.proofs.ThreadYieldLemmas.{Ending, Yields, yields_none, yields_append, yields_same, yields_turn, yields_wait}
@@ -41,7 +41,7 @@ and_then-ticks (suc n) xs k = ap (λ (l : List TickOrOutcome). tick ∷ l) (and_
 
 -- ---- Code
 
--- the direction that code is made for
+-- This is the direction that code is compiled for.
 abbrev pub direction_at : (behind : Bool) → Direction
 direction_at behind = if behind then leftwards else rightwards
 
@@ -58,27 +58,27 @@ module _ (program : Program) (text : Text) (is_text : HasRisingPlaceOffsets text
   RangeFits None = Unit {0}
   RangeFits (Some r) = (r.0 ≤ r.1) × (r.1 ≤ last_place text)
 
-  -- the ranges of the groups stand in the text
+  -- The ranges of the groups fit the text.
   abbrev pub Fit : Groups → Type 0
   Fit g = Each RangeFits g
 
-  -- a place and groups that were reached from a place and so many groups
+  -- A place and groups are reached from a place if they are onward, inside the text and fit it.
   pub record Reached (d : Direction) (from : ℕ) (groups : ℕ) (o : Outcome) : Type 0 where
-    pub onward : IsOnward text d from o.end
+    pub onward : IsAtOrAheadInDirection text d from o.end
     pub inside : o.end ≤ last_place text
     pub same_groups : length o.groups ≡ groups
     pub fit : Fit o.groups
 
-  pub inside_by : (d : Direction) (p e : ℕ) → p ≤ last_place text → IsOnward text d p e → e ≤ last_place text
+  pub inside_by : (d : Direction) (p e : ℕ) → p ≤ last_place text → IsAtOrAheadInDirection text d p e → e ≤ last_place text
   inside_by rightwards p e h on = omega (arith, on.0, on.1)
   inside_by leftwards p e h on = omega (arith, on.0)
 
-  -- from a mark on, a state finds what k says, whatever was done with the groups and loops that are the node's own
+  -- Behind each outcome of the node, the state yields what `k` says, whatever its own loops hold.
   pub record GoesOn (d : Direction) (E : Ending) (ip p : ℕ) (ids : List ℕ) (lo hi : ℕ) (g : Groups) (s : List ℕ) (ls : List LoopData) (k : Outcome → List TickOrOutcome) : Type 0 where
     pub at : (o : Outcome) (s' : List ℕ) (ls' : List LoopData) → Reached d p (length g) o → Kept ids lo hi s s' ls ls'
         → Yields program text d E (running (state_at ip o.end o.groups s' ls') ∷ []) (k o)
 
-  -- where a node's code is entered
+  -- At the entry of a node's code, the place is inside the text, and groups and loops fit.
   pub record Enters (p : ℕ) (g : Groups) (s : List ℕ) (ls : List LoopData) (hi : ℕ) : Type 0 where
     pub inside : p ≤ last_place text
     pub fit : Fit g
@@ -87,11 +87,11 @@ module _ (program : Program) (text : Text) (is_text : HasRisingPlaceOffsets text
     pub loops : hi ≤ length ls
 
   pub here : (d : Direction) (p : ℕ) (g : Groups) → p ≤ last_place text → Fit g → Reached d p (length g) (record { end = p; groups = g })
-  here d p g h f = record { onward = IsOnward-refl text d p; inside = h; same_groups = refl; fit = f }
+  here d p g h f = record { onward = IsAtOrAheadInDirection-refl text d p; inside = h; same_groups = refl; fit = f }
 
-  pub reached_both : (d : Direction) (p e n : ℕ) (g : Groups) (o : Outcome) → n ≡ length g → IsOnward text d p e → Reached d e (length g) o → Reached d p n o
+  pub reached_both : (d : Direction) (p e n : ℕ) (g : Groups) (o : Outcome) → n ≡ length g → IsAtOrAheadInDirection text d p e → Reached d e (length g) o → Reached d p n o
   reached_both d p e n g o same on r = record {
-    onward = IsOnward-trans text d p e o.end on r.onward;
+    onward = IsAtOrAheadInDirection-trans text d p e o.end on r.onward;
     inside = r.inside;
     same_groups = r.same_groups ∙ sym same;
     fit = r.fit;
@@ -110,13 +110,13 @@ module _ (program : Program) (text : Text) (is_text : HasRisingPlaceOffsets text
       by true q e = yields_turn program text d E s (running u ∷ []) (k o ++ []) e (yields_same program text d E (running u ∷ []) (k o) (k o ++ []) (sym (append-nil (k o))) (y q))
       by false q e = yields_turn program text d E s [] [] e (yields_none program text d E)
 
-  -- the code of a node finds what the node has, each outcome followed by what comes after
+  -- The code of a node yields its outcomes, each followed by the items of the code behind it.
   abbrev pub Finds : Direction → Bool → Node → Type 1
   Finds d behind node = (E : Ending) (m n : Counters) (p : ℕ) (g : Groups) (s : List ℕ) (ls : List LoopData) (k : Outcome → List TickOrOutcome)
       → IsCode program behind node m n → Enters p g s ls n.loop → GoesOn d E n.insn p (group_ids node) m.loop n.loop g s ls k
       → Yields program text d E (running (state_at m.insn p g s ls) ∷ []) (outcomes_replaced_by_lists (ticked text node d p g) k)
 
-  -- at a mark that is another one's
+  -- If two positions in the code are equal, the states at both yield the same items.
   pub at_mark : (d : Direction) (E : Ending) (m n : Counters) (p : ℕ) (g : Groups) (s : List ℕ) (ls : List LoopData) (items : List TickOrOutcome) → m ≡ n
       → Yields program text d E (running (state_at n.insn p g s ls) ∷ []) items → Yields program text d E (running (state_at m.insn p g s ls) ∷ []) items
   at_mark d E m n p g s ls items e y = subst (λ (m : Counters). Yields program text d E (running (state_at m.insn p g s ls) ∷ []) items) (sym e) y
@@ -139,11 +139,11 @@ module _ (program : Program) (text : Text) (is_text : HasRisingPlaceOffsets text
       act_at d t i has.0 ∙ is t
       ∙ ap (λ q. with_some q (λ p. go_if (is_some_and (next_character text d p) test) (next_insn_at_place text (moved text d 1 p) t))) (place_at-offset text p is_text enters.inside) in
       leaf_yields d E t u b o k turn (λ yes.
-      let onward : IsOnward text d p e = each_when (λ (o : Outcome). IsOnward text d p o.end) b o (one_character-onward text test d p g) yes in
+      let onward : IsAtOrAheadInDirection text d p e = each_when (λ (o : Outcome). IsAtOrAheadInDirection text d p o.end) b o (one_character-onward text test d p g) yes in
       at_mark d E (counters_after_insn m) n e g s ls (k o) has.1
       (on.at o s ls (record { onward = onward; inside = inside_by d p e enters.inside onward; same_groups = refl; fit = enters.fit }) (kept_itself ids m.loop n.loop s ls)))
 
-  -- ---- Constructs
+  -- ---- Kinds of node
 
   pub nothing_finds : (d : Direction) (E : Ending) (m n : Counters) (p : ℕ) (ids : List ℕ) (g : Groups) (s : List ℕ) (ls : List LoopData) (k : Outcome → List TickOrOutcome)
       → m ≡ n → Enters p g s ls n.loop → GoesOn d E n.insn p ids m.loop n.loop g s ls k
@@ -153,7 +153,7 @@ module _ (program : Program) (text : Text) (is_text : HasRisingPlaceOffsets text
       yields_same program text d E _ (k o) (k o ++ []) (sym (append-nil (k o)))
       (at_mark d E m n p g s ls (k o) same (on.at o s ls (here d p g enters.inside enters.fit) (kept_itself ids m.loop n.loop s ls)))
 
-  -- the numbers of loops rise
+  -- The number of loops does not fall from the start to the end of a node's code.
   abbrev pub Rising : Bool → Node → Type 0
   Rising behind node = (m n : Counters) → IsCode program behind node m n → m.loop ≤ n.loop
 

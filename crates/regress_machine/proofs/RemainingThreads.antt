@@ -8,21 +8,16 @@ use Rattle.regress_machine.specs.TextsForBytePrograms.{HasUtf8CharactersAndOffse
 use Rattle.regress_machine.specs.Machine as machine
 use Rattle.regress_machine.specs.Machine.{Thread, running, waiting, Next, goes, scans, ends, asks, stuck, Found, result_without_threads, after_lookaround, act, search}
 use Rattle.regress_machine.proofs.MachineSearchLemmas.{Later, waits-later, goes-later, scans-later, ends-found, never_stuck, asked-inner}
+use Rattle.regress_machine.specs.ExecutorLoopInvariantAndSpentSteps.{steps_of}
 use Rattle.regress_machine.specs.InsnEffects.{IsNotStuck, is_byte_sequence_insn, end_of_search}
 use Rattle.regress_machine.proofs.OffsetsInsideText.{AllIn, NextIn, in-append, in-resumed, act-inside}
 
--- how many steps a search takes
-abbrev pub steps_of : Option Found → ℕ
-steps_of None = 0
-steps_of (Some f) = f.steps
-
--- a search, and what is known of it
 module _ (program : Program) (text : Text) (turns : ℕ) (d : Direction) where
-  -- the steps that are left to these threads
+  -- This is the number of steps left to these threads.
   abbrev pub steps_left : List Thread → ℕ
   steps_left ts = steps_of (search program text turns d ts)
 
-  -- the threads, which are inside the text, end like this, in so many steps at most
+  -- The threads are inside the text, and their search ends like this in at most `top` steps.
   pub record Remains (top : ℕ) (end : Option machine.State) (ts : List Thread) : Type 0 where
     pub found : Found
     pub searches : search program text turns d ts ≡ Some found
@@ -30,7 +25,7 @@ module _ (program : Program) (text : Text) (turns : ℕ) (d : Direction) where
     pub few : steps_left ts ≤ top
     pub inside : AllIn (units text) ts
 
-  -- what is left after a turn, in fewer steps
+  -- The threads that remain after a step end like those before it, in fewer steps.
   pub record Left (top : ℕ) (end : Option machine.State) (before ts : List Thread) : Type 0 where
     pub remains : Remains top end ts
     pub fewer : steps_left ts < steps_left before
@@ -53,15 +48,15 @@ module _ (program : Program) (text : Text) (turns : ℕ) (d : Direction) where
         fewer = omega (arith, a, b, l.steps, some);
       }
 
-  -- ---- One turn
+  -- ---- One step
 
   module _ (top : ℕ) (end : Option machine.State) where
-    -- a thread that is taken up
+    -- If a waiting thread runs, the threads remain with one step fewer.
     pub left-waits : (s : machine.State) (ts : List Thread) → Remains top end (waiting s ∷ ts) → Left top end (waiting s ∷ ts) (running s ∷ ts)
     left-waits s ts r =
         left 1 top end (waiting s ∷ ts) (running s ∷ ts) r.found r.searches r.ends_there r.few (waits-later program text turns d s ts r.found r.searches) (omega arith) r.inside
 
-    -- the machine is never stuck
+    -- The machine is not stuck at the running thread of a search that answers.
     pub remains-can : (s : machine.State) (ts : List Thread) → Remains top end (running s ∷ ts) → IsNotStuck (act program text d s)
     remains-can s ts r = by (act program text d s) refl
       where
@@ -99,7 +94,7 @@ module _ (program : Program) (text : Text) (turns : ℕ) (d : Direction) where
           left (1 + tries) top end (running s ∷ ts) (ss ++ ts) r.found r.searches r.ends_there r.few (scans-later program text turns d s tries ss ts r.found e r.searches) (omega arith)
           (in-append (units text) ss ts (next-inside s ts (scans tries ss) r e) r.inside.1)
 
-      -- a search that is asked for answers in fewer steps, and the threads behind it end as before
+      -- The search of a lookaround's contents takes fewer steps, and the threads after it remain.
       pub record AskedHere (before : List Thread) (inner : Direction) (negate : Bool) (u w : machine.State) (ts : List Thread) : Type 0 where
         pub answers : IsSome (search program text turns inner (running u ∷ []))
         pub inside : u.pos ≤ units text

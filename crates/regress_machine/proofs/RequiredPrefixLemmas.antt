@@ -9,7 +9,7 @@ use Rattle.regex_meaning.specs.Text.{Text, rightwards, next_character, moved}
 use Rattle.regex_meaning.specs.CodeUnitOffsets.{offset, place_at}
 use Rattle.regex_meaning.specs.Outcomes.{is_some_and}
 use Rattle.regex_meaning.specs.OutcomesWithStepTicks.{nearest_first}
-use Rattle.regex_meaning.specs.CodeUnits.{Encoding, spelled_in}
+use Rattle.regex_meaning.specs.CodeUnits.{Encoding, code_units_of_character}
 use Rattle.regex_meaning.specs.CompilationRelation.{Program, Insn, Loop1CharBody}
 use Rattle.regex_meaning.proofs.EachElementLemmas.{Each-map}
 use Rattle.regex_meaning.proofs.CodeUnitOffsetsLemmas.{offset-place_at, place_at-offset}
@@ -18,7 +18,7 @@ use Rattle.regress_machine.specs.SearchFindsFirstOutcomeAtPlace.{state_before_fi
 use Rattle.regress_machine.specs.ThreadSimulation.{FindsNothing}
 use Rattle.regress_machine.specs.FailingInsnsAtOffset.{insn_may_find}
 use Rattle.regress_machine.specs.FirstSetTables.{is_character_in_encoding, HasUnitsForTables, first_unit_key, unit_key_at}
-use Rattle.regress_machine.specs.CharLoopExitStatesByPreference.{behind, NothingAfterChars}
+use Rattle.regress_machine.specs.CharLoopExitStatesByPreference.{behind, StatesAfterCharsFindNothing}
 use Rattle.regress_machine.specs.RequiredPrefixes.{AllowedUnitsAhead, unit_is_allowed, IsRequiredPrefix, RequiredPrefixesExclude}
 use Rattle.regress_machine.proofs.FailureByStepInduction.{NothingBelow, NothingNext, EachNothing, turn-nothing, nothing-go, nothing-goes, nothing-in_turn}
 use Rattle.regress_machine.proofs.FailureByStepInduction.{nothing-below-none, finds-nothing}
@@ -30,13 +30,13 @@ use Rattle.regress_machine.proofs.ExcludedMatchStartLemmas.{nothing-no-match}
 use Rattle.regress_machine.proofs.FirstSetTableLemmas.{seen-next}
 use Rattle.regress_machine.proofs.FirstUnitsOfCharacters.{passes-one, one-unit-on}
 
--- what finds nothing does so in searches of less than any number of steps
+-- A state that finds nothing finds nothing in searches of fewer than any number of steps.
 pub nothing-below : (program : Program) (text : Text) (n : ℕ) (s : State) → FindsNothing program text rightwards (running s)
     → NothingBelow program text n rightwards 1 (running s ∷ [])
 nothing-below program text n s h = record { within = λ turns vs f few q. h.within turns vs f q }
 
 module _ (program : Program) (text : Text) (s : State) where
-  -- a turn behind which nothing is found finds nothing
+  -- A state finds nothing if its step leaves only what finds nothing.
   pub nothing-turned : ((n : ℕ) → NothingNext program text n rightwards (act program text rightwards s)) → FindsNothing program text rightwards (running s)
   nothing-turned next = finds-nothing program text rightwards (running s) by
     where
@@ -51,11 +51,11 @@ module _ (e : Encoding) (key : ℕ → ℕ) (program : Program) where
   abbrev Prefix : (ip len : ℕ) → AllowedUnitsAhead → Type 0
   Prefix ip len allowed = IsRequiredPrefix e key program ip len allowed
 
-  -- nothing is said
+  -- Each instruction has a required prefix of no units.
   pub prefix-none : (ip : ℕ) (allowed : AllowedUnitsAhead) → Prefix ip 0 allowed
   prefix-none ip allowed = record { excludes = λ text units s is ahead less bar. absurd (omega (arith, less)) }
 
-  -- less is said
+  -- A shorter prefix that allows at least as much is a required prefix, too.
   pub prefix-less : (ip len most : ℕ) (a b : AllowedUnitsAhead) → Prefix ip most a → len ≤ most → ((ahead k : ℕ) → ahead < len → a ahead k ≡ true → b ahead k ≡ true) → Prefix ip len b
   prefix-less ip len most a b prefix le within = record {
     excludes = λ text units s is ahead less bar.
@@ -70,9 +70,9 @@ module _ (e : Encoding) (key : ℕ → ℕ) (program : Program) where
       by ahead less None bar = refl
       by ahead less (Some k) bar = not-so (a ahead k) (b ahead k) (within ahead k less) bar
 
-  -- ---- No character is read
+  -- ---- Instructions that read no character
 
-  -- an instruction that finds nothing where those find nothing of which this account says it
+  -- An instruction has a prefix if it leads only to instructions that have it.
   prefix-account : (ip len : ℕ) (allowed : AllowedUnitsAhead) (may : ℕ → Bool) → ((to : ℕ) → may to ≡ false → Prefix to len allowed)
       → ((text : Text) (at : ℕ) → insn_may_find program text at may (slice_get program.insns ip) ip ≡ false) → Prefix ip len allowed
   prefix-account ip len allowed may prefixes none = record {
@@ -89,7 +89,7 @@ module _ (e : Encoding) (key : ℕ → ℕ) (program : Program) where
           ((prefixes u.ip never).excludes text units u refl ahead less (ap (λ at. unit_is_allowed allowed ahead (unit_key_at e key text (at + ahead))) there ∙ bar)))
           (let P : ℕ → Type 0 = λ i. insn_may_find program text s.pos may (slice_get program.insns i) i ≡ false in subst P (sym is) (none text s.pos))
 
-  -- one that leads on to this one at its offset, or nowhere
+  -- An instruction that can only lead to another one at its offset has the prefix of that one.
   pub prefix-on : (ip to len : ℕ) (allowed : AllowedUnitsAhead) → Prefix to len allowed
       → ((may : ℕ → Bool) → may to ≡ false → (text : Text) (at : ℕ) → insn_may_find program text at may (slice_get program.insns ip) ip ≡ false) → Prefix ip len allowed
   prefix-on ip to len allowed prefix leads =
@@ -103,7 +103,7 @@ module _ (e : Encoding) (key : ℕ → ℕ) (program : Program) where
       only : (i to : ℕ) → not (i == to) ≡ false → i ≡ to
       only i to never = eqb-true i to (not-not (i == to) never)
 
-  -- to one of two
+  -- An instruction that leads to either of two others has a prefix that both of these have.
   pub prefix-either : (ip a b len : ℕ) (allowed : AllowedUnitsAhead) → Prefix a len allowed → Prefix b len allowed
       → ((may : ℕ → Bool) → may a ≡ false → may b ≡ false → (text : Text) (at : ℕ) → insn_may_find program text at may (slice_get program.insns ip) ip ≡ false) → Prefix ip len allowed
   prefix-either ip a b len allowed first second leads =
@@ -124,21 +124,21 @@ module _ (e : Encoding) (key : ℕ → ℕ) (program : Program) where
 
 -- ---- Characters of one unit
 
--- a test accepts characters of one unit alone, and this allows the keys of these at the first so many units
+-- A test accepts single-unit characters alone, and their keys are allowed at `count` units.
 pub record AreUnits (e : Encoding) (key : ℕ → ℕ) (test : ℕ → Bool) (count : ℕ) (allowed : AllowedUnitsAhead) : Type 0 where
   pub keys : (c : ℕ) → is_character_in_encoding e c ≡ true → test c ≡ true → (ahead : ℕ) → ahead < count → unit_is_allowed allowed ahead (first_unit_key e key c) ≡ true
-  pub single : (c : ℕ) → is_character_in_encoding e c ≡ true → test c ≡ true → length (spelled_in e c) ≡ 1
+  pub single : (c : ℕ) → is_character_in_encoding e c ≡ true → test c ≡ true → length (code_units_of_character e c) ≡ 1
 
 module _ (e : Encoding) (key : ℕ → ℕ) (text : Text) (units : HasUnitsForTables e text) (test : ℕ → Bool) (count : ℕ) (allowed : AllowedUnitsAhead) (are : AreUnits e key test count allowed)
     (p c : ℕ) (there : slice_get text.characters p ≡ Some c) (accepted : test c ≡ true) where
   character : is_character_in_encoding e c ≡ true
   character = passes-one (is_character_in_encoding e) text.characters p c units.characters there
 
-  -- the next place is one unit on
+  -- The next place is one unit on.
   next-unit : offset text (p + 1) ≡ offset text p + 1
   next-unit = one-unit-on e text units.spelled p c there (are.single c character accepted)
 
-  -- what stands there is allowed
+  -- The unit at the place of an accepted character is allowed.
   allowed-there : (at : ℕ) → place_at text at ≡ Some p → (ahead : ℕ) → ahead < count → unit_is_allowed allowed ahead (unit_key_at e key text at) ≡ true
   allowed-there at here ahead less = ap (unit_is_allowed allowed ahead) (seen-next e key text units at p here (Some c) there) ∙ are.keys c character accepted ahead less
 
@@ -147,9 +147,9 @@ true-false true h k = cc
 true-false false h k = cc
 
 module _ (e : Encoding) (key : ℕ → ℕ) (program : Program) where
-  -- ---- One character is read
+  -- ---- Instructions that read one character
 
-  -- the instruction reads one character
+  -- The instruction reads one character that its test accepts.
   abbrev pub Reads : Insn → Type 0
   Reads insn = (text : Text) (s : State)
       → act_on program text rightwards (Some insn) s ≡ with_some (test_of program (Some insn)) (λ test. read_one text test rightwards s)
@@ -205,7 +205,7 @@ module _ (e : Encoding) (key : ℕ → ℕ) (program : Program) where
                 accepted true t = nothing-go program text n rightwards (next_insn_at_place text (moved text rightwards 1 p) s) (nothing-behind p c here is t)
                 accepted false t = nothing-goes program text n rightwards
 
-    -- what must stand behind it stands one unit on
+    -- A read has the prefix of its own unit, followed by that of the next instruction.
     pub prefix-reads : IsRequiredPrefix e key program ip (1 + len) before
     prefix-reads = record {
       excludes = λ text units s is ahead less bar.
@@ -221,7 +221,7 @@ module _ (e : Encoding) (key : ℕ → ℕ) (program : Program) where
         by text units s is ahead less bar n None t = tt
         by text units s is ahead less bar n (Some test) t = nothing-read text units s is ahead less bar test t n
 
-  -- ---- A run of such characters
+  -- ---- Char loops
 
   module _ (ip len least most : ℕ) (greedy : Bool) (before after : AllowedUnitsAhead) (there : slice_get program.insns ip ≡ Some (Loop1CharBody least most greedy))
       (are : (test : ℕ → Bool) → test_of program (slice_get program.insns (ip + 1)) ≡ Some test → AreUnits e key test least before)
@@ -245,7 +245,7 @@ module _ (e : Encoding) (key : ℕ → ℕ) (program : Program) where
           ∙ next-unit e key text units test least before units_of (p + i) one.0 one.1 one.2
           ∙ ap (λ n. n + 1) (single-run i (omega (arith, le))) ∙ (let z : s.pos + i + 1 ≡ s.pos + suc i = omega arith in z)
 
-      -- so few characters that none is behind them
+      -- If `ahead` is below the minimum, at most `ahead` characters are accepted.
       few : ahead < least → accepted ≤ ahead
       few early = elim (cases_lt ahead accepted) [
         | inl more ↦
@@ -262,7 +262,7 @@ module _ (e : Encoding) (key : ℕ → ℕ) (program : Program) where
       same-stand i None = refl
       same-stand i (Some k) = on i k
 
-      run-behind : NothingAfterChars program text rightwards p s least (min most accepted + 1 - least)
+      run-behind : StatesAfterCharsFindNothing program text rightwards p s least (min most accepted + 1 - least)
       run-behind n le more = elim (cases_lt ahead least) [
         | inl early ↦ let none = few early in absurd (omega (arith, le, more, none, early))
         | inr late ↦
@@ -290,7 +290,7 @@ module _ (e : Encoding) (key : ℕ → ℕ) (program : Program) where
           by true = below _ (most-excluded program text rightwards p s least (min most accepted + 1 - least) run-behind)
           by false = below _ (fewest-excluded program text rightwards p s least (min most accepted + 1 - least) run-behind)
 
-    -- What must stand behind it stands behind its fewest characters, if it has no more.
+    -- A char loop has the prefix of its fewest characters, followed by that of what is behind it.
     pub prefix-run : IsRequiredPrefix e key program ip (least + len) before
     prefix-run = record {
       excludes = λ text units s is ahead less bar.
@@ -313,7 +313,7 @@ module _ (e : Encoding) (key : ℕ → ℕ) (program : Program) where
                 nothing-in_turn program text n rightwards (char_loop_states text greedy rightwards least (min most (prefix_len test (nearest_first text rightwards p))) p s)
                 (run-each text units s is ahead less bar test (are test t) p here n)
 
--- ---- Where a match begins
+-- ---- The start of a match
 
 pub prefixes-exclude : RequiredPrefixesExclude
 prefixes-exclude e key program tree text len allowed can units prefix place inside ahead less bar =

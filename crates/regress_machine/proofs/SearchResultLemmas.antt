@@ -9,18 +9,18 @@ use Rattle.regex_meaning.specs.OutcomesWithStepTicks.{TickOrOutcome, tick, pair,
 use Rattle.regex_meaning.specs.CompilationRelation.{Program}
 use Rattle.regex_meaning.proofs.OutcomeTicksLemmas.{pairs-ticked}
 use Rattle.regress_machine.specs.Machine.{running, Found, search}
-use Rattle.regress_machine.specs.SearchFindsFirstOutcomeAtPlace.{state_before_first_insn, end_of, end_in_offsets, match_in_offsets, first_pair, sufficient_turns_at}
+use Rattle.regress_machine.specs.SearchFindsFirstOutcomeAtPlace.{state_before_first_insn, end_of, end_in_offsets, match_in_offsets, first_outcome_among_ticks, sufficient_turns_at}
 use Rattle.regress_machine.specs.SearchFindsFirstOutcomeAtPlace.{TreeProgramCanSearchText}
 use Rattle.regress_machine.proofs.MachineSearchLemmas.{search_more}
 use Rattle.regress_machine.proofs.TreeCodeOutcomes.{searches-find}
 
 first_of-pairs : (text : Text) (place : ℕ) (items : List TickOrOutcome)
-    → option_map (match_in_offsets text) (first_outcome place (outcomes_without_ticks items)) ≡ option_map (end_in_offsets text) (first_pair items)
+    → option_map (match_in_offsets text) (first_outcome place (outcomes_without_ticks items)) ≡ option_map (end_in_offsets text) (first_outcome_among_ticks items)
 first_of-pairs text place [] = refl
 first_of-pairs text place (tick ∷ items) = first_of-pairs text place items
 first_of-pairs text place (pair o ∷ items) = refl
 
-is_empty-pairs : (items : List TickOrOutcome) → has_no_outcome (outcomes_without_ticks items) ≡ (if is_some (first_pair items) then false else true)
+is_empty-pairs : (items : List TickOrOutcome) → has_no_outcome (outcomes_without_ticks items) ≡ (if is_some (first_outcome_among_ticks items) then false else true)
 is_empty-pairs [] = refl
 is_empty-pairs (tick ∷ items) = is_empty-pairs items
 is_empty-pairs (pair o ∷ items) = refl
@@ -32,9 +32,9 @@ same_some f g (Some x) None e = cc
 same_some f g (Some x) (Some y) e = refl
 
 module _ (program : Program) (tree : Tree) (text : Text) (can : TreeProgramCanSearchText program tree text) (place : ℕ) (inside : place ≤ last_place text) where
-  -- whatever number of turns a search takes, it is the one that is known
+  -- Whatever the number of turns, the result has the steps and the end of the tree's items.
   found_so : (turns : ℕ) (f : Found) → search program text turns rightwards (running (state_before_first_insn program (offset text place)) ∷ []) ≡ Some f
-      → (f.steps ≡ ticks_to_first (items_at tree text place)) × (option_map end_of f.end ≡ option_map (end_in_offsets text) (first_pair (items_at tree text place)))
+      → (f.steps ≡ ticks_to_first (items_at tree text place)) × (option_map end_of f.end ≡ option_map (end_in_offsets text) (first_outcome_among_ticks (items_at tree text place)))
   found_so turns f e =
       let first = searches-find program tree text can place inside in
       let known = sufficient_turns_at tree text place in
@@ -58,10 +58,10 @@ module _ (program : Program) (tree : Tree) (text : Text) (can : TreeProgramCanSe
       let items = items_at tree text place in
       let later = ticks_at tree text places in
       let so = found_so turns f e in
-      let some : is_some f.end ≡ is_some (first_pair items) = same_some end_of (end_in_offsets text) f.end (first_pair items) so.1 in
+      let some : is_some f.end ≡ is_some (first_outcome_among_ticks items) = same_some end_of (end_in_offsets text) f.end (first_outcome_among_ticks items) so.1 in
       ap (λ b. ticks_to_first items + (if b then later else 0)) (is_empty-pairs items)
-      ∙ ap (λ n. ticks_to_first items + n) (other_way (is_some (first_pair items)) later)
-      ∙ ap (λ n. n + (if is_some (first_pair items) then 0 else later)) (sym so.0)
+      ∙ ap (λ n. ticks_to_first items + n) (other_way (is_some (first_outcome_among_ticks items)) later)
+      ∙ ap (λ n. n + (if is_some (first_outcome_among_ticks items) then 0 else later)) (sym so.0)
       ∙ ap (λ b. f.steps + (if b then 0 else later)) (sym some)
     where
       other_way : (b : Bool) (n : ℕ) → (if (if b then false else true) then n else 0) ≡ (if b then 0 else n)

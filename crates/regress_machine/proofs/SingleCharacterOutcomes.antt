@@ -32,7 +32,7 @@ pub is_some_and-none : (o : Option ℕ) → is_some_and o (λ c. false) ≡ fals
 is_some_and-none None = refl
 is_some_and-none (Some c) = refl
 
--- members once more change nothing
+-- A test of members does not change if some of these members are tested again.
 or_again : (a b z : Bool) → (z ≡ true → a ≡ true) → ((a || b) || z) ≡ (a || b)
 or_again true b z h = refl
 or_again false true z h = refl
@@ -67,7 +67,7 @@ contains-filter_none test c (x ∷ xs) h = go (test x) refl h (contains-filter_n
     go true e h k = at_head (nat_eq c x) refl e h k
     go false e h k = k h
 
--- a test that only bytes pass is that of being among the bytes that pass it
+-- A test that only bytes pass is membership in the bytes that pass it.
 pub contains-bytes_same : (test : ℕ → Bool) → ((c : ℕ) → test c ≡ true → c < 256) → (c : ℕ) → contains (bytes_that_pass test) c ≡ test c
 unfolding bytes_that_pass
 contains-bytes_same test low c = go (test c) refl
@@ -98,11 +98,11 @@ ascii_accepts contents h c =
     ∙ ap (λ b. exclusive_or b (in_intervals contents.intervals c)) (sym plain)
 
 module _ (program : Program) (text : Text) (is_text : HasRisingPlaceOffsets text) where
-  -- the node's items: one outcome behind a character that is accepted
+  -- These are the items of a node of one character: a tick, and an outcome if it is accepted.
   abbrev pub one_items : (ℕ → Bool) → Direction → ℕ → Groups → List TickOrOutcome
   one_items test d p g = tick ∷ map pair (one_character text test d p g)
 
-  -- an instruction whose test is, at each character, that of the node
+  -- An instruction that tests as the node accepts yields the items of the node.
   pub same_test_finds : (d : Direction) (test accepted : ℕ → Bool) (i : Insn) (E : Ending) (m n : Counters) (p : ℕ) (ids : List ℕ) (g : Groups) (s : List ℕ) (ls : List LoopData) (k : Outcome → List TickOrOutcome)
       → ((c : ℕ) → test c ≡ accepted c) → ((t : State) → act_on program text d (Some i) t ≡ read_one text test d t)
       → HasInsnsBetween program (i ∷ []) m n → Enters program text is_text p g s ls n.loop → GoesOn program text is_text d E n.insn p ids m.loop n.loop g s ls k
@@ -113,7 +113,7 @@ module _ (program : Program) (text : Text) (is_text : HasRisingPlaceOffsets text
       (ap (λ b. outcomes_replaced_by_lists (tick ∷ map pair (if b then o ∷ [] else [])) k) (is_some_and-same (next_character text d p) test accepted same))
       (one_character_finds program text is_text d test i E m n p ids g s ls k is has enters on)
 
-  -- an instruction that fails, where the node accepts nothing
+  -- An instruction that always fails yields a tick and no outcome.
   pub fail_finds : (d : Direction) (E : Ending) (m n : Counters) (p : ℕ) (g : Groups) (s : List ℕ) (ls : List LoopData) (k : Outcome → List TickOrOutcome)
       → HasInsnsBetween program (JustFail ∷ []) m n → Yields program text d E (running (state_at program text is_text m.insn p g s ls) ∷ []) (tick ∷ [])
   fail_finds d E m n p g s ls k has =
@@ -141,7 +141,7 @@ module _ (program : Program) (text : Text) (is_text : HasRisingPlaceOffsets text
       same_test_finds d (contains (padded c members)) (accepts (char_set (c ∷ members))) (CharSet (padded c members)) E m n p [] g s ls k
       (contains-padded c members) (λ t. refl) code enters on
 
-  -- of two bytes or more, each of which is a character
+  -- The code of a set of two or more bytes finds the outcomes of that node.
   pub byte_pair_finds : (d : Direction) (behind : Bool) (b c : ℕ) (bytes : List ℕ) → Finds program text is_text d behind (byte_set (b ∷ c ∷ bytes))
   unfolding IsCode ticked outcomes
   byte_pair_finds d behind b c bytes E m n p g s ls k code enters on =
@@ -191,7 +191,7 @@ module _ (program : Program) (text : Text) (is_text : HasRisingPlaceOffsets text
       by true e code = ascii_bracket_finds d contents E m n p g s ls k e code enters on
       by false e code = listed_bracket_finds d contents E m n p g s ls k code.0 code.1 enters on
 
-  -- ---- The numbers of loops rise
+  -- ---- The numbers of loops do not fall
 
   pub insns_rising : (is : List Insn) (m n : Counters) → HasInsnsBetween program is m n → m.loop ≤ n.loop
   insns_rising [] m n has = let same = ap (λ (m : Counters). m.loop) has in omega (arith, same)

@@ -20,7 +20,7 @@ use Rattle.regex_meaning.specs.Outcomes.{accepts, exclusive_or, in_intervals}
 use Rattle.regex_meaning.specs.StartPredicate.{bytes_that_pass}
 use Rattle.regex_meaning.specs.WellFormedTrees.{is_one_character, has_text_in_sequence, set_sizes_and_characters_fit_instructions}
 use Rattle.regex_meaning.specs.CompilationRelation.{Program, Insn, Counters, HasInsnsBetween, IsCode, JustFail, Char, CharSet, ByteSet, ByteSeq, AsciiBracket, Bracket}
-use Rattle.regex_meaning.specs.CompilationRelation.{MatchAny, MatchAnyExceptLineTerminator, padded, ordered, is_uninverted_ascii_class, chunks, chunks_of}
+use Rattle.regex_meaning.specs.CompilationRelation.{MatchAny, MatchAnyExceptLineTerminator, padded, reversed_if_in_lookbehind, is_uninverted_ascii_class, chunks, first_chunks_of_bytes}
 use Rattle.regex_meaning.proofs.FirstByteOfCharacter.{true-in_range, encode-1}
 use Rattle.regress_machine.specs.Machine.{test_of}
 use Rattle.regress_machine.specs.TextsForBytePrograms.{HasUtf8CharactersAndOffsets, tree_contains_byte_nodes}
@@ -81,7 +81,7 @@ byte_test b low d s =
 
 -- ---- Chunks
 
-pub no_chunks : (n : ℕ) → chunks_of n [] ≡ []
+pub no_chunks : (n : ℕ) → first_chunks_of_bytes n [] ≡ []
 no_chunks zero = refl
 no_chunks (suc n) = refl
 
@@ -89,8 +89,8 @@ pub short_chunk : (bytes : List ℕ) → 0 < length bytes → length bytes ≤ 1
 short_chunk [] h k = absurd (omega arith)
 short_chunk (b ∷ bytes) h k =
     let l : length bytes ≤ 15 = omega arith in
-    ap (λ (t : List ℕ). (b ∷ t) ∷ chunks_of (length bytes) (drop 15 bytes)) (take_all 15 bytes l)
-    ∙ ap (λ (t : List ℕ). (b ∷ bytes) ∷ chunks_of (length bytes) t) (drop_of_length-le bytes {i = 15} l)
+    ap (λ (t : List ℕ). (b ∷ t) ∷ first_chunks_of_bytes (length bytes) (drop 15 bytes)) (take_all 15 bytes l)
+    ∙ ap (λ (t : List ℕ). (b ∷ bytes) ∷ first_chunks_of_bytes (length bytes) t) (drop_of_length-le bytes {i = 15} l)
     ∙ ap (λ (t : List (List ℕ)). (b ∷ bytes) ∷ t) (no_chunks (length bytes))
 
 pub one_of_length : (cs : List ℕ) → (length cs == 1) ≡ true → (c : ℕ) × (cs ≡ c ∷ [])
@@ -98,7 +98,7 @@ one_of_length [] h = cc
 one_of_length (c ∷ []) h = (c, refl)
 one_of_length (c ∷ d ∷ cs) h = absurd (let e = eqb-true (length (c ∷ d ∷ cs)) 1 h in omega arith)
 
--- one character takes one chunk
+-- The bytes of a single character make one chunk.
 pub one_chunk : (bytes : List ℕ) → is_utf8 bytes ≡ true → (length (chars bytes) == 1) ≡ true → chunks bytes ≡ bytes ∷ []
 one_chunk bytes u one =
     let c = one_of_length (chars bytes) one in
@@ -107,14 +107,14 @@ one_chunk bytes u one =
     let g = len_utf8_bounds c.0 in
     short_chunk bytes (omega (arith, g.0)) (omega (arith, g.1))
 
-ordered_one : (behind : Bool) (x : List ℕ) → ordered behind (x ∷ []) ≡ x ∷ []
+ordered_one : (behind : Bool) (x : List ℕ) → reversed_if_in_lookbehind behind (x ∷ []) ≡ x ∷ []
 ordered_one true x = refl
 ordered_one false x = refl
 
 -- ---- Instructions
 
 module _ (program : Program) (text : Text) where
-  -- at a mark stands an instruction that tests what the node accepts, and the second mark is behind it
+  -- The code is one instruction, which tests what the node accepts.
   pub record ReadsOne (node : Node) (m n : Counters) : Type 0 where
     pub test : ℕ → Bool
     pub test_is : test_of program (slice_get program.insns m.insn) ≡ Some test
@@ -137,9 +137,9 @@ module _ (program : Program) (text : Text) where
   exactly node = Each-all (λ c. accepts node c ≡ accepts node c) (λ c. refl) text.characters
 
   sequence_reads : (behind : Bool) (bytes : List ℕ) (m n : Counters) → is_utf8 bytes ≡ true → (length (chars bytes) == 1) ≡ true → HasUtf8CharactersAndOffsets text
-      → HasInsnsBetween program (map ByteSeq (ordered behind (chunks bytes))) m n → ReadsOne (byte_sequence bytes) m n
+      → HasInsnsBetween program (map ByteSeq (reversed_if_in_lookbehind behind (chunks bytes))) m n → ReadsOne (byte_sequence bytes) m n
   sequence_reads behind bytes m n u one reads has =
-      let is : ordered behind (chunks bytes) ≡ bytes ∷ [] = ap (ordered behind) (one_chunk bytes u one) ∙ ordered_one behind bytes in
+      let is : reversed_if_in_lookbehind behind (chunks bytes) ≡ bytes ∷ [] = ap (reversed_if_in_lookbehind behind) (one_chunk bytes u one) ∙ ordered_one behind bytes in
       reads_by (byte_sequence bytes) (ByteSeq bytes) (λ d. pointwise nat_eq (encode_utf8_all (d ∷ [])) bytes) m n
       (subst (λ (cs : List (List ℕ)). HasInsnsBetween program (map ByteSeq cs) m n) is has) refl
       (each_scalar (λ d. pointwise nat_eq (encode_utf8_all (d ∷ [])) bytes ≡ pointwise nat_eq (chars bytes) (d ∷ [])) (sequence_test bytes u) text.characters reads.scalars)

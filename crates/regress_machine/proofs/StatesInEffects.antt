@@ -5,7 +5,7 @@ use Rattle.regex_meaning.specs.CompilationRelation.{Insn, LoopFields, EnterLoop}
 use Rattle.regex_meaning.proofs.EachElementLemmas.{Each, Each-append}
 use Rattle.regress_machine.specs.Machine.{State, Thread, running, waiting, Next, goes, scans, ends, asks, stuck, with_some, only_if, go_if}
 use Rattle.regress_machine.specs.Machine.{first_running_and_others_waiting}
-use Rattle.regress_machine.specs.Machine.{preferring, iterate_or_leave_at_loop_head, effect_at_iteration_end, loop_again_effect, state_with_ip}
+use Rattle.regress_machine.specs.Machine.{choice_in_order_of_greediness, iterate_or_leave_at_loop_head, effect_at_iteration_end, loop_again_effect, state_with_ip}
 
 module _ (Good : State → Type 0) where
   abbrev pub IsOfThread : Thread → Type 0
@@ -27,9 +27,9 @@ module _ (Good : State → Type 0) where
   of-in_turn [] h = tt
   of-in_turn (s ∷ ss) h = (h.0, of-waiting ss h.1)
 
-  of-preferring : (greedy : Bool) (xs ys : List State) → Each Good xs → Each Good ys → Each Good (preferring greedy xs ys)
-  of-preferring true xs ys h k = Each-append Good xs ys h k
-  of-preferring false xs ys h k = Each-append Good ys xs k h
+  of-choice_in_order_of_greediness : (greedy : Bool) (xs ys : List State) → Each Good xs → Each Good ys → Each Good (choice_in_order_of_greediness greedy xs ys)
+  of-choice_in_order_of_greediness true xs ys h k = Each-append Good xs ys h k
+  of-choice_in_order_of_greediness false xs ys h k = Each-append Good ys xs k h
 
   of-one_if : (b : Bool) (s : State) → Good s → Each Good (if b then s ∷ [] else [])
   of-one_if true s h = (h, tt)
@@ -63,9 +63,9 @@ module _ (Good : State → Type 0) where
       let leave : State = state_with_ip f.exit s in
       let agains = if nat_lt k f.max_iters then again ∷ [] else [] in
       let leaves = if nat_le f.min_iters k then leave ∷ [] else [] in
-      of-only_if (nat_lt f.loop_id (length s.loops)) (goes (first_running_and_others_waiting (preferring f.greedy agains leaves)))
-      (of-in_turn (preferring f.greedy agains leaves)
-      (of-preferring f.greedy agains leaves (of-one_if (nat_lt k f.max_iters) again h) (of-one_if (nat_le f.min_iters k) leave l)))
+      of-only_if (nat_lt f.loop_id (length s.loops)) (goes (first_running_and_others_waiting (choice_in_order_of_greediness f.greedy agains leaves)))
+      (of-in_turn (choice_in_order_of_greediness f.greedy agains leaves)
+      (of-choice_in_order_of_greediness f.greedy agains leaves (of-one_if (nat_lt k f.max_iters) again h) (of-one_if (nat_le f.min_iters k) leave l)))
 
   pub of-again_at : (o : Option Insn) (begin : ℕ) (s : State)
       → ((f : LoopFields) → o ≡ Some (EnterLoop f)

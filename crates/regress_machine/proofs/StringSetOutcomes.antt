@@ -3,17 +3,17 @@ use Rattle.std.proofs.Common.{◌≡◌, ℕ, ◌+◌, ◌≤◌, List, [], ◌�
 use Rattle.std.proofs.Common.{append-nil, slice_get}
 use Rattle.std.specs.Prelude.{if◌then◌else◌, nat_eq, ◌==◌, ◌&&◌}
 use Rattle.regex_meaning.specs.NumberListHelpers.{contains}
-use Rattle.regex_meaning.specs.Laws.{IsOnward}
+use Rattle.regex_meaning.specs.Laws.{IsAtOrAheadInDirection}
 use Rattle.regex_meaning.specs.Tree.{string_set}
 use Rattle.regex_meaning.specs.Text.{Text, Direction, rightwards, leftwards, last_place, next_character, moved, characters_ahead, expand_code_point}
 use Rattle.regex_meaning.specs.CodeUnitOffsets.{HasRisingPlaceOffsets}
 use Rattle.regex_meaning.specs.Outcomes.{Groups, Outcome, is_some_and, is_case_variant, spelled}
-use Rattle.regex_meaning.specs.OutcomesWithStepTicks.{TickOrOutcome, tick, pair, ticks, compared_count, outcomes_replaced_by_lists, ticks_before_outcomes, nearest_first}
+use Rattle.regex_meaning.specs.OutcomesWithStepTicks.{TickOrOutcome, tick, pair, ticks, number_of_compared_elements, outcomes_replaced_by_lists, ticks_before_outcomes, nearest_first}
 use Rattle.regex_meaning.specs.OutcomesWithStepTicks.{compared_code_point_count, ticked_string}
 use Rattle.regex_meaning.specs.OutcomesWithStepTicks.{ticked_strings, ticked}
 use Rattle.regex_meaning.specs.CompilationRelation.{Program, Insn, Counters, counters_after_insn, HasInsnAt, HasInsnsBetween, IsCode, IsStringCode, AreStringsCode}
 use Rattle.regex_meaning.specs.CompilationRelation.{JustFail, Char, CharSet, Alt}
-use Rattle.regex_meaning.specs.CompilationRelation.{Jump, padded, ordered, case_variants_insn}
+use Rattle.regex_meaning.specs.CompilationRelation.{Jump, padded, reversed_if_in_lookbehind, case_variants_insn}
 use Rattle.regex_meaning.proofs.CodeUnitOffsetsLemmas.{place_at-offset}
 use Rattle.regress_machine.specs.Machine.{LoopData, State, running, waiting, with_some, go_if, next_insn_at_place, read_one, act_on, act}
 use Rattle.regress_machine.proofs.ThreadYieldLemmas.{Ending, Yields, yields_none, yields_append, yields_same, yields_turn, yields_wait}
@@ -29,11 +29,11 @@ use Rattle.std.proofs.lemmas.Bool.{or_left, eq-eqb, eqb-true}
 
 -- ---- Items
 
--- one more tick, where a character was the same
+-- One more tick before `n` ticks makes `n + 1` ticks.
 pub tried_more : (n : ℕ) (xs : List TickOrOutcome) → tick ∷ (ticks n ++ xs) ≡ ticks (n + 1) ++ xs
 tried_more n xs = ap (λ m. ticks m ++ xs) (sym (add-one n))
 
--- the items of an outcome that is there where a test says so
+-- These are the items if a test holds, and no items otherwise.
 abbrev pub items_if : Bool → List TickOrOutcome → List TickOrOutcome
 items_if true items = items
 items_if false items = []
@@ -48,7 +48,7 @@ same_number c d =
     (λ h. eq-eqb c d (sym (eqb-true d c (or_false (nat_eq d c) h))))
 
 module _ (program : Program) (text : Text) (is_text : HasRisingPlaceOffsets text) where
-  in_order : (behind : Bool) (cs : List ℕ) → in_reading_order text (direction_at behind) cs ≡ ordered behind cs
+  in_order : (behind : Bool) (cs : List ℕ) → in_reading_order text (direction_at behind) cs ≡ reversed_if_in_lookbehind behind cs
   in_order true cs = refl
   in_order false cs = refl
 
@@ -58,7 +58,7 @@ module _ (program : Program) (text : Text) (is_text : HasRisingPlaceOffsets text
     abbrev at : (ip p : ℕ) → State
     at ip p = state_at program text is_text ip p g s ls
 
-    -- the instruction at ip reads one character that passes the test
+    -- The instruction at `ip` reads one character that passes the test.
     abbrev Reads : (ip p : ℕ) → (ℕ → Bool) → Type 0
     Reads ip p test = act program text d (at ip p) ≡ go_if (is_some_and (next_character text d p) test) (at (ip + 1) (moved text d 1 p))
 
@@ -78,16 +78,16 @@ module _ (program : Program) (text : Text) (is_text : HasRisingPlaceOffsets text
     spelling_reads (c ∷ e ∷ more) ip p inside has =
         reads_by (CharSet (padded c (e ∷ more))) (contains (padded c (e ∷ more))) (contains (c ∷ e ∷ more)) ip p inside has (λ t. refl) (contains-padded c (e ∷ more))
 
-    -- ---- A row of instructions
+    -- ---- Successive instructions
 
     module _ (E : Ending) (same : ℕ → ℕ → Bool) (insn_of : ℕ → Insn)
         (reads : (c ip p : ℕ) → p ≤ last_place text → slice_get program.insns ip ≡ Some (insn_of c) → Reads ip p (same c)) where
-      -- what is found where these characters are to be read, at the instruction ip
+      -- The instructions from `ip` on yield a tick per compared character, then what follows.
       abbrev RowYields : (ip end : ℕ) → List ℕ → (p : ℕ) → List TickOrOutcome → Type 0
       RowYields ip end cs p items =
           (stands same cs (nearest_first text d p) ≡ true → Yields program text d E (running (at end (moved text d (length cs) p)) ∷ []) items)
           → Yields program text d E (running (at ip p) ∷ [])
-          (ticks (compared_count same cs (nearest_first text d p)) ++ items_if (stands same cs (nearest_first text d p)) items)
+          (ticks (number_of_compared_elements same cs (nearest_first text d p)) ++ items_if (stands same cs (nearest_first text d p)) items)
 
       step_yields : (c : ℕ) (cs : List ℕ) (ip end p : ℕ) (items : List TickOrOutcome) → p ≤ last_place text → slice_get program.insns ip ≡ Some (insn_of c)
           → ((q : ℕ) → q ≤ last_place text → RowYields (ip + 1) end cs q items) → RowYields ip end (c ∷ cs) p items
@@ -100,24 +100,24 @@ module _ (program : Program) (text : Text) (is_text : HasRisingPlaceOffsets text
           by : (e : ℕ) (b : Bool) → same c e ≡ b → next_character text d p ≡ Some e
               → nearest_first text d p ≡ e ∷ nearest_first text d (moved text d 1 p) → moved text d 1 p ≤ last_place text
               → Yields program text d E (running (at ip p) ∷ [])
-              (ticks (if b then compared_count same cs (nearest_first text d (moved text d 1 p)) + 1 else 1) ++ items_if (b && stands same cs (nearest_first text d (moved text d 1 p))) items)
+              (ticks (if b then number_of_compared_elements same cs (nearest_first text d (moved text d 1 p)) + 1 else 1) ++ items_if (b && stands same cs (nearest_first text d (moved text d 1 p))) items)
           by e true is counters_after_insn rest within =
               let q = moved text d 1 p in
               let near = nearest_first text d q in
-              yields_same program text d E _ _ _ (tried_more (compared_count same cs near) (items_if (stands same cs near) items))
-              (yields_turn program text d E (at ip p) (running (at (ip + 1) q) ∷ []) (ticks (compared_count same cs near) ++ items_if (stands same cs near) items)
+              yields_same program text d E _ _ _ (tried_more (number_of_compared_elements same cs near) (items_if (stands same cs near) items))
+              (yields_turn program text d E (at ip p) (running (at (ip + 1) q) ∷ []) (ticks (number_of_compared_elements same cs near) ++ items_if (stands same cs near) items)
               (reads c ip p inside has ∙ ap (λ o. go_if (is_some_and o (same c)) (at (ip + 1) q)) counters_after_insn ∙ ap (λ b. go_if b (at (ip + 1) q)) is)
               (later q within
               (λ h. subst (λ (r : ℕ). Yields program text d E (running (at end r) ∷ []) items) (sym (moved-suc text d (length cs) p))
               (behind (ap (stands same (c ∷ cs)) rest ∙ ap (λ b. b && stands same cs near) is ∙ h)))))
           by e false is counters_after_insn rest within = fails (ap (λ o. is_some_and o (same c)) counters_after_insn ∙ is)
 
-          go : Beside text d p → Yields program text d E (running (at ip p) ∷ []) (ticks (compared_count same (c ∷ cs) (nearest_first text d p)) ++ items_if (stands same (c ∷ cs) (nearest_first text d p)) items)
+          go : Beside text d p → Yields program text d E (running (at ip p) ∷ []) (ticks (number_of_compared_elements same (c ∷ cs) (nearest_first text d p)) ++ items_if (stands same (c ∷ cs) (nearest_first text d p)) items)
           go (nothing_left none nothing left) =
-              yields_same program text d E _ _ _ (ap (λ near. ticks (compared_count same (c ∷ cs) near) ++ items_if (stands same (c ∷ cs) near) items) (sym nothing))
+              yields_same program text d E _ _ _ (ap (λ near. ticks (number_of_compared_elements same (c ∷ cs) near) ++ items_if (stands same (c ∷ cs) near) items) (sym nothing))
               (fails (ap (λ o. is_some_and o (same c)) none))
           go (one_more e is rest left within) =
-              yields_same program text d E _ _ _ (ap (λ near. ticks (compared_count same (c ∷ cs) near) ++ items_if (stands same (c ∷ cs) near) items) (sym rest))
+              yields_same program text d E _ _ _ (ap (λ near. ticks (number_of_compared_elements same (c ∷ cs) near) ++ items_if (stands same (c ∷ cs) near) items) (sym rest))
               (by e (same c e) refl is rest within)
 
       row_yields : (cs : List ℕ) (m n : Counters) (p : ℕ) (items : List TickOrOutcome) → p ≤ last_place text → HasInsnsBetween program (map insn_of cs) m n
@@ -131,14 +131,14 @@ module _ (program : Program) (text : Text) (is_text : HasRisingPlaceOffsets text
     -- ---- Strings
 
     module _ (E : Ending) (k : Outcome → List TickOrOutcome) (p : ℕ) (inside : p ≤ last_place text) where
-      -- from an instruction on, each place that was reached finds what k says
+      -- From this instruction on, each place that was reached yields what `k` says of it.
       abbrev pub Behind : (end : ℕ) → Type 0
-      Behind end = (q : ℕ) → IsOnward text d p q → q ≤ last_place text → Yields program text d E (running (at end q) ∷ []) (k (record { end = q; groups = g }))
+      Behind end = (q : ℕ) → IsAtOrAheadInDirection text d p q → q ≤ last_place text → Yields program text d E (running (at end q) ∷ []) (k (record { end = q; groups = g }))
 
-      tries_are : (icase : Bool) (string : List ℕ) → compared_code_point_count text icase string d p ≡ compared_count (is_case_variant text icase) (in_reading_order text d string) (nearest_first text d p)
+      tries_are : (icase : Bool) (string : List ℕ) → compared_code_point_count text icase string d p ≡ number_of_compared_elements (is_case_variant text icase) (in_reading_order text d string) (nearest_first text d p)
       tries_are icase string = go d
         where
-          go : (d : Direction) → compared_code_point_count text icase string d p ≡ compared_count (is_case_variant text icase) (in_reading_order text d string) (nearest_first text d p)
+          go : (d : Direction) → compared_code_point_count text icase string d p ≡ number_of_compared_elements (is_case_variant text icase) (in_reading_order text d string) (nearest_first text d p)
           go rightwards = refl
           go leftwards = refl
 
@@ -168,7 +168,7 @@ module _ (program : Program) (text : Text) (is_text : HasRisingPlaceOffsets text
           subst (λ (i : ℕ). Yields program text d E (running (at n.insn (moved text d i p)) ∷ []) (k o)) (sym long)
           (behind (moved text d (length string) p) onward (inside_by program text is_text d p (moved text d (length string) p) inside onward))))
 
-      -- the strings' code, in the order of reading
+      -- The code consists of the strings' instructions in reading order.
       abbrev AreStrings : (icase : Bool) → List (List ℕ) → (m n : Counters) → Type 0
       AreStrings icase [] m n = HasInsnsBetween program (JustFail ∷ []) m n
       AreStrings icase (x ∷ []) m n = HasInsnsBetween program (map (λ c. case_variants_insn (expand_code_point c icase program.flags.unicode)) (in_reading_order text d x)) m n
@@ -231,7 +231,7 @@ module _ (program : Program) (text : Text) (is_text : HasRisingPlaceOffsets text
       on.at (record { end = q; groups = g }) s ls (record { onward = onward; inside = within; same_groups = refl; fit = enters.fit })
       (kept_itself [] m.loop n.loop s ls))
 
-  -- in the direction that the code was made for
+  -- The code of a set of strings finds its outcomes in the direction that it was compiled for.
   pub string_set_finds : (d : Direction) (behind : Bool) (strings : List (List ℕ)) (icase : Bool) → d ≡ direction_at behind → text.unicode ≡ program.flags.unicode
       → Finds program text is_text d behind (string_set strings icase)
   string_set_finds d behind strings icase same unicode =
@@ -240,9 +240,9 @@ module _ (program : Program) (text : Text) (is_text : HasRisingPlaceOffsets text
   strings_rising : (behind icase : Bool) (strings : List (List ℕ)) (m n : Counters) → AreStringsCode program icase behind strings m n → m.loop ≤ n.loop
   strings_rising behind icase [] m n code = insns_rising program text is_text (JustFail ∷ []) m n code
   strings_rising behind icase (x ∷ []) m n code =
-      insns_rising program text is_text (map (λ c. case_variants_insn (expand_code_point c icase program.flags.unicode)) (ordered behind x)) m n code
+      insns_rising program text is_text (map (λ c. case_variants_insn (expand_code_point c icase program.flags.unicode)) (reversed_if_in_lookbehind behind x)) m n code
   strings_rising behind icase (x ∷ y ∷ more) m n code =
-      let first = insns_rising program text is_text (map (λ c. case_variants_insn (expand_code_point c icase program.flags.unicode)) (ordered behind x)) (counters_after_insn m) code.0 code.2 in
+      let first = insns_rising program text is_text (map (λ c. case_variants_insn (expand_code_point c icase program.flags.unicode)) (reversed_if_in_lookbehind behind x)) (counters_after_insn m) code.0 code.2 in
       let later = strings_rising behind icase (y ∷ more) (counters_after_insn code.0) n code.4 in
       omega (arith, first, later)
 

@@ -7,14 +7,14 @@ use Rattle.regex_meaning.specs.OutcomesWithStepTicks.{TickOrOutcome, tick, pair,
 use Rattle.regex_meaning.specs.CompilationRelation.{Program}
 use Rattle.regress_machine.specs.Machine.{State, Thread, running, waiting, goes, scans, ends, asks, Found, result_without_threads, found_at, with_steps, after_lookaround}
 use Rattle.regress_machine.specs.Machine.{after_lookaround_search, search_after_effect, act, search}
-pub use Rattle.regress_machine.specs.SearchFindsFirstOutcomeAtPlace.{first_pair}
+pub use Rattle.regress_machine.specs.SearchFindsFirstOutcomeAtPlace.{first_outcome_among_ticks}
 use Rattle.regress_machine.proofs.MachineSearchLemmas.{search_more}
 
--- an outcome and the state that stands for it
+-- An ending relates an outcome to the state at the end of the search.
 abbrev pub Ending : Type 1
 Ending = Outcome → State → Type 0
 
--- the items, with f behind them, are what was found: a step for each tick, up to a pair's state
+-- A search found the items if each tick is a step and the first outcome is its end.
 abbrev pub IsFound : Ending → List TickOrOutcome → (f found : Found) → Type 0
 IsFound E [] f g = g ≡ f
 IsFound E (tick ∷ items) f g = (h : Found) × (g ≡ record h { steps = 1 + h.steps }) × IsFound E items f h
@@ -37,18 +37,18 @@ found_ticks E zero xs f g p = subst (λ n. IsFound E xs f (record g { steps = n 
 found_ticks E (suc k) xs f g p =
     (record g { steps = k + g.steps }, steps_same (suc k + g.steps) (1 + (k + g.steps)) g (omega arith), found_ticks E k xs f g p)
 
--- what is found where nothing is behind
-pub found_first : (E : Ending) (items : List TickOrOutcome) (g : Found) → IsFound E items result_without_threads g → (g.steps ≡ ticks_to_first items) × EndIs E (first_pair items) g.end
+-- If nothing is behind the items, the steps are the ticks and the end is the first outcome.
+pub found_first : (E : Ending) (items : List TickOrOutcome) (g : Found) → IsFound E items result_without_threads g → (g.steps ≡ ticks_to_first items) × EndIs E (first_outcome_among_ticks items) g.end
 found_first E [] g p = (ap (λ (h : Found). h.steps) p, ap (λ (h : Found). h.end) p)
 found_first E (tick ∷ items) g p =
     let rest = found_first E items p.0 p.2 in
     let s = ap (λ (h : Found). h.steps) p.1 in
-    (omega (arith, s, rest.0), subst (EndIs E (first_pair items)) (sym (ap (λ (h : Found). h.end) p.1)) rest.1)
+    (omega (arith, s, rest.0), subst (EndIs E (first_outcome_among_ticks items)) (sym (ap (λ (h : Found). h.end) p.1)) rest.1)
 found_first E (pair o ∷ items) g p =
     (ap (λ (h : Found). h.steps) p.1, (p.0, ap (λ (h : Found). h.end) p.1, p.2))
 
 module _ (program : Program) (text : Text) where
-  -- the threads find these items, and then what the threads behind them find
+  -- The threads yield the items, followed by what the threads behind them find.
   pub record Yields (d : Direction) (E : Ending) (ts : List Thread) (items : List TickOrOutcome) : Type 0 where
     pub finds : (m : ℕ) (rest : List Thread) (f : Found) → search program text m d rest ≡ Some f
         → (n : ℕ) × ((g : Found) × (search program text n d (ts ++ rest) ≡ Some g) × IsFound E items f g)
@@ -67,7 +67,7 @@ module _ (program : Program) (text : Text) where
   pub yields_same : (d : Direction) (E : Ending) (ts : List Thread) (xs ys : List TickOrOutcome) → xs ≡ ys → Yields d E ts xs → Yields d E ts ys
   yields_same d E ts xs ys e y = subst (Yields d E ts) e y
 
-  -- one turn
+  -- A step that continues with threads yields a tick before their items.
   pub yields_turn : (d : Direction) (E : Ending) (s : State) (ss : List Thread) (items : List TickOrOutcome) → act program text d s ≡ goes ss → Yields d E ss items
       → Yields d E (running s ∷ []) (tick ∷ items)
   unfolding search
@@ -83,7 +83,7 @@ module _ (program : Program) (text : Text) where
         );
   }
 
-  -- one turn of a loop of one character
+  -- A step of a char loop yields a tick for itself and for each character tried.
   pub yields_scan : (d : Direction) (E : Ending) (s : State) (tries : ℕ) (ss : List Thread) (items : List TickOrOutcome) → act program text d s ≡ scans tries ss
       → Yields d E ss items → Yields d E (running s ∷ []) (tick ∷ (ticks tries ++ items))
   unfolding search
@@ -99,7 +99,7 @@ module _ (program : Program) (text : Text) where
         );
   }
 
-  -- taking up a thread that waits
+  -- A waiting thread yields a tick before the items of the running thread.
   pub yields_wait : (d : Direction) (E : Ending) (s : State) (ts : List Thread) (items : List TickOrOutcome) → Yields d E (running s ∷ ts) items
       → Yields d E (waiting s ∷ ts) (tick ∷ items)
   unfolding search
@@ -111,7 +111,7 @@ module _ (program : Program) (text : Text) where
         );
   }
 
-  -- an end
+  -- A step that ends the search yields a tick and the outcome.
   pub yields_end : (d : Direction) (E : Ending) (s : State) (o : Outcome) → act program text d s ≡ ends s → E o s → Yields d E (running s ∷ []) (tick ∷ pair o ∷ [])
   unfolding search
   yields_end d E s o e is = record {
@@ -125,10 +125,10 @@ module _ (program : Program) (text : Text) where
     );
   }
 
-  -- a lookaround
+  -- A lookaround yields a tick, the ticks of its contents and the items after its answer.
   pub yields_asks : (d inner : Direction) (E F : Ending) (s u w : State) (negate : Bool) (items xs : List TickOrOutcome)
       → act program text d s ≡ asks inner negate u w → Yields inner F (running u ∷ []) items
-      → ((e : Option State) → EndIs F (first_pair items) e → Yields d E (after_lookaround negate w e) xs)
+      → ((e : Option State) → EndIs F (first_outcome_among_ticks items) e → Yields d E (after_lookaround negate w e) xs)
       → Yields d E (running s ∷ []) (tick ∷ (ticks (ticks_to_first items) ++ xs))
   unfolding search
   yields_asks d inner E F s u w negate items xs e y z = record {

@@ -14,7 +14,7 @@ use Rattle.regex_meaning.specs.OutcomesWithStepTicks.{TickOrOutcome, tick, pair,
 use Rattle.regex_meaning.specs.WellFormedTrees.{number_of_goal_nodes, is_end_of_cat, ends_in_goal}
 use Rattle.regex_meaning.specs.CompilationRelation.{Program, Counters, counters_after_insn, counters_at_start, IsCode, Goal, anchor_insn, word_boundary_insn, BackRef}
 use Rattle.regress_machine.specs.Machine.{LoopData, State, running, result_without_threads, search}
-use Rattle.regress_machine.specs.SearchFindsFirstOutcomeAtPlace.{state_before_first_insn, end_in_offsets, end_of, first_pair, TreeProgramCanSearchText, sufficient_turns_at}
+use Rattle.regress_machine.specs.SearchFindsFirstOutcomeAtPlace.{state_before_first_insn, end_in_offsets, end_of, first_outcome_among_ticks, TreeProgramCanSearchText, sufficient_turns_at}
 use Rattle.regress_machine.specs.SearchFindsFirstOutcomeAtPlace.{FindsFirstOutcome}
 use Rattle.regress_machine.proofs.MachineSearchLemmas.{search_enough}
 use Rattle.regress_machine.proofs.ThreadYieldLemmas.{Ending, EndIs, found_first, Yields, yields_same, yields_end}
@@ -39,7 +39,7 @@ and_then-itself [] = refl
 and_then-itself (tick ∷ items) = ap (λ (l : List TickOrOutcome). tick ∷ l) (and_then-itself items)
 and_then-itself (pair o ∷ items) = ap (λ (l : List TickOrOutcome). pair o ∷ l) (and_then-itself items)
 
--- a node that ends in a goal has one
+-- A node that ends in a goal contains a goal.
 goal_inside : (node : Node) → ends_in_goal node ≡ true → 1 ≤ number_of_goal_nodes node
 goal_inside goal h = omega arith
 goal_inside (cat first rest) h = by (is_end_of_cat rest) h (goal_inside first) (goal_inside rest)
@@ -51,7 +51,7 @@ goal_inside (cat first rest) h = by (is_end_of_cat rest) h (goal_inside first) (
 goal_inside _ h = cc
 
 module _ (program : Program) (text : Text) (is_text : HasRisingPlaceOffsets text) where
-  -- the mark's number of loops does not fall
+  -- The number of loops does not fall over the code of a node.
   tree_rising : (behind : Bool) (node : Node) → Ready text program.groups node → Rising program text is_text behind node
   unfolding IsCode
   tree_rising behind empty r m n code = let e = ap (λ (m : Counters). m.loop) code in omega (arith, e)
@@ -81,12 +81,12 @@ module _ (program : Program) (text : Text) (is_text : HasRisingPlaceOffsets text
   tree_rising behind (loop_1_char_body q loopee) r m n code =
       loop_1_char_body_rising program text is_text behind q loopee (tree_rising behind loopee r.4) m n code
 
-  -- an outcome and a state at its end
+  -- The state at the end has the end and the groups of the outcome.
   abbrev pub AtEnd : Ending
   AtEnd o t = end_of t ≡ end_in_offsets text o
 
   module _ (unicode : text.unicode ≡ program.flags.unicode) where
-    -- the code of a node without a goal
+    -- The code of a node without a goal finds the outcomes of that node.
     tree_finds : (d : Direction) (behind : Bool) → d ≡ direction_at behind → (node : Node) → Ready text program.groups node → number_of_goal_nodes node ≡ 0 → Finds program text is_text d behind node
     unfolding IsCode ticked outcomes
     tree_finds d behind ahead empty r h E m n p g s ls k code enters on = nothing_finds program text is_text d E m n p [] g s ls k code enters on
@@ -126,7 +126,7 @@ module _ (program : Program) (text : Text) (is_text : HasRisingPlaceOffsets text
     tree_finds d behind ahead (loop_1_char_body q loopee) r h E m n p g s ls k code enters on =
         loop_1_char_body_finds program text is_text d behind q loopee r.0 r.1 r.2 r.3 E m n p g s ls k code enters on
 
-    -- the code of a node that ends in the goal
+    -- The code of a node that ends in its only goal yields the node's items.
     root_finds : (node : Node) → Ready text program.groups node → ends_in_goal node ≡ true → number_of_goal_nodes node ≡ 1
         → (m n : Counters) (p : ℕ) (g : Groups) (s : List ℕ) (ls : List LoopData) → IsCode program false node m n → Enters program text is_text p g s ls n.loop
         → Yields program text rightwards AtEnd (running (state_at program text is_text m.insn p g s ls) ∷ []) (ticked text node rightwards p g)
@@ -196,5 +196,5 @@ searches-find program tree text can place inside =
           subst (λ s. search program text (sufficient_turns_at tree text place) rightwards (running s ∷ []) ≡ Some a.1.0) begins
           (search_enough program text a.0 (sufficient_turns_at tree text place) rightwards (running s0 ∷ []) a.1.0 a.1.1 (omega (arith, found.0)));
       steps = found.0;
-      end = same_end text (first_pair items) a.1.0.end found.1;
+      end = same_end text (first_outcome_among_ticks items) a.1.0.end found.1;
     }

@@ -17,7 +17,7 @@ slice_get-set_other (x ∷ xs) zero (suc j) v h = refl
 slice_get-set_other (x ∷ xs) (suc i) zero v h = refl
 slice_get-set_other (x ∷ xs) (suc i) (suc j) v h = slice_get-set_other xs i j v (λ e. h (ap suc e))
 
--- the starts of groups but for these, and the loops below one number and from another on, are as they were
+-- The starts of groups outside `ids`, and the loops below `lo` and from `hi` on, are unchanged.
 pub record Kept (ids : List ℕ) (lo hi : ℕ) (s s' : List ℕ) (ls ls' : List LoopData) : Type 0 where
   pub starts_length : length s' ≡ length s
   pub starts : (i : ℕ) → contains ids i ≡ false → slice_get s' i ≡ slice_get s i
@@ -34,7 +34,7 @@ kept_itself ids lo hi s ls = record {
   above = λ i h. refl;
 }
 
--- each number outside the second list is outside the first
+-- Each number outside the second list is outside the first one.
 abbrev pub Inside : (ids others : List ℕ) → Type 0
 Inside ids others = (i : ℕ) → contains others i ≡ false → contains ids i ≡ false
 

@@ -10,14 +10,14 @@ use Rattle.regex_meaning.specs.NumberListHelpers.{contains, numbers_from}
 use Rattle.regex_meaning.specs.Tree.{Node, char, char_set, byte_set, byte_sequence, cat, alt, bracket, match_any, match_any_except_line_terminator}
 use Rattle.regex_meaning.specs.Tree.{capture_group, back_ref, lookaround, loop, loop_1_char_body, group_ids, every_node_passes}
 use Rattle.regex_meaning.specs.Text.{Text}
-use Rattle.regex_meaning.specs.WellFormedTrees.{IsWellFormed, encloses, has_exact_group_range, refers_to_a_group, is_one_character}
+use Rattle.regex_meaning.specs.WellFormedTrees.{IsWellFormed, range_is_ids_of_enclosed_groups, has_exact_group_range, refers_to_a_group, is_one_character}
 use Rattle.regex_meaning.specs.WellFormedTrees.{has_one_character_body, has_text_in_sequence, set_sizes_and_characters_fit_instructions}
 use Rattle.regex_meaning.proofs.WellFormedTreesLemmas.{clauses}
 use Rattle.regress_machine.specs.TextsForBytePrograms.{HasUtf8CharactersAndOffsets, tree_contains_byte_nodes}
 use Rattle.regress_machine.proofs.LoopOutcomes.{AreBelow}
 use Rattle.regex_meaning.proofs.BoolLemmas.{or-false-left, or-false-right, and-left, and-right}
 
--- what the proofs of a node rest on, where there are n groups
+-- These are the properties of a node that the proof of its code requires, with `n` groups.
 abbrev pub Ready : Text → (n : ℕ) → Node → Type 0
 Ready text n (byte_set members) = HasUtf8CharactersAndOffsets text × (set_sizes_and_characters_fit_instructions (byte_set members) ≡ true)
 Ready text n (byte_sequence bytes) = HasUtf8CharactersAndOffsets text × (has_text_in_sequence (byte_sequence bytes) ≡ true)
@@ -88,7 +88,7 @@ count-below_next n (x ∷ xs) =
     let c = count-one (nat_eq n) x xs in
     omega (arith, a, b, c, below-next n x, count-below_next n xs)
 
--- where each number below n stands once, as many as n are below n
+-- If each number below `n` occurs once, `n` elements are below `n`.
 count-below : (n : ℕ) (ids : List ℕ) → ((id : ℕ) → id < n → count id ids ≡ 1) → count_by (λ x. nat_lt x n) ids ≡ n
 count-below zero ids h = none ids
   where
@@ -105,7 +105,7 @@ count-below (suc n) ids h =
 count-le : (p : ℕ → Bool) (ids : List ℕ) → count_by p ids ≤ length ids
 count-le p ids = count_by-le-length p ids
 
--- where as many pass as there are, each passes
+-- If as many elements pass as the list has, each one passes.
 count-all : (p : ℕ → Bool) (ids : List ℕ) → count_by p ids ≡ length ids → (id : ℕ) → contains ids id ≡ true → p id ≡ true
 count-all p [] e id h = cc
 count-all p (x ∷ xs) e id h = by (p x) (nat_eq id x) refl refl (count-one p x xs) (λ f inside. count-all p xs f id inside)
@@ -134,7 +134,7 @@ distinct-by (x ∷ xs) h =
     let none : count x xs ≡ 0 = let few = h x in omega arith in
     (absent x xs none, distinct-by xs (λ id. let few = h id in let d = count-one (nat_eq id) x xs in omega arith))
 
--- a test of numbers in a row
+-- A test of successive numbers holds of each of them.
 all_numbers : (p : ℕ → Bool) (first n : ℕ) → list_all p (numbers_from first n) ≡ true → (i : ℕ) → first ≤ i → i < first + n → p i ≡ true
 all_numbers p first zero h i le less = absurd (omega arith)
 all_numbers p first (suc n) h i le less = by (nat_eq i first) refl (λ a b. all_numbers p (first + 1) n (and-right (p first) _ h) i a b)
@@ -174,7 +174,7 @@ ids-distinct ids h = distinct-by ids few
 
 -- ---- Nodes
 
--- what a well-formed tree and a text say of a node inside the tree
+-- A node inside a well-formed tree has these properties for a text that the tree can search.
 pub record Sound (text : Text) (n : ℕ) (node : Node) : Type 0 where
   pub names : every_node_passes has_exact_group_range node ≡ true
   pub refers : every_node_passes (refers_to_a_group n) node ≡ true
@@ -185,18 +185,18 @@ pub record Sound (text : Text) (n : ℕ) (node : Node) : Type 0 where
   pub below : AllBelow n (group_ids node)
   pub distinct : Distinct (group_ids node)
 
--- a node holds two others
+-- A test holds of all nodes of this one exactly if it holds of itself and of two other nodes.
 abbrev Holds : (node a b : Node) → Type 0
 Holds node a b = (test : Node → Bool) → every_node_passes test node ≡ (test node && every_node_passes test a && every_node_passes test b)
 
--- a test of one of the two, and of the other
+-- A test that all nodes pass is passed by all nodes of the first part.
 of_left : (test : Node → Bool) (node a b : Node) → Holds node a b → every_node_passes test node ≡ true → every_node_passes test a ≡ true
 of_left test node a b holds h = and-right (test node) (every_node_passes test a) (and-left (test node && every_node_passes test a) (every_node_passes test b) (sym (holds test) ∙ h))
 
 of_right : (test : Node → Bool) (node a b : Node) → Holds node a b → every_node_passes test node ≡ true → every_node_passes test b ≡ true
 of_right test node a b holds h = and-right (test node && every_node_passes test a) (every_node_passes test b) (sym (holds test) ∙ h)
 
--- of a node inside another one
+-- If a node is sound, its part is sound.
 sound_part : (text : Text) (n : ℕ) (node a : Node) → ((test : Node → Bool) → every_node_passes test node ≡ true → every_node_passes test a ≡ true)
     → (tree_contains_byte_nodes a ≡ true → tree_contains_byte_nodes node ≡ true) → AllBelow n (group_ids a) → Distinct (group_ids a) → Sound text n node → Sound text n a
 sound_part text n node a holds reads below distinct s = record {
@@ -210,7 +210,7 @@ sound_part text n node a holds reads below distinct s = record {
   distinct = distinct;
 }
 
--- of one that holds two, each
+-- If a node of two parts is sound, each part is sound.
 module _ (text : Text) (n : ℕ) (node a b : Node) (holds : Holds node a b) (ids : group_ids node ≡ group_ids a ++ group_ids b)
     (reads : tree_contains_byte_nodes node ≡ (tree_contains_byte_nodes a || tree_contains_byte_nodes b)) (s : Sound text n node) where
   sound_left : Sound text n a
@@ -225,13 +225,13 @@ module _ (text : Text) (n : ℕ) (node a b : Node) (holds : Holds node a b) (ids
       (λ id h. s.below id (ap (λ (l : List ℕ). contains l id) ids ∙ contains-right (group_ids a) (group_ids b) id h))
       (distinct-right (group_ids a) (group_ids b) (subst Distinct ids s.distinct)) s
 
--- of a node that holds one other
+-- If a node of one part is sound, the part is sound.
 sound_inside : (text : Text) (n : ℕ) (node a : Node) → ((test : Node → Bool) → every_node_passes test node ≡ (test node && every_node_passes test a))
     → tree_contains_byte_nodes node ≡ tree_contains_byte_nodes a → AllBelow n (group_ids a) → Distinct (group_ids a) → Sound text n node → Sound text n a
 sound_inside text n node a holds reads below distinct s =
     sound_part text n node a (λ test h. and-right (test node) (every_node_passes test a) (sym (holds test) ∙ h)) (λ h. reads ∙ h) below distinct s
 
-below_named : (first end n : ℕ) (contents : Node) → encloses first end contents ≡ true → AllBelow n (group_ids contents) → AreBelow first (end - first) n
+below_named : (first end n : ℕ) (contents : Node) → range_is_ids_of_enclosed_groups first end contents ≡ true → AllBelow n (group_ids contents) → AreBelow first (end - first) n
 below_named first end n contents h below i le less =
     below i (all_numbers (contains (group_ids contents)) first (end - first) (and-right _ _ h) i le less)
 
@@ -241,7 +241,7 @@ back_ref-below n group h =
     let b : group ≤ n = leb-true group n (and-right (nat_le 1 group) (nat_le group n) h) in
     omega arith
 
--- a test of a node of one character holds of the node itself
+-- A test that all nodes pass is passed by a node of one character.
 of_one : (test : Node → Bool) (node : Node) → is_one_character node ≡ true → every_node_passes test node ≡ true → test node ≡ true
 of_one test (char c) one h = h
 of_one test (char_set members) one h = h
@@ -273,7 +273,7 @@ module _ (text : Text) (n : ℕ) where
   ready (back_ref group icase) s = back_ref-below n group s.refers
   ready (lookaround l contents) s = ready contents (sound_inside text n (lookaround l contents) contents (λ test. refl) refl s.below s.distinct s)
   ready (loop q first end loopee) s = (
-    below_named first end n loopee (and-left (encloses first end loopee) (every_node_passes has_exact_group_range loopee) s.names) s.below,
+    below_named first end n loopee (and-left (range_is_ids_of_enclosed_groups first end loopee) (every_node_passes has_exact_group_range loopee) s.names) s.below,
     ready loopee (sound_inside text n (loop q first end loopee) loopee (λ test. refl) refl s.below s.distinct s),
   )
   ready (loop_1_char_body q loopee) s =

@@ -9,7 +9,7 @@ use Rattle.regex_meaning.specs.CompilationRelation.{Program, Insn, Goal, Char, C
 use Rattle.regex_meaning.specs.CompilationRelation.{MatchAnyExceptLineTerminator, StartOfLine, EndOfLine, WordBoundary, WordBoundaryUnicodeICase, Alt, Jump}
 use Rattle.regex_meaning.specs.CompilationRelation.{EnterLoop, LoopAgain, ResetCaptureGroup, Loop1CharBody, BeginCaptureGroup, EndCaptureGroup, BackRef}
 use Rattle.regex_meaning.specs.CompilationRelation.{Lookahead, Lookbehind}
-use Rattle.regress_machine.specs.Machine.{State, running, test_of, has_bytes}
+use Rattle.regress_machine.specs.Machine.{State, running, test_of, occurs_beside_offset}
 use Rattle.regress_machine.specs.ThreadSimulation.{FindsNothing}
 
 module _ (text : Text) (at : ℕ) where
@@ -35,7 +35,7 @@ module _ (program : Program) (text : Text) (at : ℕ) (may : ℕ → Bool) where
   insn_may_find (Some (Char c)) ip = accepts_char_at_offset text at (test_of program (Some (Char c)))
   insn_may_find (Some (CharSet members)) ip = accepts_char_at_offset text at (test_of program (Some (CharSet members)))
   insn_may_find (Some (ByteSet members)) ip = accepts_char_at_offset text at (test_of program (Some (ByteSet members)))
-  insn_may_find (Some (ByteSeq bytes)) ip = has_bytes (encode_utf8_all text.characters) rightwards bytes at
+  insn_may_find (Some (ByteSeq bytes)) ip = occurs_beside_offset (encode_utf8_all text.characters) rightwards bytes at
   insn_may_find (Some (AsciiBracket members)) ip =
       accepts_char_at_offset text at (test_of program (Some (AsciiBracket members)))
   insn_may_find (Some (Bracket index)) ip = accepts_char_at_offset text at (test_of program (Some (Bracket index)))
@@ -68,11 +68,12 @@ module _ (program : Program) (text : Text) (at : ℕ) (may : ℕ → Bool) where
 
 -- `may` is closed: each instruction that `may` excludes at the offset is also excluded by
 -- `insn_may_find`.
-pub record IsClosed (program : Program) (text : Text) (at : ℕ) (may : ℕ → Bool) : Type 0 where
+pub record IsClosedSetOfInsnsThatMayFind (program : Program) (text : Text) (at : ℕ) (may : ℕ → Bool) : Type 0 where
   pub closed : (ip : ℕ) → may ip ≡ false → insn_may_find program text at may (slice_get program.insns ip) ip ≡ false
 
 -- A state whose instruction is excluded at its offset finds nothing, whatever its groups and loops.
 abbrev pub InsnsExcludedAtOffsetFindNothing : Type 0
 InsnsExcludedAtOffsetFindNothing = (program : Program) (text : Text) → HasRisingPlaceOffsets text
     → (may : ℕ → Bool) (s : State)
-    → IsClosed program text s.pos may → may s.ip ≡ false → FindsNothing program text rightwards (running s)
+    → IsClosedSetOfInsnsThatMayFind program text s.pos may → may s.ip ≡ false
+    → FindsNothing program text rightwards (running s)

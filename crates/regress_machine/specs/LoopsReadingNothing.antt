@@ -8,8 +8,8 @@ use Rattle.regress_machine.specs.InsnEffects.{body_entered_with_iteration_count}
 use Rattle.regress_machine.specs.ThreadSimulation.{Simulates}
 
 -- The instruction is a jump to a later instruction, at most to `stop`.
-abbrev pub LeadsTo : (stop ip : ℕ) → Insn → Type 0
-LeadsTo stop ip insn = (to : ℕ) × (insn ≡ Jump to) × (ip < to) × (to ≤ stop)
+abbrev pub IsForwardJumpWithin : (stop ip : ℕ) → Insn → Type 0
+IsForwardJumpWithin stop ip insn = (to : ℕ) × (insn ≡ Jump to) × (ip < to) × (to ≤ stop)
 
 -- If `forks`, the instruction is an alternation whose secondary arm is later, at most at `stop`;
 -- otherwise it resets, begins or ends a group.
@@ -20,7 +20,7 @@ ForksOrChanges false stop ip insn = (id : ℕ) × ((insn ≡ ResetCaptureGroup i
 
 -- The instruction reads nothing and leads onward, so a thread at it keeps its position in the text.
 abbrev pub ReadsNothingAndLeadsOnward : (forks : Bool) → (stop ip : ℕ) → Insn → Type 0
-ReadsNothingAndLeadsOnward forks stop ip insn = LeadsTo stop ip insn ⊎ ForksOrChanges forks stop ip insn
+ReadsNothingAndLeadsOnward forks stop ip insn = IsForwardJumpWithin stop ip insn ⊎ ForksOrChanges forks stop ip insn
 
 -- A thread from instruction `from` reaches `stop` without reading anything. On the way there is no
 -- alternation, or no group is changed.
@@ -30,7 +30,7 @@ ReadsNothingUntil forks program from stop =
     → ReadsNothingAndLeadsOnward forks stop ip insn
 
 -- The body of the loop that begins at `begin` reads nothing.
-pub record HasEmptyBody (program : Program) (begin : ℕ) (f : LoopFields) : Type 0 where
+pub record LoopBodyReadsNothing (program : Program) (begin : ℕ) (f : LoopFields) : Type 0 where
   pub stop : ℕ
   pub behind : begin < stop
   pub enters : slice_get program.insns begin ≡ Some (EnterLoop f)
@@ -42,7 +42,7 @@ pub record HasEmptyBody (program : Program) (begin : ℕ) (f : LoopFields) : Typ
 -- one.
 abbrev pub LastRequiredEmptyIterationReplacesOthers : Type 0
 LastRequiredEmptyIterationReplacesOthers = (program : Program) (text : Text) (d : Direction) (begin : ℕ)
-    (f : LoopFields) → HasEmptyBody program begin f → f.min_iters ≤ f.max_iters
+    (f : LoopFields) → LoopBodyReadsNothing program begin f → f.min_iters ≤ f.max_iters
     → (k : ℕ) → k < f.min_iters → (s : State)
     → Simulates program text false d 0 (running (body_entered_with_iteration_count f.loop_id begin (f.min_iters - 1) s)
     ∷ []) (running (body_entered_with_iteration_count f.loop_id begin k s) ∷ [])

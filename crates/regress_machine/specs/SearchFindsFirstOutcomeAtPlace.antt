@@ -22,10 +22,10 @@ state_before_first_insn program at = record {
 }
 
 -- The first outcome of a list of ticks and outcomes.
-abbrev pub first_pair : List TickOrOutcome → Option Outcome
-first_pair [] = None
-first_pair (tick ∷ items) = first_pair items
-first_pair (pair o ∷ items) = Some o
+abbrev pub first_outcome_among_ticks : List TickOrOutcome → Option Outcome
+first_outcome_among_ticks [] = None
+first_outcome_among_ticks (tick ∷ items) = first_outcome_among_ticks items
+first_outcome_among_ticks (pair o ∷ items) = Some o
 
 -- Groups with offsets instead of places.
 abbrev pub groups_in_offsets : Text → Groups → Groups
@@ -59,7 +59,8 @@ pub record FindsFirstOutcome (program : Program) (tree : Tree) (text : Text) (pl
   pub searches : search program text (sufficient_turns_at tree text place) rightwards
       (running (state_before_first_insn program (offset text place)) ∷ []) ≡ Some found
   pub steps : found.steps ≡ ticks_to_first (items_at tree text place)
-  pub end : option_map end_of found.end ≡ option_map (end_in_offsets text) (first_pair (items_at tree text place))
+  pub end : option_map end_of found.end ≡ option_map (end_in_offsets text)
+      (first_outcome_among_ticks (items_at tree text place))
 
 -- Searches from all places of a text find the first outcome.
 abbrev pub SearchesFindFirstOutcome : Type 0

@@ -8,7 +8,7 @@ use Rattle.regex_meaning.specs.MatchGroupsByNumberAndName.{Answer}
 use Rattle.regex_meaning.specs.Replace.{replaced}
 use Rattle.regex_meaning.proofs.EachElementLemmas.{Each-append}
 use Rattle.regress_search.specs.declared.exec.Match.{Match}
-use Rattle.regress_match.specs.ClosureReplacement.{Answered, AreClosureResults, IsClosureErrorOrOutOfMemory, CanRefuseWith, IsReplacedBy, ClosureFailedAtMatch}
+use Rattle.regress_match.specs.ClosureReplacement.{ClosureMayReturnForMatch, AreClosureResults, IsClosureErrorOrOutOfMemory, IsPossibleReplaceError, IsReplacedBy, ClosureFailedAtMatch}
 use Rattle.regress_match.specs.declared.api.compile_and_replace_errors.ReplaceError.{ReplaceError}
 use Rattle.regress_match.specs.declared.api.compile_and_replace_errors.ReplaceError.TheVariants.{Search, Closure}
 
@@ -33,7 +33,7 @@ module _ {T E : Type 0} (says : Bor Match → Result T E → Type 0) (units : T 
     -- The next match is replaced by the closure's result.
     pub goes : (rest : List Answer) (to : ℕ) (reached next : List ℕ) (m : Answer) (piece : T) → left ≡ m ∷ rest
         → reached ≡ made ++ slice_range text from m.range.0 → next ≡ reached ++ units piece → to ≡ m.range.1
-        → Answered says m (Ok piece) → IsBegun ms rest to next
+        → ClosureMayReturnForMatch says m (Ok piece) → IsBegun ms rest to next
     unfolding replaced
     goes rest to reached next m piece l r n t says_so =
         let first = (λ (p : Answer × List ℕ). p.0) in
@@ -62,7 +62,7 @@ module _ {T E : Type 0} (says : Bor Match → Result T E → Type 0) (units : T 
     }
 
     -- If the closure fails at the next match, the replacement fails with that error.
-    pub refuses : (rest : List Answer) (m : Answer) (e : E) → left ≡ m ∷ rest → Answered says m (Err e) → ClosureFailedAtMatch says units ms e
+    pub refuses : (rest : List Answer) (m : Answer) (e : E) → left ≡ m ∷ rest → ClosureMayReturnForMatch says m (Err e) → ClosureFailedAtMatch says units ms e
     refuses rest m e l says_so = record {
       before = b.pieces;
       at = m;
@@ -72,22 +72,22 @@ module _ {T E : Type 0} (says : Bor Match → Result T E → Type 0) (units : T 
       refused = says_so;
     }
 
-    module _ (rest : List Answer) (m : Answer) (answer : Result T E) (l : left ≡ m ∷ rest) (says_so : Answered says m answer) where
+    module _ (rest : List Answer) (m : Answer) (answer : Result T E) (l : left ≡ m ∷ rest) (says_so : ClosureMayReturnForMatch says m answer) where
       -- If the closure's result was written, the next match is replaced.
       pub goes-answered : (to : ℕ) (reached next : List ℕ) → reached ≡ made ++ slice_range text from m.range.0
           → IsOkAnd answer (λ piece. next ≡ reached ++ units piece) → to ≡ m.range.1 → IsBegun ms rest to next
       goes-answered to reached next r n t = by answer n says_so
         where
-          by : (answer : Result T E) → IsOkAnd answer (λ piece. next ≡ reached ++ units piece) → Answered says m answer → IsBegun ms rest to next
+          by : (answer : Result T E) → IsOkAnd answer (λ piece. next ≡ reached ++ units piece) → ClosureMayReturnForMatch says m answer → IsBegun ms rest to next
           by (Ok piece) n h = goes rest to reached next m piece l r n t h
           by (Err e) n h = absurd n
 
       -- An error of the replacement is the closure's error or an allocation failure.
       pub refuses-answered : {W : Type 0} (r : Result W (ReplaceError E)) (e : ReplaceError E) → IsErrAnd r (λ x. x ≡ e) → IsClosureErrorOrOutOfMemory answer e
-          → IfErr r (CanRefuseWith says units ms)
+          → IfErr r (IsPossibleReplaceError says units ms)
       refuses-answered (Ok x) e h can = absurd h
-      refuses-answered (Err x) e h can = subst (CanRefuseWith says units ms) (sym h) (by e can)
+      refuses-answered (Err x) e h can = subst (IsPossibleReplaceError says units ms) (sym h) (by e can)
         where
-          by : (e : ReplaceError E) → IsClosureErrorOrOutOfMemory answer e → CanRefuseWith says units ms e
+          by : (e : ReplaceError E) → IsClosureErrorOrOutOfMemory answer e → IsPossibleReplaceError says units ms e
           by (Search e) can = can.1
-          by (Closure e) can = refuses rest m e l (subst (Answered says m) can says_so)
+          by (Closure e) can = refuses rest m e l (subst (ClosureMayReturnForMatch says m) can says_so)

@@ -8,10 +8,10 @@ use Rattle.regex_meaning.specs.Text.{Text, last_place}
 use Rattle.regex_meaning.specs.CodeUnitOffsets.{IsBoundary, HasRisingPlaceOffsets, units}
 use Rattle.regex_meaning.specs.MatchGroupsByNumberAndName.{Answer, answers_from}
 use Rattle.regex_meaning.specs.SearchAnswers.{answer_at, answer_then_list, answers_on, first_answer, next_start}
-use Rattle.regex_meaning.specs.Laws.{Each, IsAnswerOf, IsRange}
+use Rattle.regex_meaning.specs.Laws.{Each, IsWellFormedAnswerFor, IsRangeOfWholeCharacters}
 use Rattle.regex_meaning.proofs.SearchAnswersLemmas.{answers-go_on, first_answer-stands}
 use Rattle.regex_meaning.proofs.MatchAtOffsetLemmas.{matches_at-first}
-use Rattle.regex_meaning.proofs.MatchOrderLemmas.{answers-IsAnswerOf}
+use Rattle.regex_meaning.proofs.MatchOrderLemmas.{answers-IsWellFormedAnswerFor}
 use Rattle.regex_meaning.proofs.CodeUnitOffsetsLemmas.{IsBoundary-place, offset-le}
 use Rattle.regress_search.specs.MatchesAsSpecAnswers.{answer_of}
 use Rattle.regress_search.specs.declared.exec.Match.{Match}
@@ -45,10 +45,10 @@ module _ (root : Node) (text : Text) (is : HasRisingPlaceOffsets text) where
   -- ---- Text of 16-bit units
 
   module _ (us : List ℕ) (size : units text ≡ length us) where
-    within : (range : ℕ × ℕ) → IsRange text range → IsRangeWithinUnits us range
+    within : (range : ℕ × ℕ) → IsRangeOfWholeCharacters text range → IsRangeWithinUnits us range
     within range h = (h.0, let le = boundary-within range.1 h.2 in omega (arith, le, size))
 
-    all-within : (groups : List (Option (ℕ × ℕ))) → Each (λ g. IfSome g (IsRange text)) groups → Each (λ g. IfSome g (IsRangeWithinUnits us)) groups
+    all-within : (groups : List (Option (ℕ × ℕ))) → Each (λ g. IfSome g (IsRangeOfWholeCharacters text)) groups → Each (λ g. IfSome g (IsRangeWithinUnits us)) groups
     all-within [] h = tt
     all-within (None ∷ groups) h = (tt, all-within groups h.1)
     all-within (Some range ∷ groups) h = (within range h.0, all-within groups h.1)
@@ -56,7 +56,7 @@ module _ (root : Node) (text : Text) (is : HasRisingPlaceOffsets text) where
     -- The first match from an offset on lies within the text's units.
     pub first-fits_units : (start : ℕ) (m : Answer) → first_answer root text start ≡ Some m → MatchRangesLieWithinUnits us m
     first-fits_units start m e =
-        let answer = (subst (Each (IsAnswerOf root text)) (first-heads start m e) (answers-IsAnswerOf root text is start)).0 in
+        let answer = (subst (Each (IsWellFormedAnswerFor root text)) (first-heads start m e) (answers-IsWellFormedAnswerFor root text is start)).0 in
         record { whole = within m.range answer.whole; groups = all-within m.captures answer.groups }
 
     pub found-fits_units : (start : ℕ) (found : Option Match) → option_map answer_of found ≡ first_answer root text start

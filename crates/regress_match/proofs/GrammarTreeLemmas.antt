@@ -5,7 +5,7 @@ use Rattle.regex_meaning.specs.Text as text
 use Rattle.regex_meaning.specs.MatchGroupsByNumberAndName.{Answer, answers_from}
 use Rattle.regex_meaning.specs.Grammar.{PatternDialect, ParsesBy, profile}
 use Rattle.regex_meaning.specs.EcmaGrammarWithAnnexB.{ecmascript}
-use Rattle.regex_meaning.proofs.UniqueTreeLemmas.{one_tree}
+use Rattle.regex_meaning.proofs.UniqueTreeLemmas.{pattern_has_at_most_one_tree}
 use Rattle.regex_meaning.proofs.EcmaGrammarLemmas.{one-tree}
 use Rattle.regex_pattern_front.proofs.OptimizedTreesLemmas.{answers-optimized}
 use Rattle.regress_program.specs.OptimizedTreeUnlessNoOpt.{planned_tree}
@@ -46,7 +46,7 @@ module _ (s : PatternDialect) (one : HasOneTree s) where
   )
 
 pub searches-follow : SearchesFollowThePattern
-searches-follow = follow profile one_tree
+searches-follow = follow profile pattern_has_at_most_one_tree
 
 pub ecmascript-searches-follow : SearchesFollowGrammar ecmascript
 ecmascript-searches-follow = follow ecmascript one-tree

@@ -6,12 +6,12 @@ use Rattle.std.specs.Prelude.{slice_get, unwrap_or}
 use Rattle.std.specs.Option.{option_or}
 use Rattle.regex_meaning.specs.Tree.{Node}
 use Rattle.regex_meaning.specs.Text.{utf8_text}
-use Rattle.regex_meaning.specs.Laws.{Each, AreAscendingDisjointAnswersFrom, IsAnswerOf, IsRange}
+use Rattle.regex_meaning.specs.Laws.{Each, AreAscendingDisjointAnswersFrom, IsWellFormedAnswerFor, IsRangeOfWholeCharacters}
 use Rattle.regex_meaning.specs.Outcomes.{group_range}
 use Rattle.regex_meaning.specs.MatchGroupsByNumberAndName.{Answer, answers_from, first_appearances, first_range, ids_named, named_groups}
 use Rattle.regex_meaning.specs.StepBudget.{items_within_steps}
 use Rattle.regex_meaning.proofs.SameMatchesAcrossEncodings.{ascii-utf8}
-use Rattle.regex_meaning.proofs.MatchOrderLemmas.{answers-IsAnswerOf, answers-StandInOrder}
+use Rattle.regex_meaning.proofs.MatchOrderLemmas.{answers-IsWellFormedAnswerFor, answers-StandInOrder}
 use Rattle.regex_meaning.proofs.CodeUnitOffsetsLemmas.{utf8_text-IsText}
 use Rattle.regress_input.proofs.Utf8Slices.{char_boundary}
 use Rattle.regress_search.specs.MatchesAsSpecAnswers.{answer_of}
@@ -26,15 +26,15 @@ use Rattle.regress_match.specs.declared.api.regex.Regex.{Regex}
 -- ---- Matches in the text
 
 module _ (bytes : List ℕ) (unicode : Bool) (is_utf8 : IsUtf8 bytes) where
-  slice_of : (range : ℕ × ℕ) → IsRange (utf8_text bytes unicode) range → IsCharBoundaryRange bytes range
+  slice_of : (range : ℕ × ℕ) → IsRangeOfWholeCharacters (utf8_text bytes unicode) range → IsCharBoundaryRange bytes range
   slice_of range h = (h.0, char_boundary bytes unicode ∣ is_utf8 ∣₁ range.0 h.1, char_boundary bytes unicode ∣ is_utf8 ∣₁ range.1 h.2)
 
-  slices_of : (groups : List (Option (ℕ × ℕ))) → Each (λ g. IfSome g (IsRange (utf8_text bytes unicode))) groups → Each (λ g. IfSome g (IsCharBoundaryRange bytes)) groups
+  slices_of : (groups : List (Option (ℕ × ℕ))) → Each (λ g. IfSome g (IsRangeOfWholeCharacters (utf8_text bytes unicode))) groups → Each (λ g. IfSome g (IsCharBoundaryRange bytes)) groups
   slices_of [] h = tt
   slices_of (None ∷ groups) h = (tt, slices_of groups h.1)
   slices_of (Some range ∷ groups) h = (slice_of range h.0, slices_of groups h.1)
 
-  stand : (root : Node) (low from : ℕ) (ms : List Answer) → from ≤ low → AreAscendingDisjointAnswersFrom low ms → Each (IsAnswerOf root (utf8_text bytes unicode)) ms → MatchesFitTextInOrderFrom bytes from ms
+  stand : (root : Node) (low from : ℕ) (ms : List Answer) → from ≤ low → AreAscendingDisjointAnswersFrom low ms → Each (IsWellFormedAnswerFor root (utf8_text bytes unicode)) ms → MatchesFitTextInOrderFrom bytes from ms
   stand root low from [] le h k = tt
   stand root low from (m ∷ ms) le h k =
       (omega (arith, h.0), record { whole = slice_of m.range k.0.whole; groups = slices_of m.captures k.0.groups }, stand root (max (m.range.0 + 1) m.range.1) m.range.1 ms (omega arith) h.2 k.1)
@@ -42,7 +42,7 @@ module _ (bytes : List ℕ) (unicode : Bool) (is_utf8 : IsUtf8 bytes) where
   answers-stand : (root : Node) (start : ℕ) → MatchesFitTextInOrderFrom bytes start (answers_from root (utf8_text bytes unicode) start)
   answers-stand root start =
       stand root start start _ (omega arith) (answers-StandInOrder root (utf8_text bytes unicode) (utf8_text-IsText bytes unicode) start)
-      (answers-IsAnswerOf root (utf8_text bytes unicode) (utf8_text-IsText bytes unicode) start)
+      (answers-IsWellFormedAnswerFor root (utf8_text bytes unicode) (utf8_text-IsText bytes unicode) start)
 
 -- The matches of a search lie in the text in order, from the start on.
 pub matches-stand : MatchesLieInTextInOrder

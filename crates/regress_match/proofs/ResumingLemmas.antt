@@ -6,15 +6,15 @@ use Rattle.std.specs.Prelude.{nat_le, if◌then◌else◌, option_map, unwrap_or
 use Rattle.std.specs.Option.{option_map_or}
 use Rattle.std.specs.Result.{IsErrAnd}
 use Rattle.regex_meaning.specs.SearchAnswers.{first_answer, next_start, answer_then_list}
-use Rattle.regex_meaning.specs.Laws.{Each, IsAnswerOf}
+use Rattle.regex_meaning.specs.Laws.{Each, IsWellFormedAnswerFor}
 use Rattle.regex_meaning.specs.MatchGroupsByNumberAndName.{Answer, answers_from}
 use Rattle.regex_meaning.specs.CodeUnitOffsets.{IsBoundary, HasRisingPlaceOffsets, place_at, units, IsBoundaryOrPastEnd}
 use Rattle.regex_meaning.specs.OutcomesWithStepTicks.{need}
-use Rattle.regex_meaning.specs.StepBudget.{answers_within_from_next, answers_within, finishes_from_next, finishes_within, is_within, remaining_budget, need_from}
+use Rattle.regex_meaning.specs.StepBudget.{answers_within_from_next, answers_within, finishes_from_next, finishes_within, budget_suffices, remaining_budget, need_from}
 use Rattle.regex_meaning.specs.Text.{Text}
 use Rattle.regex_meaning.specs.Tree.{Tree, group_ids}
 use Rattle.regex_meaning.proofs.SearchAnswersLemmas.{answers-go_on, next_start-ahead}
-use Rattle.regex_meaning.proofs.MatchOrderLemmas.{answers-IsAnswerOf}
+use Rattle.regex_meaning.proofs.MatchOrderLemmas.{answers-IsWellFormedAnswerFor}
 use Rattle.regex_meaning.proofs.StepBudgetLemmas.{within-some, within-none, beyond}
 use Rattle.regex_meaning.proofs.CodeUnitOffsetsLemmas.{place_at-past}
 use Rattle.regress_search.specs.MatchesAsSpecAnswers.{answer_of}
@@ -24,7 +24,7 @@ use Rattle.regress_search.specs.declared.exec.SearchError.{SearchError}
 use Rattle.regress_search.specs.declared.exec.SearchError.TheVariants.{Memory, StepLimit}
 use Rattle.regress_search.proofs.StepBudgetLemmas.{handed}
 use Rattle.regress_search.proofs.RemainingAnswerLemmas.{new-comes}
-use Rattle.regress_match.specs.Resuming.{ResumesFrom, IsExhaustedFrom, AreFoundInOrder, FindsNext, budget_after}
+use Rattle.regress_match.specs.Resuming.{IsResultOfNextFrom, IsExhaustedFrom, AreFoundInOrder, FindsNext, step_budget_after_first_match}
 use Rattle.regress_match.specs.declared.api.searches_resumed_at_offsets.Step.{Step}
 
 abbrev pub greatest : ℕ
@@ -45,14 +45,14 @@ place-none offset found last start e at = sym (ap (option_map offset) e) ∙ at
 
 module _ (tree : Tree) (text : Text) (is : HasRisingPlaceOffsets text) where
   -- Past the end no step is taken.
-  past-steps : (budget : Option ℕ) (start : ℕ) → None ≡ (if nat_le start (units text) then Some start else None) → budget ≡ budget_after tree text budget start
+  past-steps : (budget : Option ℕ) (start : ℕ) → None ≡ (if nat_le start (units text) then Some start else None) → budget ≡ step_budget_after_first_match tree text budget start
   past-steps budget start e = by (nat_le start (units text)) refl e
     where
       none-spent : (budget : Option ℕ) → budget ≡ remaining_budget budget 0
       none-spent None = refl
       none-spent (Some n) = let same : n ≡ n - 0 = omega arith in ap Some same
 
-      by : (b : Bool) → nat_le start (units text) ≡ b → None ≡ (if b then Some start else None) → budget ≡ budget_after tree text budget start
+      by : (b : Bool) → nat_le start (units text) ≡ b → None ≡ (if b then Some start else None) → budget ≡ step_budget_after_first_match tree text budget start
       by true q e = absurd (cc e)
       by false q e =
           let zero : need_from tree text start ≡ 0 =
@@ -61,11 +61,11 @@ module _ (tree : Tree) (text : Text) (is : HasRisingPlaceOffsets text) where
 
   -- Past the end no match is left and no step is taken.
   pub past-over : (budget : Option ℕ) (start : ℕ) → None ≡ (if nat_le start (units text) then Some start else None)
-      → IsExhaustedFrom tree text budget start × (budget ≡ budget_after tree text budget start)
+      → IsExhaustedFrom tree text budget start × (budget ≡ step_budget_after_first_match tree text budget start)
   past-over budget start e = let n = new-comes tree text is budget start None e in ((sym n.0, sym n.1), past-steps budget start e)
 
   pub none-over : {X : Type 0} (budget : Option ℕ) (start : ℕ) (x : X) (after : Option ℕ) → None ≡ first_answer tree.root text start
-      → SpendsNeedOrReachesLimit (need_from tree text start) budget (Ok x) after → IsExhaustedFrom tree text budget start × (after ≡ budget_after tree text budget start)
+      → SpendsNeedOrReachesLimit (need_from tree text start) budget (Ok x) after → IsExhaustedFrom tree text budget start × (after ≡ step_budget_after_first_match tree text budget start)
   none-over budget start x after found (within, left) = (within-none tree text is budget start (sym found) within, left)
 
   -- The list of answers continues at the next start, or past the end.
@@ -84,7 +84,7 @@ module _ (tree : Tree) (text : Text) (is : HasRisingPlaceOffsets text) where
     answer-groups start a found =
         let list : answers_from tree.root text start ≡ answer_then_list tree.root text (Some a) (next_start tree.root text start) =
         answers-go_on tree.root text is start ∙ ap (λ m. answer_then_list tree.root text m (next_start tree.root text start)) (sym found) in
-        (subst (λ ms. Each (IsAnswerOf tree.root text) ms) list (answers-IsAnswerOf tree.root text is start)).0.count
+        (subst (λ ms. Each (IsWellFormedAnswerFor tree.root text) ms) list (answers-IsWellFormedAnswerFor tree.root text is start)).0.count
 
     pub steps-to : {X : Type 0} (budget : Option ℕ) (start : ℕ) (m : Match) (x : X) (next after : Option ℕ) (n : ℕ) → n ≡ unwrap_or next greatest
         → Some (answer_of m) ≡ first_answer tree.root text start → next ≡ next_start tree.root text start
@@ -108,12 +108,12 @@ module _ (tree : Tree) (text : Text) (is : HasRisingPlaceOffsets text) where
         }
 
   refusal-from : (budget : Option ℕ) (start : ℕ) (e : SearchError) (after : Option ℕ)
-      → SpendsNeedOrReachesLimit {X = Option Step} (need_from tree text start) budget (Err e) after → ResumesFrom tree text budget start (Err e) after
+      → SpendsNeedOrReachesLimit {X = Option Step} (need_from tree text start) budget (Err e) after → IsResultOfNextFrom tree text budget start (Err e) after
   refusal-from budget start Memory after s = s
   refusal-from budget start StepLimit after s = let b = beyond tree text is budget start s.0 in (b.0, b.1, s.1)
 
   pub refused-from : (X : Type 0) (budget : Option ℕ) (start : ℕ) (e : SearchError) (after : Option ℕ) (r : Result (Option Step) SearchError) → IsErrAnd r (λ f. f ≡ e)
-      → SpendsNeedOrReachesLimit {X = X} (need_from tree text start) budget (Err e) after → ResumesFrom tree text budget start r after
+      → SpendsNeedOrReachesLimit {X = X} (need_from tree text start) budget (Err e) after → IsResultOfNextFrom tree text budget start r after
   refused-from X budget start e after (Ok y) h s = absurd h
   refused-from X budget start e after (Err f) h s =
       refusal-from budget start f after (handed X (Option Step) (need_from tree text start) budget after e (Err f) h s)
@@ -126,4 +126,4 @@ turn-more tree text budget start [] m left left' next next' (e, f) s =
     subst (λ b. FindsNext tree text b start m next' left') e (subst (λ n. FindsNext tree text left n m next' left') f s) in
     (next', subst (λ l. FindsNext tree text budget start m next' l) here.steps here, (here.steps, refl))
 turn-more tree text budget start (x ∷ ms) m left left' next next' (to, h, k) s =
-    (to, h, turn-more tree text (budget_after tree text budget start) to ms m left left' next next' k s)
+    (to, h, turn-more tree text (step_budget_after_first_match tree text budget start) to ms m left left' next next' k s)

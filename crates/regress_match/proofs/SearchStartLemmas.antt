@@ -2,7 +2,7 @@
 use Rattle.std.proofs.Common.{◌≡◌, ℕ, ◌<◌, ◌⊎◌, inl, inr, ◌≤◌, List, length, nat_le, Bool, true, false, IsUtf8, IsCharBoundary, IsTrue, sym, ◌∙◌, ap}
 use Rattle.std.proofs.Common.{subst, arith}
 use Rattle.std.proofs.lemmas.Bool.Decides.{leb_tells}
-use Rattle.regex_meaning.specs.Text.{Text, utf8_text, ascii_text, utf16_text, ucs2_text, fold_ascii, fold_code_point, one_unit, is_unit_boundary}
+use Rattle.regex_meaning.specs.Text.{Text, utf8_text, ascii_text, utf16_text, ucs2_text, fold_ascii, fold_code_point, width_of_single_unit_character, is_unit_boundary}
 use Rattle.regex_meaning.specs.CodeUnitOffsets.{IsBoundary, units, IsBoundaryOrPastEnd}
 use Rattle.regex_meaning.proofs.UnitBoundaryLemmas.{AreUnits, unit_boundary-place_at, units-utf16}
 use Rattle.regex_meaning.proofs.CodeUnitLengthLemmas.{utf8_text-units, ascii_text-units, ucs2_text-units}
@@ -27,7 +27,7 @@ within-or-past text size start same inside = by (leb_tells start size)
     by (inr (e, l)) = inr (omega (arith, l, same))
 
 -- In a text of one unit per character each start is a boundary or past the end.
-one-start : (text : Text) (us : List ℕ) (unicode : Bool) (fold : ℕ → ℕ) → text ≡ text_of one_unit us unicode fold → units text ≡ length us → (start : ℕ) → IsBoundaryOrPastEnd text start
+one-start : (text : Text) (us : List ℕ) (unicode : Bool) (fold : ℕ → ℕ) → text ≡ text_of width_of_single_unit_character us unicode fold → units text ≡ length us → (start : ℕ) → IsBoundaryOrPastEnd text start
 one-start text us unicode fold same size start =
     within-or-past text (length us) start size (λ l. subst (λ t. IsBoundary t start) (sym same) (boundary us unicode fold start l))
 

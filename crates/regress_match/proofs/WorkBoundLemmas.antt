@@ -16,7 +16,7 @@ use Rattle.regex_meaning.specs.Tree.{Tree}
 use Rattle.regress_search.specs.MatchesWithinWork.{RemainingAnswersAndWork}
 use Rattle.regress_search.specs.CostsOfCalls.{WorkMatchesView}
 use Rattle.regress_search.specs.CostsOfSearches.{Failures}
-use Rattle.regress_bounded.specs.CostsOfAttempts.{BeginsSearches}
+use Rattle.regress_bounded.specs.CostsOfAttempts.{BeginsSearchesForTreeInText}
 use Rattle.regress_search.specs.declared.exec.work_matches.WorkError.TheVariants.{Memory, WorkLimit}
 use Rattle.regress_memo.specs.AnalysisAsPotentials.{no_insn_analysis}
 use Rattle.regress_memo.specs.CheckedAnalysis.{HasDisjointCodes}
@@ -28,8 +28,8 @@ use Rattle.regress_bounded.specs.declared.work_bound.Unbounded.{Unbounded}
 use Rattle.regress_bounded.specs.WorkBoundForAllMatches.{TreeHasWorkBound, IsWorkBoundOfTree, most_memo_codes_per_insn, program_size}
 use Rattle.regress_bounded.specs.declared.work_bound.WorkBound.{WorkBound}
 use Rattle.regress_match.specs.WorkBounds.{WorkLimitedNextResult, ResultsAreMatchesWithinWork, BoundedView, NextCallsYieldWithinWork, SearchesReturnMatchesWithinWork, WorkPerUnitLimitSuffices}
-use Rattle.regress_match.specs.WorkBounds.{CallsCost, IsNoAllocationFailure, NextCallsYieldAtCost, CallCostsAreWorkSpent}
-use Rattle.regress_match.specs.WorkBounds.{IsPatternUnboundedBy, YieldsMatchesIfWorkSuffices, enough_work_for_text, higher, work_per_unit_limit}
+use Rattle.regress_match.specs.WorkBounds.{NextCallsYieldAtTotalCost, IsNoAllocationFailure, NextCallsYieldAtCost, CallCostsAreWorkSpent}
+use Rattle.regress_match.specs.WorkBounds.{IsPatternUnboundedBy, YieldsMatchesIfWorkSuffices, enough_work_for_text, max_of_two, work_per_unit_limit}
 use Rattle.regress_match.specs.ProgramTreesAndAnswers.{tree_for_byte_units, tree_for_16_bit_units}
 use Rattle.regress_match.specs.declared.api.regex.Regex.{Regex}
 
@@ -74,7 +74,7 @@ searches-ResultsAreMatchesWithinWork tree text start per_unit work it t rs y k =
 module _ {P : Type 0} (attempt_costs : Tree → Text → (before : Failures) → (at cost : ℕ) → (after : Option Failures) → Type 0) (tree_of : P → Tree) (text_of : P → Text) (failures_of : P → Failures) where
   -- If the work is enough and no allocation fails, the calls take exactly their costs.
   calls-cost : (s t : WorkMatchesView P) (rs : List WorkLimitedNextResult) → s.enough ≡ true → NextCallsYieldAtCost attempt_costs tree_of text_of failures_of s rs t
-      → Each IsNoAllocationFailure rs → (cost : ℕ) × CallsCost attempt_costs tree_of text_of failures_of s rs cost t × (s.left ≡ cost + t.left)
+      → Each IsNoAllocationFailure rs → (cost : ℕ) × NextCallsYieldAtTotalCost attempt_costs tree_of text_of failures_of s rs cost t × (s.left ≡ cost + t.left)
   calls-cost s t [] e h n = (0, (h, refl), (let same : s.left ≡ t.left = ap (λ (v : WorkMatchesView P). v.left) (sym h) in omega (arith, same)))
   calls-cost s t (None ∷ rs) e (u, h, k) n =
       let cost = h.1 in
@@ -118,15 +118,15 @@ module _ {X : Type 0} (re : Regex) (r : Result X Unbounded) (e : Unbounded) (is 
   bytes-unbounded tree same plain refused = handed-on (IsPatternUnboundedBy re) (inr (plain, subst (λ t. IsReasonForUnboundedness t e) same refused))
 
 -- Either number is at most the higher one.
-pub higher-left : (a b : ℕ) → a ≤ higher a b
-higher-left a b = by (nat_lt a b) refl
+pub max_of_two-left : (a b : ℕ) → a ≤ max_of_two a b
+max_of_two-left a b = by (nat_lt a b) refl
   where
     by : (t : Bool) → nat_lt a b ≡ t → a ≤ (if t then b else a)
     by true e = let less : a < b = ltb-true a b e in omega (arith, less)
     by false e = omega arith
 
-pub higher-right : (a b : ℕ) → b ≤ higher a b
-higher-right a b = by (nat_lt a b) refl
+pub max_of_two-right : (a b : ℕ) → b ≤ max_of_two a b
+max_of_two-right a b = by (nat_lt a b) refl
   where
     by : (t : Bool) → nat_lt a b ≡ t → b ≤ (if t then b else a)
     by true e = omega arith
@@ -155,11 +155,11 @@ bound-Yields {b} {own} {few} {many} {work} {start} {it} of re text_of l view sam
 -- A bounded pattern begins its searches as the program of its tree does.
 pub bound-Begins : {b : BoundedView} {own its_tree : Tree} {its_text : Text} {failures : Failures} {position : Option ℕ} {many start : ℕ}
     (of : Regex → Tree) (re : Regex) (text_of : Bool → Text) → record { re = re; per_unit = many } ≡ b → own ≡ of re
-    → BeginsSearches own (text_of own.flags.unicode) start its_tree its_text failures position
-    → BeginsSearches (of b.re) (text_of (of b.re).flags.unicode) start its_tree its_text failures position
+    → BeginsSearchesForTreeInText own (text_of own.flags.unicode) start its_tree its_text failures position
+    → BeginsSearchesForTreeInText (of b.re) (text_of (of b.re).flags.unicode) start its_tree its_text failures position
 bound-Begins {its_tree = its_tree} {its_text = its_text} {failures = failures} {position = position} {start = start} of re text_of view same y =
-    subst (λ (v : BoundedView). BeginsSearches (of v.re) (text_of (of v.re).flags.unicode) start its_tree its_text failures position) view
-    (subst (λ (t : Tree). BeginsSearches t (text_of t.flags.unicode) start its_tree its_text failures position) same y)
+    subst (λ (v : BoundedView). BeginsSearchesForTreeInText (of v.re) (text_of (of v.re).flags.unicode) start its_tree its_text failures position) view
+    (subst (λ (t : Tree). BeginsSearchesForTreeInText t (text_of t.flags.unicode) start its_tree its_text failures position) same y)
 
 -- ---- The limit of all bounds
 
@@ -183,17 +183,17 @@ bound-limited tree bound is = ∥∥₁_elim is (Prim.hlevel props) (λ (b : IsW
     let all : bound.per_unit ≤ 64 * (size * codes) = b.few in
     omega (arith, few, all))
 
-higher-most : (a b m n : ℕ) → a ≤ 64 * (64 * m) → b ≤ 64 * (64 * n) → higher a b ≤ 64 * (64 * higher m n)
-higher-most a b m n l k = by (nat_lt a b)
+max_of_two-most : (a b m n : ℕ) → a ≤ 64 * (64 * m) → b ≤ 64 * (64 * n) → max_of_two a b ≤ 64 * (64 * max_of_two m n)
+max_of_two-most a b m n l k = by (nat_lt a b)
   where
-    by : (t : Bool) → (if t then b else a) ≤ 64 * (64 * higher m n)
-    by true = let more : n ≤ higher m n = higher-right m n in omega (arith, k, more)
-    by false = let more : m ≤ higher m n = higher-left m n in omega (arith, l, more)
+    by : (t : Bool) → (if t then b else a) ≤ 64 * (64 * max_of_two m n)
+    by true = let more : n ≤ max_of_two m n = max_of_two-right m n in omega (arith, k, more)
+    by false = let more : m ≤ max_of_two m n = max_of_two-left m n in omega (arith, l, more)
 
 pub bounds-limited : WorkPerUnitLimitSuffices
 bounds-limited re per_unit (bytes, units', are, is) =
     let least : per_unit ≤ work_per_unit_limit re =
     subst (λ n. n ≤ work_per_unit_limit re) (sym is)
-    (higher-most bytes.per_unit units'.per_unit (program_size (compiled (tree_for_byte_units re))) (program_size (compiled (tree_for_16_bit_units re)))
+    (max_of_two-most bytes.per_unit units'.per_unit (program_size (compiled (tree_for_byte_units re))) (program_size (compiled (tree_for_16_bit_units re)))
     (bound-limited (tree_for_byte_units re) bytes are.bound_for_bytes) (bound-limited (tree_for_16_bit_units re) units' are.bound_for_units)) in
     (least, λ text. mul-le-mul_right (units text + 1) least)

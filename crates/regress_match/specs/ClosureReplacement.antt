@@ -19,14 +19,15 @@ IsClosureErrorOrOutOfMemory answer (Closure e) = answer ≡ Err e
 -- `says` relates a match to the results that the closure may return for it.
 module _ {T E : Type 0} (says : Bor Match → Result T E → Type 0) where
   -- The closure may return this result for a match equal to `m`.
-  abbrev pub Answered : Answer → Result T E → Type 0
-  Answered m result = (found : Bor Match) × (answer_of found.now ≡ m) × says found result
+  abbrev pub ClosureMayReturnForMatch : Answer → Result T E → Type 0
+  ClosureMayReturnForMatch m result = (found : Bor Match) × (answer_of found.now ≡ m) × says found result
 
   -- `units` gives the units of the text of a closure result.
   module _ (units : T → List ℕ) where
     -- Each match is paired with a text that the closure returned for it.
     abbrev pub AreClosureResults : List (Answer × List ℕ) → Type 0
-    AreClosureResults pieces = Each (λ p. (answer : T) × (units answer ≡ p.1) × Answered p.0 (Ok answer)) pieces
+    AreClosureResults pieces = Each (λ p. (answer : T) × (units answer ≡ p.1)
+        × ClosureMayReturnForMatch p.0 (Ok answer)) pieces
 
     -- `made` is the text with each of these matches replaced by the closure's result for it.
     pub record IsReplacedBy (text : List ℕ) (ms : List Answer) (made : List ℕ) : Type 0 where
@@ -43,9 +44,9 @@ module _ {T E : Type 0} (says : Bor Match → Result T E → Type 0) where
       pub behind : List Answer
       pub matches : map (λ p. p.0) before ++ at ∷ behind ≡ ms
       pub answered : AreClosureResults before
-      pub refused : Answered at (Err e)
+      pub refused : ClosureMayReturnForMatch at (Err e)
 
     -- The error of a replacement by the closure: `Memory`, or an error that the closure returned.
-    abbrev pub CanRefuseWith : List Answer → ReplaceError E → Type 0
-    CanRefuseWith ms (Search e) = IsOutOfMemory e
-    CanRefuseWith ms (Closure e) = ClosureFailedAtMatch ms e
+    abbrev pub IsPossibleReplaceError : List Answer → ReplaceError E → Type 0
+    IsPossibleReplaceError ms (Search e) = IsOutOfMemory e
+    IsPossibleReplaceError ms (Closure e) = ClosureFailedAtMatch ms e

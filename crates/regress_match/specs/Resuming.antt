@@ -14,8 +14,8 @@ module _ (tree : Tree) (text : Text) where
   -- The steps that are left when the first match from an offset on is found, or is known not to
   -- exist. The search takes exactly the steps that this needs. Past the end of the text it takes
   -- none.
-  abbrev pub budget_after : (budget : Option ℕ) → (start : ℕ) → Option ℕ
-  budget_after budget start = remaining_budget budget (need_from tree text start)
+  abbrev pub step_budget_after_first_match : (budget : Option ℕ) → (start : ℕ) → Option ℕ
+  step_budget_after_first_match budget start = remaining_budget budget (need_from tree text start)
 
   -- No match remains from an offset on, and the budget suffices to find that out.
   abbrev pub IsExhaustedFrom : (budget : Option ℕ) → (start : ℕ) → Type 0
@@ -28,7 +28,7 @@ module _ (tree : Tree) (text : Text) where
     pub answers : answers_within tree text budget start ≡ found ∷ answers_within tree text left next
     pub limit : finishes_within tree text budget start ≡ finishes_within tree text left next
     pub starts : IsBoundaryOrPastEnd text next
-    pub steps : left ≡ budget_after budget start
+    pub steps : left ≡ step_budget_after_first_match budget start
     pub groups : length found.captures ≡ length (group_ids tree.root)
 
   -- These matches are found one after another from an offset on. Then the budget is `left`, and the
@@ -36,16 +36,18 @@ module _ (tree : Tree) (text : Text) where
   abbrev pub AreFoundInOrder : (budget : Option ℕ) → (start : ℕ) → List Answer → (left : Option ℕ) → (next : ℕ) → Type 0
   AreFoundInOrder budget start [] left next = (left ≡ budget) × (next ≡ start)
   AreFoundInOrder budget start (m ∷ ms) left next =
-      (to : ℕ) × FindsNext budget start m to (budget_after budget start)
-      × AreFoundInOrder (budget_after budget start) to ms left next
+      (to : ℕ) × FindsNext budget start m to (step_budget_after_first_match budget start)
+      × AreFoundInOrder (step_budget_after_first_match budget start) to ms left next
 
   -- The result of a call at an offset, and the budget after it. An allocation may fail at any step.
   -- Then at most the budget before the call is left, and at least what a result would leave.
-  abbrev pub ResumesFrom : (budget : Option ℕ) → (start : ℕ) → Result (Option Step) SearchError → (left : Option ℕ)
+  abbrev pub IsResultOfNextFrom : (budget : Option ℕ) → (start : ℕ) → Result (Option Step) SearchError
+      → (left : Option ℕ)
       → Type 0
-  ResumesFrom budget start (Ok (Some step)) left = FindsNext budget start (answer_of step.found) step.next left
-  ResumesFrom budget start (Ok None) left = IsExhaustedFrom budget start × (left ≡ budget_after budget start)
-  ResumesFrom budget start (Err Memory) left = IsBudgetAtMost left budget
-      × IsBudgetAtMost (budget_after budget start) left
-  ResumesFrom budget start (Err StepLimit) left =
+  IsResultOfNextFrom budget start (Ok (Some step)) left = FindsNext budget start (answer_of step.found) step.next left
+  IsResultOfNextFrom budget start (Ok None) left = IsExhaustedFrom budget start
+      × (left ≡ step_budget_after_first_match budget start)
+  IsResultOfNextFrom budget start (Err Memory) left = IsBudgetAtMost left budget
+      × IsBudgetAtMost (step_budget_after_first_match budget start) left
+  IsResultOfNextFrom budget start (Err StepLimit) left =
       (answers_within tree text budget start ≡ []) × (finishes_within tree text budget start ≡ false) × (left ≡ Some 0)

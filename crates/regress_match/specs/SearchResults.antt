@@ -32,9 +32,9 @@ NextCallsYield before (r ∷ rs) behind = (next : RemainingView) × NextYields b
     × NextCallsYield next rs behind
 
 -- All results are `None`.
-abbrev pub AllNone : {A : Type 0} → List (Option A) → Type 0
-AllNone [] = Unit {0}
-AllNone (r ∷ rs) = (r ≡ None) × AllNone rs
+abbrev pub AreAllResultsNone : {A : Type 0} → List (Option A) → Type 0
+AreAllResultsNone [] = Unit {0}
+AreAllResultsNone (r ∷ rs) = (r ≡ None) × AreAllResultsNone rs
 
 -- The results are the matches of the list, one after another. After the last match, and only then,
 -- each call returns `None`. The only error is an allocation failure. The matches before it are a
@@ -43,8 +43,8 @@ abbrev pub ResultsAreMatchesInOrder : List Answer → List NextResult → Type 0
 ResultsAreMatchesInOrder matches [] = Unit {0}
 ResultsAreMatchesInOrder matches (Some (Ok m) ∷ rs) = (rest : List Answer) × (matches ≡ answer_of m ∷ rest)
     × ResultsAreMatchesInOrder rest rs
-ResultsAreMatchesInOrder matches (None ∷ rs) = (matches ≡ []) × AllNone rs
-ResultsAreMatchesInOrder matches (Some (Err e) ∷ rs) = IsOutOfMemory e × AllNone rs
+ResultsAreMatchesInOrder matches (None ∷ rs) = (matches ≡ []) × AreAllResultsNone rs
+ResultsAreMatchesInOrder matches (Some (Err e) ∷ rs) = IsOutOfMemory e × AreAllResultsNone rs
 
 -- The results of a search, for any number of calls.
 abbrev pub SearchesReturnMatchesInOrder : Type 0

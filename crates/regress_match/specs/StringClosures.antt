@@ -20,5 +20,5 @@ module _ {Z E : Type 0} (says : Bor Match → Result (String Z) E → Type 0) wh
   IsReplacedBy text ms made = answered.IsReplacedBy says string_bytes text ms made
 
   -- The error of a replacement by the closure: `Memory`, or an error that the closure returned.
-  abbrev pub CanRefuseWith : List Answer → ReplaceError E → Type 0
-  CanRefuseWith ms e = answered.CanRefuseWith says string_bytes ms e
+  abbrev pub IsPossibleReplaceError : List Answer → ReplaceError E → Type 0
+  IsPossibleReplaceError ms e = answered.IsPossibleReplaceError says string_bytes ms e

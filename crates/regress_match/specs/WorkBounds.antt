@@ -7,7 +7,7 @@ use Rattle.regex_meaning.specs.Tree.{Tree}
 use Rattle.regress_search.specs.MatchesAsSpecAnswers.{answer_of}
 use Rattle.regress_search.specs.MatchesWithinWork.{RemainingAnswersAndWork, NextYieldsWithinWork}
 use Rattle.regress_search.specs.CostsOfSearches.{Failures}
-use Rattle.regress_search.specs.CostsOfCalls.{NextCosts, NextYieldsAtCost, WorkMatchesView, without_costs}
+use Rattle.regress_search.specs.CostsOfCalls.{NextCallCosts, NextYieldsAtCost, WorkMatchesView, without_costs}
 use Rattle.regress_search.specs.declared.exec.Match.{Match}
 use Rattle.regress_search.specs.declared.exec.work_matches.WorkError.{WorkError}
 use Rattle.regress_search.specs.declared.exec.work_matches.WorkError.TheVariants.{Memory, WorkLimit}
@@ -18,7 +18,7 @@ use Rattle.regress_bounded.specs.Unboundedness.{HasNoLookaroundOrBackreference, 
 use Rattle.regress_bounded.specs.declared.work_bound.Unbounded.{Unbounded}
 use Rattle.regress_bounded.specs.declared.work_bound.WorkBound.{WorkBound}
 use Rattle.regress_match.specs.declared.api.regex.Regex.{Regex}
-use Rattle.regress_match.specs.SearchResults.{AllNone}
+use Rattle.regress_match.specs.SearchResults.{AreAllResultsNone}
 use Rattle.regress_match.specs.ProgramTreesAndAnswers.{tree_for_byte_units, tree_for_16_bit_units}
 
 -- ---- Bounds
@@ -30,25 +30,26 @@ pub record BoundedView : Type 0 where
   pub per_unit : ℕ
 
 -- The greater of two numbers.
-abbrev pub higher : ℕ → ℕ → ℕ
-higher a b = if nat_lt a b then b else a
+abbrev pub max_of_two : ℕ → ℕ → ℕ
+max_of_two a b = if nat_lt a b then b else a
 
 -- The greater of the bounds for texts of bytes and for texts of 16-bit code units.
 abbrev pub higher_bound_of : (bytes units : WorkBound) → ℕ
-higher_bound_of bytes units = higher bytes.per_unit units.per_unit
+higher_bound_of bytes units = max_of_two bytes.per_unit units.per_unit
 
 -- The bounds are those of the pattern's two programs.
-pub record AreBoundsOf (re : Regex) (bytes units : WorkBound) : Type 0 where
+pub record AreWorkBoundsOfBothPrograms (re : Regex) (bytes units : WorkBound) : Type 0 where
   pub bound_for_bytes : TreeHasWorkBound (tree_for_byte_units re) bytes
   pub bound_for_units : TreeHasWorkBound (tree_for_16_bit_units re) units
 
 -- `per_unit` is the greater of the bounds of the pattern's two programs.
 abbrev pub IsHigherOfProgramWorkBounds : Regex → ℕ → Type 0
-IsHigherOfProgramWorkBounds re per_unit = (bytes : WorkBound) × (units : WorkBound) × AreBoundsOf re bytes units
+IsHigherOfProgramWorkBounds re per_unit = (bytes : WorkBound) × (units : WorkBound)
+    × AreWorkBoundsOfBothPrograms re bytes units
     × (per_unit ≡ higher_bound_of bytes units)
 
 -- Neither tree of the pattern has a lookaround or a backreference.
-pub record HasNoLookaroundOrBackref (re : Regex) : Type 0 where
+pub record NoTreeHasLookaroundOrBackreference (re : Regex) : Type 0 where
   pub units : HasNoLookaroundOrBackreference (tree_for_16_bit_units re)
   pub bytes : HasNoLookaroundOrBackreference (tree_for_byte_units re)
 
@@ -63,7 +64,7 @@ IsPatternUnboundedBy re reason = IsReasonForUnboundedness (tree_for_16_bit_units
 -- A number that no bound of the pattern exceeds, computed from its two programs: 64 for each unit
 -- of the greater program size, for each of the up to 64 codes of an instruction.
 abbrev pub work_per_unit_limit : Regex → ℕ
-work_per_unit_limit re = 64 * (64 * higher (program_size (compiled (tree_for_byte_units re)))
+work_per_unit_limit re = 64 * (64 * max_of_two (program_size (compiled (tree_for_byte_units re)))
     (program_size (compiled (tree_for_16_bit_units re))))
 
 -- For each bound of the pattern that a search may have, this much work per unit of the text, and
@@ -94,9 +95,9 @@ abbrev pub ResultsAreMatchesWithinWork : (too_little : Type 0) → List Answer �
 ResultsAreMatchesWithinWork too_little matches [] = Unit {0}
 ResultsAreMatchesWithinWork too_little matches (Some (Ok m) ∷ rs) =
     (rest : List Answer) × (matches ≡ answer_of m ∷ rest) × ResultsAreMatchesWithinWork too_little rest rs
-ResultsAreMatchesWithinWork too_little matches (None ∷ rs) = (matches ≡ []) × AllNone rs
-ResultsAreMatchesWithinWork too_little matches (Some (Err Memory) ∷ rs) = AllNone rs
-ResultsAreMatchesWithinWork too_little matches (Some (Err WorkLimit) ∷ rs) = too_little × AllNone rs
+ResultsAreMatchesWithinWork too_little matches (None ∷ rs) = (matches ≡ []) × AreAllResultsNone rs
+ResultsAreMatchesWithinWork too_little matches (Some (Err Memory) ∷ rs) = AreAllResultsNone rs
+ResultsAreMatchesWithinWork too_little matches (Some (Err WorkLimit) ∷ rs) = too_little × AreAllResultsNone rs
 
 -- The results of a search within a work budget, for any number of calls. The work that is left
 -- never exceeds the budget.
@@ -126,14 +127,14 @@ module _ {P : Type 0} (attempt_costs : Tree → Text → (before : Failures) →
       × NextCallsYieldAtCost next rs behind
 
   -- Like `NextCallsYieldAtCost`, where the searches of all calls together cost `cost`.
-  abbrev pub CallsCost : (before : WorkMatchesView P) → List WorkLimitedNextResult → (cost : ℕ)
+  abbrev pub NextCallsYieldAtTotalCost : (before : WorkMatchesView P) → List WorkLimitedNextResult → (cost : ℕ)
       → (behind : WorkMatchesView P) → Type 0
-  CallsCost before [] cost behind = (behind ≡ before) × (cost ≡ 0)
-  CallsCost before (r ∷ rs) cost behind =
+  NextCallsYieldAtTotalCost before [] cost behind = (behind ≡ before) × (cost ≡ 0)
+  NextCallsYieldAtTotalCost before (r ∷ rs) cost behind =
       (next : WorkMatchesView P) × (first later : ℕ)
       × NextYieldsAtCost attempt_costs tree_of text_of failures_of before r next
-      × NextCosts attempt_costs tree_of text_of failures_of before first (Some (failures_of next.producer))
-      × CallsCost next rs later behind × (cost ≡ first + later)
+      × NextCallCosts attempt_costs tree_of text_of failures_of before first (Some (failures_of next.producer))
+      × NextCallsYieldAtTotalCost next rs later behind × (cost ≡ first + later)
 
   -- If the budget suffices and no allocation fails, the calls together cost exactly what is taken
   -- from the budget. So with the least sufficient budget, they cost at most that budget.
@@ -143,4 +144,4 @@ module _ {P : Type 0} (attempt_costs : Tree → Text → (before : Failures) →
       → YieldsMatchesIfWorkSuffices tree text start per_unit work (without_costs it)
       → enough_work_for_text per_unit text ≤ work
       → NextCallsYieldAtCost it rs behind → Each IsNoAllocationFailure rs
-      → (cost : ℕ) × CallsCost it rs cost behind × (work ≡ cost + behind.left)
+      → (cost : ℕ) × NextCallsYieldAtTotalCost it rs cost behind × (work ≡ cost + behind.left)

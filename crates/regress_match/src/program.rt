@@ -9,17 +9,17 @@ use std::io::Write;
 use std::ops::Range;
 
 /// The exit status if there is a match.
-const FOUND: u8 = 0;
+const EXIT_STATUS_FOUND: u8 = 0;
 
 /// The exit status if there is no match.
-const NOT_FOUND: u8 = 1;
+const EXIT_STATUS_NOT_FOUND: u8 = 1;
 
 /// The exit status if the arguments, the pattern or the search are refused, or a line cannot be
 /// written.
-const REFUSED: u8 = 2;
+const EXIT_STATUS_REFUSED: u8 = 2;
 
 /// The option that selects `Syntax::EcmaScript2018`. It is the first of the words.
-const ES2018: &str = "--es2018";
+const ES2018_OPTION: &str = "--es2018";
 
 /// The arguments of the program.
 #[derive(Clone, Copy)]
@@ -58,16 +58,21 @@ pub fn run<W: Write, W2: Write>(
 // Reads the words. Returns `None` if their number is wrong, or one of them is not UTF-8.
 fn read_arguments(words: &[Option<String>]) -> Option<Arguments<'_>> {
     match words {
-        [pattern, flags, text] => read_three(Syntax::Profile, pattern, flags, text),
-        [Some(option), pattern, flags, text] if option.as_str() == ES2018 => {
-            read_three(Syntax::EcmaScript2018, pattern, flags, text)
+        [pattern, flags, text] => read_pattern_flags_and_text(
+            Syntax::Profile,
+            pattern,
+            flags,
+            text,
+        ),
+        [Some(option), pattern, flags, text] if option.as_str() == ES2018_OPTION => {
+            read_pattern_flags_and_text(Syntax::EcmaScript2018, pattern, flags, text)
         }
         _ => None,
     }
 }
 
 // Reads the words after the option. Returns `None` if one of them is not UTF-8.
-fn read_three<'a>(
+fn read_pattern_flags_and_text<'a>(
     syntax: Syntax,
     pattern: &'a Option<String>,
     flags: &'a Option<String>,
@@ -84,7 +89,7 @@ fn read_three<'a>(
 // Writes one line with the reason why there is no result.
 fn print_refusal<W: Write, E: Display>(err: &mut W, why: &E) -> u8 {
     let _ = writeln!(err, "{why}");
-    REFUSED
+    EXIT_STATUS_REFUSED
 }
 
 // Writes one line for each match.
@@ -93,14 +98,14 @@ fn print_matches<W: Write, W2: Write>(re: &Regex, text: &str, out: &mut W, err: 
         Ok(matches) => matches,
         Err(error) => return print_refusal(err, &error),
     };
-    let mut status = NOT_FOUND;
+    let mut status = EXIT_STATUS_NOT_FOUND;
     for item in matches {
         match item {
             Ok(found) => {
                 if print_match(&found, out).is_err() {
-                    return REFUSED;
+                    return EXIT_STATUS_REFUSED;
                 }
-                status = FOUND;
+                status = EXIT_STATUS_FOUND;
             }
             Err(error) => return print_refusal(err, &error),
         }

@@ -1,4 +1,4 @@
--- The work of all searches of a text is bounded by initial potentials and three times the cost of all keys.
+-- Initial potentials and three times the cost of all keys bound the work of all searches of a text.
 use Rattle.std.proofs.Common.{◌≡◌, ℕ, ◌+◌, ◌*◌, ◌≤◌, ◌<◌, List, [], ◌∷◌, Bool, true, false, ◌&&◌, refl, ap, subst, arith, sum_by, mul-le-mul_right}
 use Rattle.std.specs.Prelude.{nat_le}
 use Rattle.std.proofs.lemmas.Bool.{cases_lt, le-leb, leb-true}
@@ -12,14 +12,14 @@ use Rattle.regex_meaning.proofs.BoolLemmas.{and-left, and-right}
 use Rattle.regress_machine.specs.Machine.{Thread}
 use Rattle.regress_memo.specs.Liveness.{Liveness, IsLivenessFor}
 use Rattle.regress_memo.specs.DistinctLists.{IsIn}
-use Rattle.regress_memo.specs.MemoSearch.{Key, Keys, Entry, one_thread, thread_group, key_record, at_of, AreOnward, keys_in, AreKeys, IsMemory}
+use Rattle.regress_memo.specs.MemoSearch.{Key, Keys, Entry, one_thread, thread_group, key_record, offset_of_thread, AreOnward, keys_in, AreKeys, IsMemory}
 use Rattle.regress_memo.specs.AllMatchesWork.{Searched, at_first, failed, found, AllMatchesWorkIsBounded, AllMatchesWorkIsLinear}
 use Rattle.regress_memo.specs.ThreadPotentials.{place_keys}
 use Rattle.regress_memo.proofs.ThreadPotentialLemmas.{places-keys}
 use Rattle.regress_memo.proofs.DistinctListLemmas.{Each-left, Each-right, distinct-left, distinct-right, price-few}
 use Rattle.regress_memo.proofs.MemoSearchLemmas.{work-is-bounded, turns-go-on}
 
--- what is paid for keys, each so many times as the number of its offset says
+-- `times` adds up the prices of keys, each times the cover of its offset.
 abbrev times : (price : Key → ℕ) (cover : ℕ → ℕ) → List Key → ℕ
 times price cover ks = sum_by (λ k. cover k.at * price k) ks
 
@@ -43,7 +43,7 @@ one_if : Bool → ℕ
 one_if true = 1
 one_if false = 0
 
--- the offset is between these
+-- `between` is one for an offset from `from` to `to`, and zero for any other.
 between : (from to p : ℕ) → ℕ
 between from to p = one_if (nat_le from p && nat_le p to)
 
@@ -67,7 +67,7 @@ between-none from to p out = by (nat_le from p && nat_le p to) refl
     by true e = absurd (out (leb-true from p (and-left _ _ e)) (leb-true p to (and-right _ _ e)))
     by false e = refl
 
--- the key is of an offset between these
+-- The offset of a key is between two offsets.
 record IsBetween (from to : ℕ) (k : Key) : Type 0 where
   first : from ≤ k.at
   last : k.at ≤ to
@@ -88,7 +88,7 @@ times-between price from to (k ∷ ks) h =
     omega (arith, x, y, l, one)
 
 module _ (program : Program) (text : Text) (a : Liveness) (keys : Keys) (acc : IsLivenessFor program text a) (are : AreKeys program text a keys) (price : Key → ℕ) (weight : List Thread → ℕ) where
-  -- how often keys of an offset were thrown away, up to a search from an offset on
+  -- A cover counts an offset at most twice, `from` at most once, and no offset behind `from`.
   record IsCover (from : ℕ) (cover : ℕ → ℕ) : Type 0 where
     most : (p : ℕ) → cover p ≤ 2
     here : cover from ≤ 1
@@ -136,7 +136,7 @@ module _ (program : Program) (text : Text) (a : Liveness) (keys : Keys) (acc : I
       }
   sums _ _ _ _ (found from next work ready more memory now t rest ts turns f s e on c le less) =
       let row = one_thread t ∷ rest in
-      let to = at_of t in
+      let to = offset_of_thread t in
       let onward = turns-go-on program text a keys rightwards price weight memory ts from more now row refl on c in
       let between_these = are-between from to rest onward.2 onward.1 in
       let b = sums from work ready memory s in

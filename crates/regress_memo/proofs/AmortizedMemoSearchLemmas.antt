@@ -40,9 +40,9 @@ use Rattle.regress_memo.specs.MemoContents.{memo_key_at}
 use Rattle.regress_memo.specs.AmortizedMemoSearchSteps.{IsKeyed, AreKeyed, ReachesEntries, StepsReachEntries, WorkIsCoveredByKeyCosts}
 use Rattle.regress_memo.proofs.MemoTableLawLemmas.{thread-key, records-there}
 
--- ---- Keys
+-- ---- Keys of states
 
--- a state has none where its instruction does not record
+-- If a state has no memo key, its instruction does not record.
 pub no-key : (t : MemoAnalysis) (s : State) → memo_key_at t s ≡ None → is_one_of (recorded t) s.ip ≡ false
 no-key t s none = by (is_one_of (recorded t) s.ip) refl
   where
@@ -53,7 +53,7 @@ no-key t s none = by (is_one_of (recorded t) s.ip) refl
         sym (ap (λ b. if b then Some (key_of (plan_code (key_code_questions_of t)) s) else None) (recorded-is t s.ip e)) ∙ none in
         absurd (let no : ⊥ = cc in no)
 
--- where it does, it has this one
+-- The instruction of a state records, and the state has the key `k`.
 pub record HasKey (t : MemoAnalysis) (s : State) (k : Key) : Type 0 where
   pub records : (insn_analysis_of t s.ip).records ≡ true
   pub is : key_of (plan_code (key_code_questions_of t)) s ≡ k
@@ -76,7 +76,7 @@ module _ (program : Program) (text : Text) (t : MemoAnalysis) (d : Direction) wh
   all-keyed (waiting s ∷ ts) of sound way apart =
       (record { of = of.0; sound = sound.0; way = way.0; no_body = apart.0 }, all-keyed ts of.1 sound.1 way.1 apart.1)
 
-  -- those of entries that stand above a row
+  -- The threads of joined entries are keyed if those of both parts are.
   pub keyed-joined : (entries rest : List Entry) → AreKeyed program text t d (threads_in entries) → AreKeyed program text t d (threads_in rest)
       → AreKeyed program text t d (threads_in (entries ++ rest))
   keyed-joined entries rest above below =
@@ -86,7 +86,7 @@ module _ (program : Program) (text : Text) (t : MemoAnalysis) (d : Direction) wh
   keyed-tries : (ts : List Thread) → AreKeyed program text t d ts → AreKeyed program text t d (threads_in (thread_entries ts))
   keyed-tries ts h = subst (AreKeyed program text t d) (sym (threads-tries ts)) h
 
--- ---- Turns
+-- ---- Steps of keyed threads
 
 module _ (program : Program) (t : MemoAnalysis) (of : IsAnalysisOf program t) (bounded : IsWorkBounded t program) (text : Text) (is_text : HasRisingPlaceOffsets text) (bytes : ReadsAsBytes program text)
     (less : units text < 2 ^ 63) (d : Direction) (memory : List Key) (first : List Entry) (work : ℕ) (now : List Key) (rest : List Entry) where
@@ -96,7 +96,7 @@ module _ (program : Program) (t : MemoAnalysis) (of : IsAnalysisOf program t) (b
   abbrev served : Serves program t text
   served = ledgers-serve program t of text is_text bytes less
 
-  -- what a turn leaves has keys, too
+  -- The threads that a step of a keyed state leaves are keyed.
   left-keyed : (s : State) (ts : List Thread) → IsKeyed program text t d s → act program text d s ≡ goes ts → AreKeyed program text t d ts
   left-keyed s ts k turn =
       all-keyed program text t d ts (states-stay program text d s ts k.of turn)
@@ -166,7 +166,7 @@ module _ (program : Program) (t : MemoAnalysis) (of : IsAnalysisOf program t) (b
     reached = λ k ts h. record { comes = reaches work now k ts rest h.comes; keyed = h.keyed };
   }
 
--- ---- The beginning
+-- ---- The beginning of a search
 
 first-keyed : (program : Program) (t : MemoAnalysis) → IsAnalysisOf program t → (text : Text) → HasRisingPlaceOffsets text → ReadsAsBytes program text → units text < 2 ^ 63 → (at : ℕ) → at ≤ units text
     → IsKeyed program text t rightwards (state_before_first_insn program at)

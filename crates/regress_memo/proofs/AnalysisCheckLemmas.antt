@@ -1,4 +1,5 @@
--- The checks of an instruction imply that the analysis is sound there and that potentials cover its step.
+-- The checks of an instruction imply that the analysis is sound there and that potentials cover its
+-- step.
 use Rattle.std.proofs.Common.{◌≡◌, ◌<◌, ◌^◌, ℕ, ◌+◌, true, false, List, Option, Some, None, ap, ◌∙◌, sym, subst, map, slice_get}
 use Rattle.std.proofs.lemmas.Bool.{le-leb, lt-leb}
 use Rattle.regex_meaning.specs.CompilationRelation.{Program, Insn, Goal, JustFail, Alt, EnterLoop, LoopAgain, ResetCaptureGroup, Loop1CharBody, BeginCaptureGroup}
@@ -19,18 +20,18 @@ use Rattle.regress_memo.specs.declared.successors.Successors.TheVariants.{Ends, 
 use Rattle.regress_memo.specs.AnalysisAsPotentials.{insn_analysis_of, enclosing_loops_of, states_loop_fact, analysis_as_liveness, potentials_of}
 use Rattle.regress_memo.specs.AnalysisAsPotentials.{groups_stay_unchanged_from}
 use Rattle.regress_memo.specs.AnalysisAsPotentials.{insn_direction}
-use Rattle.regress_memo.specs.Successors.{AreInsnsOfProgram, successors_of_insn_if_any}
+use Rattle.regress_memo.specs.Successors.{DeclaredInsnsEqualProgramInsns, successors_of_insn_if_any}
 use Rattle.regress_memo.specs.AnalysisChecks.{MayBeginIteration, MayRepeatLoopAt, IsolatesLookaround, IsConsistentAt, IsCoveredAt}
 use Rattle.regress_memo.proofs.LoopFactFlowLemmas.{holds-in, below-from}
 
-pub at-step : (P : Successors → Type 0) (program : Program) (insns : List declared.Insn) (ip : ℕ) (s : Successors) → AreInsnsOfProgram program insns
+pub at-step : (P : Successors → Type 0) (program : Program) (insns : List declared.Insn) (ip : ℕ) (s : Successors) → DeclaredInsnsEqualProgramInsns program insns
     → s ≡ successors_of_insn_if_any ip (slice_get (map insn_as_spec_insn insns) ip) → P s → P (successors_of_insn_if_any ip (slice_get program.insns ip))
 at-step P program insns ip s has is p =
     let e : s ≡ successors_of_insn_if_any ip (slice_get program.insns ip) = is ∙ ap (λ xs. successors_of_insn_if_any ip (slice_get xs ip)) (sym has) in
     subst P e p
 
 module _ (t : MemoAnalysis) (program : Program) where
-  -- ---- The account
+  -- ---- The analysis as liveness
 
   module _ (top : ℕ) (less : top < 2 ^ 63) where
     enters : (f : layout.LoopFields) (ip begin : ℕ) → MayBeginIteration t f ip begin → Enters (analysis_as_liveness t) f ip begin
@@ -88,7 +89,7 @@ module _ (t : MemoAnalysis) (program : Program) where
 
 -- ---- Weights
 
--- enough stands ready for what a step leaves
+-- The potentials cover what a step leaves, by the successors of the instruction.
 abbrev pub EnoughBy : Potentials → Program → Successors → (ip : ℕ) → Type 0
 EnoughBy w program Ends ip = Unit {0}
 EnoughBy w program (One n) ip = CoversOne w ip n.to

@@ -41,7 +41,7 @@ module _ (t : MemoAnalysis) (coded : HasDisjointCodes t) where
     pub base-is : memo_codes_before_insn t k.ip ≡ (insn_analysis_of t k.ip).base
     base-is = ap (λ b. if b then (insn_analysis_of t k.ip).base else t.codes) (lt-ltb k.ip (length t.lines.items) has.there)
 
-    -- it is among those of its instruction
+    -- A key's bit is below `above * places` if the codes up to its instruction are at most `above`.
     pub within : (above : ℕ) → memo_codes_before_insn t k.ip + number_of_memo_codes_at_insn t k.ip ≤ above → memo_bit_index_of_key t places k.ip k.at k.code < above * places
     within above le =
         let row : suc k.at * (insn_analysis_of t k.ip).codes ≤ places * (insn_analysis_of t k.ip).codes =
@@ -65,7 +65,7 @@ module _ (t : MemoAnalysis) (coded : HasDisjointCodes t) where
             let next = bases-below n (k.ip + 1) e in
             within t.codes (omega (arith, here, next))
 
-    -- by the line at hand
+    -- The bit that the line of a key's instruction yields is within the memo table.
     pub bit-bound : (x : InsnAnalysis) → x ≡ insn_analysis_of t k.ip → x.base * places + (k.at * x.codes + k.code) < t.codes * places
     bit-bound x is =
         let base : x.base * places ≡ memo_codes_before_insn t k.ip * places = ap (λ (y : InsnAnalysis). y.base * places) is ∙ ap (λ n. n * places) (sym base-is) in
@@ -73,7 +73,7 @@ module _ (t : MemoAnalysis) (coded : HasDisjointCodes t) where
         let fits = bit-fits in
         omega (arith, base, row, fits)
 
-  -- a key at an earlier instruction has an earlier bit
+  -- A key at an earlier instruction has an earlier bit.
   earlier : (places : ℕ) (j k : Key) → IsRecordableMemoKey t places j → IsRecordableMemoKey t places k → j.ip < k.ip
       → memo_bit_index_of_key t places j.ip j.at j.code < memo_bit_index_of_key t places k.ip k.at k.code
   earlier places j k has_j has_k less =

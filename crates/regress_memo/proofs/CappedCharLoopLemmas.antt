@@ -23,7 +23,7 @@ use Rattle.regress_memo.proofs.MemoPlanLemmas.{bare-tries, own}
 use Rattle.regress_memo.proofs.MemoSearchLemmas.{keys-bare, threads-tries}
 use Rattle.regress_memo.proofs.ThreadPotentialLemmas.{turns-give}
 
--- ---- Runs with a maximum
+-- ---- Char loops with a maximum
 
 module _ (w : Potentials) (ip : ℕ) where
   waiting-weigh : (ss : List State) → Each (λ t. t.ip ≡ ip) ss → sum_by (potential_of w) (map waiting ss) ≤ length ss * (w.at ip + 1)
@@ -95,7 +95,7 @@ others-paid = record {
   ends = λ program w price ips s. end-paid program w price ips s;
 }
 
--- ---- Runs that leave threads
+-- ---- Char loops that leave threads
 
 module _ (program : Program) (text : Text) (a : Liveness) (questions : ℕ → List Question) (way : ℕ → Direction) (ips : List ℕ)
     (taken : Key → ℕ) (plan : IsPlan program text a questions way ips taken) (memory : List Key) (s : State) where

@@ -1,4 +1,5 @@
--- The threads that a char loop leaves from a position on include those that it leaves from later positions.
+-- The threads that a char loop leaves from a position on include those that it leaves from later
+-- positions.
 use Rattle.std.proofs.Common.{◌≡◌, ℕ, zero, suc, ◌+◌, ◌-◌, ◌≤◌, min, List, [], ◌∷◌, ◌++◌, map, cond, Bool, true, false, refl, ap, ap₂, ◌∙◌, sym}
 use Rattle.std.proofs.Common.{arith}
 use Rattle.std.specs.Prelude.{if◌then◌else◌}
@@ -25,7 +26,7 @@ module _ (text : Text) (test : ℕ → Bool) (d : Direction) where
       let m = length-nearest text d place inside in
       omega (arith, l, m)
 
-  -- one fewer passes from one further on
+  -- If a character passes, one fewer passes from the next place on, which is within the text.
   passing-one : (n place : ℕ) → suc n ≤ passing text test d place → Beside text d place → (passing text test d place ≡ 1 + passing text test d (moved text d 1 place)) × (moved text d 1 place ≤ last_place text)
   passing-one n place few (nothing_left absent nothing left) = let none : passing text test d place ≡ 0 = ap (prefix_len test) nothing in absurd (omega (arith, few, none))
   passing-one n place few (one_more c some rest left within) = (by (test c) refl, within)
@@ -34,7 +35,7 @@ module _ (text : Text) (test : ℕ → Bool) (d : Direction) where
       by true e = ap (prefix_len test) rest ∙ ap (λ b. cond b (1 + passing text test d (moved text d 1 place)) 0) e
       by false e = let none : passing text test d place ≡ 0 = ap (prefix_len test) rest ∙ ap (λ b. cond b (1 + passing text test d (moved text d 1 place)) 0) e in absurd (omega (arith, few, none))
 
-  -- so many fewer pass from so many further on
+  -- If `n` characters pass, `n` fewer pass from the place `n` characters further on.
   pub passing-on : (n place : ℕ) → place ≤ last_place text → n ≤ passing text test d place → n + passing text test d (moved text d n place) ≡ passing text test d place
   passing-on zero place inside few = let e = ap (passing text test d) (moved-zero text d place) in omega (arith, e)
   passing-on (suc n) place inside few =

@@ -25,7 +25,7 @@ use Rattle.regress_memo.specs.ThreadPotentials.{Shape, stands_there, has_shape}
 use Rattle.regress_memo.specs.LoopDataKeyCodes.{Question, is_empty, how_many, number_of_possible_answers, bool_as_digit, answer_to_loop_question, code_of, codes_of}
 use Rattle.regress_memo.specs.LoopDataKeyCodes.{plan_code, plan_codes, HasSlotsOfProgram}
 use Rattle.regress_memo.specs.CharLoopExitThreadLists.{passing, greedy_loop_threads, pending_loop_threads}
-use Rattle.regress_memo.specs.UnboundedCharLoopMemoKeys.{answer_on, code_on, first_runs, shape_on, run_row, char_loop_greediness_at, insn_before, row_by, plan_rows}
+use Rattle.regress_memo.specs.UnboundedCharLoopMemoKeys.{answer_after_read_char, code_after_read_char, first_runs, shape_on, run_row, char_loop_greediness_at, insn_before, row_by, plan_rows}
 use Rattle.regress_memo.specs.UnboundedCharLoopMemoKeys.{CharLoopRecords}
 use Rattle.regress_memo.specs.UnboundedCharLoopMemoKeys.{run_key, plan_keys, IsOfPlan, RunHasKeys, CharLoopsHaveKeys}
 use Rattle.regress_memo.proofs.LivenessLemmas.{moves-on, not-here}
@@ -33,9 +33,9 @@ use Rattle.regress_memo.proofs.MemoKeyLemmas.{sound-state}
 use Rattle.regress_memo.proofs.CharLoopExitLemmas.{passing-left}
 use Rattle.regress_memo.proofs.LoopDataKeyCodeLemmas.{digits-same, answer-below, code-below, and-both, way-same, stands-here}
 
--- ---- Codes
+-- ---- Codes behind a char loop
 
-code-on : (qs : List Question) (s t : State) → ((q : Question) → IsIn q qs → answer_to_loop_question q t ≡ answer_on q (answer_to_loop_question q s)) → code_of qs t ≡ code_on qs (code_of qs s)
+code-on : (qs : List Question) (s t : State) → ((q : Question) → IsIn q qs → answer_to_loop_question q t ≡ answer_after_read_char q (answer_to_loop_question q s)) → code_of qs t ≡ code_after_read_char qs (code_of qs s)
 code-on [] s t each = refl
 code-on (q ∷ qs) s t each =
     let r = number_of_possible_answers q in
@@ -45,10 +45,10 @@ code-on (q ∷ qs) s t each =
     let less : n % r < r = omega (arith, some) in
     let parts : n % r + r * (n / r) ≡ answer_to_loop_question q s + r * code_of qs s = omega (arith, some) in
     let both = digits-same r (n % r) (answer_to_loop_question q s) (n / r) (code_of qs s) less below parts in
-    ap₂ (λ m k. m + r * k) (each q (inl refl) ∙ ap (answer_on q) (sym both.0))
-    (code-on qs s t (λ p there. each p (inr there)) ∙ ap (code_on qs) (sym both.1))
+    ap₂ (λ m k. m + r * k) (each q (inl refl) ∙ ap (answer_after_read_char q) (sym both.0))
+    (code-on qs s t (λ p there. each p (inr there)) ∙ ap (code_after_read_char qs) (sym both.1))
 
--- ---- Rows
+-- ---- Rows of shapes
 
 module _ (program : Program) (code : State → ℕ) (f : ℕ → Shape) (b : ℕ → State) where
   abbrev Stands : ℕ → Type 0
@@ -62,7 +62,7 @@ module _ (program : Program) (code : State → ℕ) (f : ℕ → Shape) (b : ℕ
   row-in-turn [] h = refl
   row-in-turn (n ∷ ns) h = and-both _ _ h.0.0 (waiting-row ns h.1)
 
--- ---- Sound rows
+-- ---- Rows of sound states
 
 module _ (R : Relation) where
   last-waits : (xs : List State) (y : State) → AlikeThreads R (map waiting (xs ++ y ∷ [])) (map waiting (xs ++ y ∷ [])) → R y y
@@ -73,7 +73,7 @@ module _ (R : Relation) where
   last-in-turn [] y h = h.0
   last-in-turn (x ∷ xs) y h = last-waits xs y h.1
 
--- ---- Runs
+-- ---- Shapes that a char loop leaves
 
 module _ (program : Program) (text : Text) (a : Liveness) (d : Direction) (test : ℕ → Bool) (questions : ℕ → List Question) (place : ℕ) (s : State) (is : HasRisingPlaceOffsets text) (within : place ≤ last_place text) (of : HasSlotsOfProgram program s) where
   abbrev at-place : ℕ → State
@@ -85,7 +85,7 @@ module _ (program : Program) (text : Text) (a : Liveness) (d : Direction) (test 
   abbrev code : State → ℕ
   code = plan_code questions
 
-  -- the shapes of a row
+  -- `shapes n` is the shape of the state that the loop leaves after `n` characters.
   abbrev shapes : ℕ → Shape
   shapes n = shape_on text test d behind-it (s.ip + 2) place (code (at-place 0)) n
 
@@ -95,7 +95,7 @@ module _ (program : Program) (text : Text) (a : Liveness) (d : Direction) (test 
   abbrev Asked : Type 0
   Asked = (l : ℕ) → IsIn (is_empty l) behind-it → a.inside (s.ip + 2) l ≡ true
 
-  -- an iteration that had begun by the first place has read a character by each later one
+  -- Loop data that is sound at the first place was not entered at any later place.
   not-empty : (n : ℕ) → (n ≡ 0 → ⊥) → n ≤ passing text test d place → (x : LoopData) (l : ℕ)
       → IsSound a (units text) d (at-place 0).pos (s.ip + 2) l x → (x.entry == (at-place n).pos) ≡ false
   not-empty n some le x l sound =
@@ -105,7 +105,7 @@ module _ (program : Program) (text : Text) (a : Liveness) (d : Direction) (test 
       not-here d x.entry (offset text place) (at-place n).pos (subst (λ p. IsNotAheadInDirection d x.entry p) here sound.passed) m.passed (m.further (lt-ltb 0 n (omega (arith, some))))
 
   module _ (sound : IsSoundState a (units text) d (at-place 0)) (asked : Asked) where
-    answer-further : (n : ℕ) → (n ≡ 0 → ⊥) → n ≤ passing text test d place → (q : Question) → IsIn q behind-it → answer_to_loop_question q (at-place n) ≡ answer_on q (answer_to_loop_question q (at-place 0))
+    answer-further : (n : ℕ) → (n ≡ 0 → ⊥) → n ≤ passing text test d place → (q : Question) → IsIn q behind-it → answer_to_loop_question q (at-place n) ≡ answer_after_read_char q (answer_to_loop_question q (at-place 0))
     answer-further n some le (how_many l most) h = refl
     answer-further n some le (is_empty l) h = by (slice_get s.loops l) refl
       where
@@ -117,7 +117,7 @@ module _ (program : Program) (text : Text) (a : Liveness) (d : Direction) (test 
     shape-stands n le =
         stands-here program code (shapes n) (at-place n) (record { groups = of.groups; starts = of.starts; loops = of.loops }) refl refl (by (n == 0) refl)
       where
-        by : (b : Bool) → (n == 0) ≡ b → code (at-place n) ≡ (if b then code (at-place 0) else code_on behind-it (code (at-place 0)))
+        by : (b : Bool) → (n == 0) ≡ b → code (at-place n) ≡ (if b then code (at-place 0) else code_after_read_char behind-it (code (at-place 0)))
         by true e = ap (λ m. code (at-place m)) (eqb-true n 0 e)
         by false e = code-on behind-it (at-place 0) (at-place n) (answer-further n (eqb-false n 0 e) le)
 
@@ -137,7 +137,7 @@ module _ (program : Program) (text : Text) (a : Liveness) (d : Direction) (test 
         ap (λ m. has_shape program code (row false) (map waiting (fewest_first text d place s 0 m))) count-is
         ∙ waiting-row program code shapes at-place _ all-stand
 
-  -- ---- Keys
+  -- ---- Keys of the rows
 
   module _ (way : ℕ → Direction) (ips : List ℕ) (taken : Key → ℕ) where
     abbrev keys : Keys
@@ -171,7 +171,7 @@ module _ (program : Program) (text : Text) (a : Liveness) (d : Direction) (test 
     abbrev Agreeing : Relation
     Agreeing u v = Agree a (units text) outermost d u v
 
-    -- the nearest place is the last one of a greedy run
+    -- If the threads of a greedy loop are sound, so is the state at the first place.
     greedy-nearest : AreSound program text a keys d (greedy_loop_threads text test d 0 place s) → IsSoundState a (units text) d (at-place 0)
     greedy-nearest h =
         let one_more : passing text test d place + 1 - 0 ≡ 1 + passing text test d place = omega arith in
@@ -179,7 +179,7 @@ module _ (program : Program) (text : Text) (a : Liveness) (d : Direction) (test 
         ap (most_first text d place s 0) one_more ∙ most-parts text d place s 0 1 (passing text test d place) in
         sound-state a (units text) d (at-place 0) (last-in-turn Agreeing (most_first text d place s 1 (passing text test d place)) (at-place 0) (subst (λ us. AlikeThreads Agreeing (first_running_and_others_waiting us) (first_running_and_others_waiting us)) split h))
 
-    -- and the first one of a lazy run
+    -- If the pending threads of a lazy loop are sound, so is the state at the first place.
     lazy-nearest : AreSound program text a keys d (pending_loop_threads text test d 0 place s) → IsSoundState a (units text) d (at-place 0)
     lazy-nearest h =
         let one_more : passing text test d place + 1 - 0 ≡ suc (passing text test d place) = omega arith in

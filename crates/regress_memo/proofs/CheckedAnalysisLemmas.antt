@@ -1,4 +1,5 @@
--- An analysis that passes the checks of each instruction is correct, and is a memo plan in each text.
+-- An analysis that passes the checks of each instruction is correct, and is a memo plan in each
+-- text.
 use Rattle.std.proofs.Common.{◌≡◌, ◌<◌, ◌≤◌, ℕ, zero, suc, ◌+◌, Bool, true, false, ◌&&◌, ◌||◌, List, [], ◌∷◌, ◌⊎◌, Option, Some, None, refl, ap, ◌∙◌}
 use Rattle.std.proofs.Common.{sym, subst, arith, length, map, slice_get, if◌then◌else◌, take}
 use Rattle.std.specs.Prelude.{◌==◌, nat_le, nat_lt, unwrap_or}
@@ -21,17 +22,17 @@ use Rattle.regress_memo.specs.declared.analysis_result.MemoAnalysis.{MemoAnalysi
 use Rattle.regress_memo.specs.declared.analysis_result.LoopProgressFact.TheVariants.{Inside, Empty}
 use Rattle.regress_memo.specs.AnalysisAsPotentials.{no_insn_analysis, insn_analysis_of, rows_in, enclosing_loops_of, states_loop_fact, count_bound_of}
 use Rattle.regress_memo.specs.AnalysisAsPotentials.{analysis_as_liveness}
-use Rattle.regress_memo.specs.AnalysisAsPotentials.{with_count, questions_on, key_code_questions_of}
+use Rattle.regress_memo.specs.AnalysisAsPotentials.{with_count_question, questions_on, key_code_questions_of}
 use Rattle.regress_memo.specs.AnalysisAsPotentials.{recorded_from, recorded, insn_direction}
-use Rattle.regress_memo.specs.Successors.{AreInsnsOfProgram, successors_of_insn_if_any}
+use Rattle.regress_memo.specs.Successors.{DeclaredInsnsEqualProgramInsns, successors_of_insn_if_any}
 use Rattle.regress_memo.specs.AnalysisChecks.{IsConsistentAt, IsCoveredAt, IsInsnCostCovered, IsInsnChecked}
 use Rattle.regress_memo.specs.CheckedAnalysis.{IsAnalysisOf, FirstInsnForwardOutsideLoops, AnalysesAreMemoPlans}
 use Rattle.regress_memo.proofs.LoopFactFlowLemmas.{holds-there, holds-more}
 use Rattle.regress_memo.proofs.AnalysisCheckLemmas.{right-at, enough-at, silent-at, look-right}
 
--- ---- Who records
+-- ---- Instructions that record
 
--- an instruction that records is one of them
+-- An instruction whose line records is one of those that record.
 is-recorded : (lines : List InsnAnalysis) (first k : ℕ) (x : InsnAnalysis) → slice_get lines k ≡ Some x → x.records ≡ true
     → is_one_of (recorded_from first lines) (first + k) ≡ true
 is-recorded [] first k x there e = cc
@@ -55,7 +56,7 @@ is-recorded (y ∷ lines) first (suc k) x there e =
     with-more h true = or-yes (first == (first + suc k)) (is_one_of (recorded_from (first + 1) lines) (first + suc k)) h
     with-more h false = h
 
--- one of them is an instruction that records
+-- The instruction `ip` has a line among `lines`, and that line records.
 pub record Records (lines : List InsnAnalysis) (first ip : ℕ) : Type 0 where
   pub k : ℕ
   pub line : InsnAnalysis
@@ -106,7 +107,7 @@ not-recorded t ip h true e = by (slice_get t.lines.items ip) refl
         let one_at : is_one_of (recorded t) ip ≡ true = subst (λ n. is_one_of (recorded t) n ≡ true) at one in
         cc
 
--- ---- Questions
+-- ---- Questions of keys
 
 in-if : (q x : Question) (b : Bool) (qs : List Question) → IsIn q qs → IsIn q (if b then x ∷ qs else qs)
 in-if q x true qs h = inr h
@@ -130,10 +131,10 @@ module _ (up : ℕ → ℕ) where
           → IsIn (is_empty l) (questions_on up (r ∷ rows))
       by on true e =
           let both = and_parts (r.id == l) r.empty e in
-          head-if (is_empty l) (is_empty r.id) r.empty (with_count r (up r.id) (questions_on up rows)) both.1
+          head-if (is_empty l) (is_empty r.id) r.empty (with_count_question r (up r.id) (questions_on up rows)) both.1
           (ap (λ i. is_empty i) (eqb-true r.id l both.0))
       by on false e =
-          in-if (is_empty l) (is_empty r.id) r.empty (with_count r (up r.id) (questions_on up rows))
+          in-if (is_empty l) (is_empty r.id) r.empty (with_count_question r (up r.id) (questions_on up rows))
           (in-if (is_empty l) (how_many r.id (up r.id)) (nat_lt 0 (up r.id)) (questions_on up rows)
           (on (sym (ap (λ b. b || states_loop_fact Empty l rows) e) ∙ h)))
 
@@ -145,18 +146,18 @@ module _ (up : ℕ → ℕ) where
           → IsIn (how_many l (up l)) (questions_on up (r ∷ rows))
       by on true e =
           let is = eqb-true r.id l (and_parts (r.id == l) true e).0 in
-          in-if (how_many l (up l)) (is_empty r.id) r.empty (with_count r (up r.id) (questions_on up rows))
+          in-if (how_many l (up l)) (is_empty r.id) r.empty (with_count_question r (up r.id) (questions_on up rows))
           (head-if (how_many l (up l)) (how_many r.id (up r.id)) (nat_lt 0 (up r.id)) (questions_on up rows)
           (lt-ltb 0 (up r.id) (subst (λ i. 0 < up i) (sym is) some)) (ap (λ i. how_many i (up i)) is))
       by on false e =
-          in-if (how_many l (up l)) (is_empty r.id) r.empty (with_count r (up r.id) (questions_on up rows))
+          in-if (how_many l (up l)) (is_empty r.id) r.empty (with_count_question r (up r.id) (questions_on up rows))
           (in-if (how_many l (up l)) (how_many r.id (up r.id)) (nat_lt 0 (up r.id)) (questions_on up rows)
           (on (sym (ap (λ b. b || states_loop_fact Inside l rows) e) ∙ h)))
 
   empty-asked : (l : ℕ) (rows : List EnclosingLoop) → IsIn (is_empty l) (questions_on up rows) → (states_loop_fact Inside l rows ≡ true) × (states_loop_fact Empty l rows ≡ true)
   empty-asked l [] h = absurd h
   empty-asked l (r ∷ rows) h =
-      by (λ k. empty-asked l rows k) (out-if (is_empty l) (is_empty r.id) r.empty (with_count r (up r.id) (questions_on up rows)) h)
+      by (λ k. empty-asked l rows k) (out-if (is_empty l) (is_empty r.id) r.empty (with_count_question r (up r.id) (questions_on up rows)) h)
     where
       behind : (IsIn (is_empty l) (questions_on up rows) → (states_loop_fact Inside l rows ≡ true) × (states_loop_fact Empty l rows ≡ true))
           → ((nat_lt 0 (up r.id) ≡ true) × (how_many r.id (up r.id) ≡ is_empty l)) ⊎ IsIn (is_empty l) (questions_on up rows)
@@ -165,7 +166,7 @@ module _ (up : ℕ → ℕ) where
       behind on (inr h) = let both = on h in (holds-more Inside l r rows both.0, holds-more Empty l r rows both.1)
 
       by : (IsIn (is_empty l) (questions_on up rows) → (states_loop_fact Inside l rows ≡ true) × (states_loop_fact Empty l rows ≡ true))
-          → ((r.empty ≡ true) × (is_empty r.id ≡ is_empty l)) ⊎ IsIn (is_empty l) (with_count r (up r.id) (questions_on up rows))
+          → ((r.empty ≡ true) × (is_empty r.id ≡ is_empty l)) ⊎ IsIn (is_empty l) (with_count_question r (up r.id) (questions_on up rows))
           → (states_loop_fact Inside l (r ∷ rows) ≡ true) × (states_loop_fact Empty l (r ∷ rows) ≡ true)
       by on (inl (b, e)) =
           let is : r.id ≡ l = cc in
@@ -175,7 +176,7 @@ module _ (up : ℕ → ℕ) where
   count-asked : (l most : ℕ) (rows : List EnclosingLoop) → IsIn (how_many l most) (questions_on up rows) → (states_loop_fact Inside l rows ≡ true) × (most ≤ up l)
   count-asked l most [] h = absurd h
   count-asked l most (r ∷ rows) h =
-      by (λ k. count-asked l most rows k) (out-if (how_many l most) (is_empty r.id) r.empty (with_count r (up r.id) (questions_on up rows)) h)
+      by (λ k. count-asked l most rows k) (out-if (how_many l most) (is_empty r.id) r.empty (with_count_question r (up r.id) (questions_on up rows)) h)
     where
       behind : (IsIn (how_many l most) (questions_on up rows) → (states_loop_fact Inside l rows ≡ true) × (most ≤ up l))
           → ((nat_lt 0 (up r.id) ≡ true) × (how_many r.id (up r.id) ≡ how_many l most)) ⊎ IsIn (how_many l most) (questions_on up rows)
@@ -188,14 +189,14 @@ module _ (up : ℕ → ℕ) where
       behind on (inr h) = let both = on h in (holds-more Inside l r rows both.0, both.1)
 
       by : (IsIn (how_many l most) (questions_on up rows) → (states_loop_fact Inside l rows ≡ true) × (most ≤ up l))
-          → ((r.empty ≡ true) × (is_empty r.id ≡ how_many l most)) ⊎ IsIn (how_many l most) (with_count r (up r.id) (questions_on up rows))
+          → ((r.empty ≡ true) × (is_empty r.id ≡ how_many l most)) ⊎ IsIn (how_many l most) (with_count_question r (up r.id) (questions_on up rows))
           → (states_loop_fact Inside l (r ∷ rows) ≡ true) × (most ≤ up l)
       by on (inl (b, e)) = let none : ⊥ = cc in absurd none
       by on (inr h) = behind on (out-if (how_many l most) (how_many r.id (up r.id)) (nat_lt 0 (up r.id)) (questions_on up rows) h)
 
--- ---- The whole
+-- ---- The whole analysis
 
-module _ (t : MemoAnalysis) (program : Program) (insns : List declared.Insn) (starts : FirstInsnForwardOutsideLoops t) (long : length t.lines.items ≡ length insns) (has : AreInsnsOfProgram program insns)
+module _ (t : MemoAnalysis) (program : Program) (insns : List declared.Insn) (starts : FirstInsnForwardOutsideLoops t) (long : length t.lines.items ≡ length insns) (has : DeclaredInsnsEqualProgramInsns program insns)
     (written : (ip : ℕ) → ip < length insns → IsInsnChecked t program (successors_of_insn_if_any ip (slice_get program.insns ip)) ip) where
   as-long : length program.insns ≡ length insns
   as-long = ap (λ (xs : List Insn). length xs) has ∙ length-map insns insn_as_spec_insn
@@ -262,8 +263,8 @@ module _ (t : MemoAnalysis) (program : Program) (insns : List declared.Insn) (st
     ways = λ ip look e. look-right t program (slice_get program.insns ip) look ip e (steps ip);
   }
 
--- some program has these instructions, so what is said of all that have them and names none is so
-pub some-program : (insns : List declared.Insn) → (program : Program) × AreInsnsOfProgram program insns
+-- Some program has the given instructions.
+pub some-program : (insns : List declared.Insn) → (program : Program) × DeclaredInsnsEqualProgramInsns program insns
 some-program insns = (
   record {
     insns = map insn_as_spec_insn insns;
@@ -277,7 +278,7 @@ some-program insns = (
   refl,
 )
 
--- ---- What one serves for
+-- ---- Analyses as memo plans
 
 pub ledgers-serve : AnalysesAreMemoPlans
 ledgers-serve program t of text is_text bytes less =

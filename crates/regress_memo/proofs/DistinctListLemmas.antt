@@ -8,7 +8,7 @@ use Rattle.regress_memo.specs.DistinctLists.{IsIn, IsNew, AreDistinct, AreIn}
 use Rattle.regress_memo.specs.MemoSearch.{DistinctKeysCostAtMostList}
 
 module _ {K : Type 0} where
-  -- the list without this key, once
+  -- `without` is the list without one occurrence of `k`.
   without : (k : K) (all : List K) → IsIn k all → List K
   without k [] h = []
   without k (j ∷ all) (inl e) = all
@@ -48,7 +48,7 @@ module _ {K : Type 0} where
   few-number : (ks all : List K) → AreDistinct ks → AreIn ks all → length ks ≤ length all
   few-number ks all distinct there = let few = few-price (λ k. 1) ks all distinct there in let a = sum-ones ks in let b = sum-ones all in omega (arith, few, a, b)
 
-  -- ---- Lists that are joined
+  -- ---- Joined lists
 
   pub Each-left : (P : K → Type 0) (xs ys : List K) → Each P (xs ++ ys) → Each P xs
   Each-left P [] ys h = tt
@@ -66,7 +66,7 @@ module _ {K : Type 0} where
   distinct-right [] ys h = h
   distinct-right (x ∷ xs) ys h = distinct-right xs ys h.1
 
-  -- the first key of all stands further behind
+  -- Distinct elements stay distinct if the first one is moved behind some others.
   pub distinct-moved : (k : K) (xs ys : List K) → AreDistinct (k ∷ (xs ++ ys)) → AreDistinct (xs ++ k ∷ ys)
   distinct-moved k [] ys h = h
   distinct-moved k (x ∷ xs) ys h = (
@@ -85,12 +85,12 @@ module _ {K : Type 0} where
       let e = sum_by-append price xs ys in
       omega (arith, a, b, c, e)
 
-  -- different keys before different ones, among which none of them is
+  -- Joined lists are distinct if both are and none has an element of the other.
   pub distinct-joined : (xs ys : List K) → AreDistinct xs → Each (λ x. IsNew x ys) xs → AreDistinct ys → AreDistinct (xs ++ ys)
   distinct-joined [] ys d new e = e
   distinct-joined (x ∷ xs) ys d new e = (Each-append (λ j. j ≡ x → ⊥) xs ys d.0 new.0, distinct-joined xs ys d.1 new.1 e)
 
-  -- a fact of all keys of a list is one of each
+  -- A fact that holds of all elements of a list holds of each element in it.
   pub each-in : (P : K → Type 0) (k : K) (ks : List K) → IsIn k ks → Each P ks → P k
   each-in P k [] h all = absurd h
   each-in P k (j ∷ ks) (inl e) all = subst P e all.0

@@ -1,4 +1,5 @@
--- Thread lists that find nothing alone may be dropped before any others, and lists that agree fail alike.
+-- Thread lists that find nothing alone may be dropped before any others, and lists that agree fail
+-- alike.
 use Rattle.std.proofs.Common.{◌≡◌, ℕ, zero, suc, ◌+◌, ◌<◌, List, [], ◌∷◌, ◌++◌, Option, Some, None, Bool, false, refl, ap, ◌∙◌, sym, subst, arith}
 use Rattle.std.proofs.Common.{append-nil}
 use Rattle.regex_meaning.specs.Text.{Text, Direction}
@@ -39,7 +40,7 @@ module _ (program : Program) (text : Text) (d : Direction) where
       go (asks inner negate u s) e = by_asked negate s (search program text n inner (running u ∷ [])) e
       go stuck e = cc
 
-  -- rows that find nothing end without an end
+  -- A search of threads that find nothing has no end.
   pub row-ends : (turns : ℕ) (ts : List Thread) (f : Found) → AllFindNothing program text d ts → search program text turns d ts ≡ Some f → f.end ≡ None
   unfolding search
   row-ends turns ts f none e = by turns refl (none.within turns [] f (ap (search program text turns d) (append-nil ts) ∙ e))
@@ -47,7 +48,7 @@ module _ (program : Program) (text : Text) (d : Direction) where
       by : (n : ℕ) → turns ≡ n → Within program text false turns d 0 [] f → f.end ≡ None
       by n q w = let s : Some result_without_threads ≡ Some w.found = w.searches in let is : result_without_threads ≡ w.found = cc in sym (ap (λ (f : Found). f.end) is ∙ w.end)
 
-  -- a row whose search alone finds nothing may be left out before any others
+  -- Threads whose searches alone have no end may be dropped before any others.
   pub row-alone : (ts : List Thread) → ((turns : ℕ) (f : Found) → search program text turns d ts ≡ Some f → f.end ≡ None) → AllFindNothing program text d ts
   row-alone ts h = record {
     within = λ turns vs f e.
@@ -57,7 +58,7 @@ module _ (program : Program) (text : Text) (d : Direction) where
         record { found = r.0; searches = r.1; end = r.2; few = omega (arith, sum); counted = λ x. cc };
   }
 
-  -- and a step is taken for it, if it is not empty
+  -- Threads that find nothing, unless there are none, may be dropped with one step spent.
   pub row-takes : (t : Thread) (ts : List Thread) → AllFindNothing program text d (t ∷ ts) → Simulates program text false d 1 [] (t ∷ ts)
   row-takes t ts none = record {
     within = λ turns vs f e.
@@ -69,7 +70,7 @@ module _ (program : Program) (text : Text) (d : Direction) where
   }
 
 module _ (program : Program) (text : Text) (a : Liveness) (acc : IsLivenessFor program text a) (d : Direction) where
-  -- rows that agree have searches of as many steps, and of ends both or neither
+  -- Searches of threads that agree take equally many steps, and their ends agree.
   pub same-answers : (turns : ℕ) (ts us : List Thread) (f g : Found) → AlikeThreads (Agree a (units text) outermost d) ts us → search program text turns d ts ≡ Some f
       → search program text turns d us ≡ Some g → (f.steps ≡ g.steps) × AlikeEnds (Agree a (units text) outermost d) f.end g.end
   same-answers turns ts us f g h e q =

@@ -14,14 +14,14 @@ use Rattle.regex_meaning.specs.CompilationRelation.{Program, LoopFields, Insn, G
 use Rattle.regex_meaning.specs.CompilationRelation.{WordBoundaryUnicodeICase, Alt, Jump, EnterLoop, LoopAgain, ResetCaptureGroup, Loop1CharBody}
 use Rattle.regex_meaning.specs.CompilationRelation.{BeginCaptureGroup, EndCaptureGroup, BackRef, Lookahead, Lookbehind}
 use Rattle.regress_machine.specs.Machine.{State, Thread, running, waiting, Next, goes, scans, ends, asks, stuck, after_lookaround, state_with_ip, with_some, go}
-use Rattle.regress_machine.specs.Machine.{go_if, loop_again_effect, test_of, next_insn_at_place, moved_by, read_one, stay_if, read_group, char_loop_states, scan, act_on, act}
+use Rattle.regress_machine.specs.Machine.{go_if, loop_again_effect, test_of, next_insn_at_place, offset_moved_in_direction, read_one, stay_if, read_group, char_loop_states, scan, act_on, act}
 use Rattle.regress_memo.specs.ThreadBisimulation.{AlikeThreads, AlikeEnds, AlikeAnswers, AlikeNext, IsBisimulation}
 use Rattle.regress_memo.specs.GroupPreservingInsns.{IsSilentAgain, IsSilentAt, AreGroupPreserving, InsnsKeepGroupsToEnd}
 use Rattle.regress_machine.proofs.StatesInEffects.{IsOfThread, IsOfNext, of-in_turn, of-with_some, of-go_if, of-map, of-loop_turn, of-again_at}
 use Rattle.regress_memo.proofs.ThreadBisimulationLemmas.{threads-end-alike}
 
 module _ (silent : ℕ → Bool) (groups : Groups) (starts : List ℕ) (loops : ℕ) where
-  -- a state at one of these instructions, with these groups and so many loops
+  -- A state is at a silent instruction, with the given groups, starts and number of loops.
   record Keeps (s : State) : Type 0 where
     at : silent s.ip ≡ true
     has : s.groups ≡ groups
@@ -34,7 +34,7 @@ module _ (silent : ℕ → Bool) (groups : Groups) (starts : List ℕ) (loops : 
   abbrev NextKeeps : Next → Type 0
   NextKeeps = IsOfNext Keeps
 
-  -- one more iteration, and the exit
+  -- A state keeps its groups if another iteration of a loop begins.
   keeps-again : (f : LoopFields) (begin k : ℕ) (s : State) → Keeps s → silent (begin + 1) ≡ true
       → Keeps (record s { ip = begin + 1; loops = slice_set s.loops f.loop_id (record { iters = k; entry = s.pos }) })
   keeps-again f begin k s h at = record {
@@ -82,7 +82,7 @@ module _ (silent : ℕ → Bool) (groups : Groups) (starts : List ℕ) (loops : 
     act-keeps None h = tt
     act-keeps (Some Goal) h = k
     act-keeps (Some JustFail) h = tt
-    act-keeps (Some (ByteSeq bytes)) h = of-go_if Keeps _ (record s { ip = s.ip + 1; pos = moved_by d (length bytes) s.pos }) (λ b. record { at = h; has = k.has; began = k.began; many = k.many })
+    act-keeps (Some (ByteSeq bytes)) h = of-go_if Keeps _ (record s { ip = s.ip + 1; pos = offset_moved_in_direction d (length bytes) s.pos }) (λ b. record { at = h; has = k.has; began = k.began; many = k.many })
     act-keeps (Some (StartOfLine multiline)) h = stay-keeps _ h
     act-keeps (Some (EndOfLine multiline)) h = stay-keeps _ h
     act-keeps (Some (WordBoundary invert)) h = stay-keeps _ h
@@ -100,7 +100,7 @@ module _ (silent : ℕ → Bool) (groups : Groups) (starts : List ℕ) (loops : 
     act-keeps (Some (Lookbehind negate start_group end_group continuation)) h = (record { at = h.0; has = k.has; began = k.began; many = k.many }, record { at = h.1; has = k.has; began = k.began; many = k.many })
     act-keeps o h = read-keeps (test_of program o) h
 
-  -- as a relation of a state with itself
+  -- `Same` relates a state that keeps its groups to itself.
   record Same (w : Bool) (d : Direction) (s t : State) : Type 0 where
     keeps : Keeps s
     is : s ≡ t

@@ -1,4 +1,5 @@
--- The first instruction, like each one without enclosing loops in the analysis, is outside all loops.
+-- The first instruction is outside all loops, like each one without enclosing loops in the
+-- analysis.
 use Rattle.std.proofs.Common.{◌≡◌, ℕ, false, [], ap}
 use Rattle.regex_meaning.specs.CompilationRelation.{Program}
 use Rattle.regress_memo.specs.declared.analysis_result.MemoAnalysis.{MemoAnalysis}

@@ -8,10 +8,10 @@ use Rattle.std.proofs.lemmas.Bool.{ltb-false}
 use Rattle.regress_machine.specs.Machine.{LoopData, State}
 use Rattle.regress_memo.specs.LoopDataKeyCodes.{Question, is_empty, how_many, bool_as_digit, answer_to_loop_question, code_of, codes_of}
 use Rattle.regress_memo.specs.declared.analysis_result.EnclosingLoop.{EnclosingLoop}
-use Rattle.regress_memo.specs.AnalysisAsPotentials.{with_empty, with_count, questions_on}
+use Rattle.regress_memo.specs.AnalysisAsPotentials.{with_emptiness_question, with_count_question, questions_on}
 use Rattle.regress_memo.specs.CheckedAnalysis.{radix_of_loop_digit, digit_of}
 
--- ---- How many codes
+-- ---- The number of codes
 
 with-count-codes : (l n : ℕ) (qs : List Question) (b : Bool) → (b ≡ false → n ≡ 0)
     → codes_of (if b then how_many l n ∷ qs else qs) ≡ (n + 1) * codes_of qs
@@ -28,11 +28,11 @@ with-empty-codes : (l n : ℕ) (qs : List Question) (x : ℕ) → codes_of qs �
 with-empty-codes l n qs x e true = ap (λ y. 2 * y) e ∙ sym (mul_assoc 2 (n + 1) x)
 with-empty-codes l n qs x e false = let same : (1 * (n + 1)) * x ≡ (n + 1) * x = omega arith in e ∙ sym same
 
-pub row-codes : (r : EnclosingLoop) (n : ℕ) (qs : List Question) → codes_of (with_empty r (with_count r n qs)) ≡ radix_of_loop_digit n r * codes_of qs
+pub row-codes : (r : EnclosingLoop) (n : ℕ) (qs : List Question) → codes_of (with_emptiness_question r (with_count_question r n qs)) ≡ radix_of_loop_digit n r * codes_of qs
 row-codes r n qs =
-    with-empty-codes r.id n (with_count r n qs) (codes_of qs) (with-count-codes r.id n qs (nat_lt 0 n) (none-below n)) r.empty
+    with-empty-codes r.id n (with_count_question r n qs) (codes_of qs) (with-count-codes r.id n qs (nat_lt 0 n) (none-below n)) r.empty
 
--- ---- The code
+-- ---- The code of a list of loops
 
 of-none : (o : Option LoopData) → unwrap_or (option_map (λ (x : LoopData). min x.iters 0) o) 0 ≡ 0
 of-none None = refl
@@ -46,7 +46,7 @@ with-count-code l n qs s false h =
     let e : (n + 1) * code_of qs s ≡ (0 + 1) * code_of qs s = ap (λ m. (m + 1) * code_of qs s) (h refl) in
     omega (arith, none, e)
 
--- the digit of a row, by what its loop holds
+-- The digit of a loop is its capped count, joined with a bit for an empty iteration if asked.
 digit-by : (r : EnclosingLoop) (n at : ℕ) (o : Option LoopData) (b : Bool) → r.empty ≡ b
     → digit_of n at o r
     ≡ (if b then unwrap_or (option_map (λ (x : LoopData). bool_as_digit (x.entry == at)) o) 0 + 2 * unwrap_or (option_map (λ (x : LoopData). min x.iters n) o) 0
@@ -68,9 +68,9 @@ with-empty-code r n qs s c e false is =
     omega (arith, d, e)
 
 pub row-code : (r : EnclosingLoop) (n : ℕ) (qs : List Question) (s : State)
-    → code_of (with_empty r (with_count r n qs)) s ≡ digit_of n s.pos (slice_get s.loops r.id) r + radix_of_loop_digit n r * code_of qs s
+    → code_of (with_emptiness_question r (with_count_question r n qs)) s ≡ digit_of n s.pos (slice_get s.loops r.id) r + radix_of_loop_digit n r * code_of qs s
 row-code r n qs s =
-    with-empty-code r n (with_count r n qs) s (code_of qs s) (with-count-code r.id n qs s (nat_lt 0 n) (none-below n)) r.empty refl
+    with-empty-code r n (with_count_question r n qs) s (code_of qs s) (with-count-code r.id n qs s (nat_lt 0 n) (none-below n)) r.empty refl
 
 bit-below : (b : Bool) → bool_as_digit b < 2
 bit-below true = omega arith
@@ -88,7 +88,7 @@ digit-two n at (Some x) r false e = let d = digit-by r n at (Some x) false e in 
 pub digit-below : (n at : ℕ) (o : Option LoopData) (r : EnclosingLoop) → digit_of n at o r < radix_of_loop_digit n r
 digit-below n at o r = digit-two n at o r r.empty refl
 
--- ---- So far
+-- ---- Codes of the first loops
 
 codes-some : (qs : List Question) → 1 ≤ codes_of qs
 codes-some [] = omega arith
@@ -109,7 +109,7 @@ module _ (up : ℕ → ℕ) where
       let le : codes * 1 ≤ codes * codes_of (questions_on up rest) = mul-le-mul_left codes (codes-some (questions_on up rest)) in
       omega (arith, le, e)
 
-  -- the digits of the first rows, and the code of the others
+  -- The code of the first rows and the code of the remaining ones make up the code of all rows.
   pub record SoFar (rows rest : List EnclosingLoop) (at : ℕ) (loops : List LoopData) (code codes : ℕ) : Type 0 where
     pub product : codes * codes_of (questions_on up rest) ≡ codes_of (questions_on up rows)
     pub below : code < codes
@@ -142,7 +142,7 @@ module _ (up : ℕ → ℕ) where
           omega (arith, whole, row, parts);
     }
 
-  -- ---- One row after another
+  -- ---- Codes with one more loop
 
   module _ (rows : List EnclosingLoop) (i : ℕ) (d : EnclosingLoop) (less : i < length rows) where
     rest-is : drop i rows ≡ get_or rows i d ∷ drop (i + 1) rows

@@ -1,4 +1,5 @@
--- The liveness analyses of `(?:ab)*c` and `(?:a*){2,}b` are sound, and have the stated codes and costs.
+-- The liveness analyses of `(?:ab)*c` and `(?:a*){2,}b` are sound, and have the stated codes and
+-- costs.
 use Rattle.std.proofs.Common.{◌≡◌, ◌<◌, ℕ, zero, suc, ◌≤◌, Bool, true, false, ◌&&◌, ◌+◌, ◌||◌, [], ◌∷◌, Some, refl, subst, sym, slice_get, arith}
 use Rattle.std.specs.Prelude.{if◌then◌else◌, ◌==◌, IsTrue}
 use mathlib.Core.Logic.{inl, inr}
@@ -13,7 +14,7 @@ use Rattle.regress_machine.specs.TextsForBytePrograms.{HasUtf8CharactersAndOffse
 use Rattle.regress_machine.specs.InsnEffects.{is_byte_sequence_insn}
 use Rattle.regress_memo.specs.Liveness.{IsConsistentEdge, IsConsistentPlainEdge, none, by_minimum, IsSoundLivenessAt, ReadsAsBytes}
 use Rattle.regress_memo.specs.LoopDataKeyCodes.{Question, is_empty, how_many, AsksAll}
-use Rattle.regress_memo.specs.LivenessExamples.{row_program, row_account, in_loop, twice_program, twice_account, twice_questions, twice_at, twice_left}
+use Rattle.regress_memo.specs.LivenessExamples.{ab_loop_example_program, ab_loop_example_liveness, in_loop, two_required_program, twice_account, twice_questions, twice_at, twice_left}
 use Rattle.regress_memo.specs.LivenessExamples.{twice_weights, TwiceIsRight, LivenessExamplesAreRight}
 use Rattle.regress_memo.specs.ThreadPotentials.{CoversInsn, is_one_of}
 use Rattle.regress_memo.specs.DistinctLists.{IsIn}
@@ -21,7 +22,7 @@ use Rattle.regress_memo.specs.DistinctLists.{IsIn}
 no : (b : Bool) → (b && false) ≡ true → {X : Type 0} → X
 no b h = let f : false ≡ true = and-right b false h in cc
 
-again-from : (ip : ℕ) → IsConsistentEdge row_account false (none row_account) (λ l. l == 0) ip 1
+again-from : (ip : ℕ) → IsConsistentEdge ab_loop_example_liveness false (none ab_loop_example_liveness) (λ l. l == 0) ip 1
 again-from ip = record {
   start = λ id h e. cc;
   inside = λ l h e. let yes = and-left (l == 0) true h in cc;
@@ -35,7 +36,7 @@ again-from ip = record {
     ends true = refl
     ends false = refl
 
-leave-from : (ip : ℕ) → IsConsistentPlainEdge row_account false ip 4
+leave-from : (ip : ℕ) → IsConsistentPlainEdge ab_loop_example_liveness false ip 4
 leave-from ip = record {
   start = λ id h e. cc;
   inside = λ l h e. no (l == 0) h;
@@ -46,7 +47,7 @@ leave-from ip = record {
 }
 
 module _ (top most : ℕ) (flags : Flags) (start : StartPredicate) (less : top < most) where
-  at : (ip : ℕ) → IsSoundLivenessAt row_account top (row_program most flags start) (slice_get (row_program most flags start).insns ip) ip
+  at : (ip : ℕ) → IsSoundLivenessAt ab_loop_example_liveness top (ab_loop_example_program most flags start) (slice_get (ab_loop_example_program most flags start).insns ip) ip
   at zero = record { again = again-from 0; leave = leave-from 0; writes = refl; few = λ h. cc }
   at (suc zero) = record { start = λ id h e. cc; inside = λ l h e. h; moved = λ l h e r. cc; empty = λ l h e r. cc; fresh = λ l h. cc; writes = λ l h. cc }
   at (suc (suc zero)) = record { start = λ id h e. cc; inside = λ l h e. h; moved = λ l h e r. cc; empty = λ l h e r. cc; fresh = λ l h. cc; writes = λ l h. cc }
@@ -60,7 +61,7 @@ module _ (top most : ℕ) (flags : Flags) (start : StartPredicate) (less : top <
   at (suc (suc (suc (suc (suc zero))))) = tt
   at (suc (suc (suc (suc (suc (suc ip)))))) = tt
 
--- ---- Two iterations at least, which may be empty
+-- ---- A loop of two iterations at least, which may be empty
 
 asked-here : (b : Bool) → b ≡ true → (b || false) ≡ true
 asked-here b h = rw h refl
@@ -86,7 +87,7 @@ leave-twice ip reads = record {
 }
 
 module _ (top most : ℕ) (flags : Flags) (start : StartPredicate) (less : top + 2 < most) where
-  twice-at : (ip : ℕ) → IsSoundLivenessAt twice_account top (twice_program most flags start) (slice_get (twice_program most flags start).insns ip) ip
+  twice-at : (ip : ℕ) → IsSoundLivenessAt twice_account top (two_required_program most flags start) (slice_get (two_required_program most flags start).insns ip) ip
   twice-at zero = record { again = again-twice 0; leave = leave-twice 0 false; writes = refl; few = λ h. cc }
   twice-at (suc zero) = record { start = λ id h e. cc; inside = λ l h e. h; moved = λ l h e r. cc; empty = λ l h e r. asked-here _ h; fresh = λ l h. cc; writes = λ l h. cc }
   twice-at (suc (suc zero)) = record { start = λ id h e. cc; inside = λ l h e. h; moved = λ l h e r. cc; empty = λ l h e r. cc; fresh = λ l h. cc; writes = λ l h. cc }
@@ -127,11 +128,11 @@ twice-asks = record {
   };
 }
 
--- it has no literal bytes
-twice-bytes : (text : Text) (most : ℕ) (flags : Flags) (start : StartPredicate) → ReadsAsBytes (twice_program most flags start) text
+-- Any text fits the literal bytes of `two_required_program`, which has none.
+twice-bytes : (text : Text) (most : ℕ) (flags : Flags) (start : StartPredicate) → ReadsAsBytes (two_required_program most flags start) text
 twice-bytes text most flags start ip x e literal = by ip x e literal
   where
-    by : (ip : ℕ) (x : Insn) → slice_get (twice_program most flags start).insns ip ≡ Some x → IsTrue (is_byte_sequence_insn x) → HasUtf8CharactersAndOffsets text
+    by : (ip : ℕ) (x : Insn) → slice_get (two_required_program most flags start).insns ip ≡ Some x → IsTrue (is_byte_sequence_insn x) → HasUtf8CharactersAndOffsets text
     by zero (ByteSeq bytes) e l = cc
     by (suc zero) (ByteSeq bytes) e l = cc
     by (suc (suc zero)) (ByteSeq bytes) e l = cc
@@ -142,7 +143,7 @@ twice-bytes text most flags start ip x e literal = by ip x e literal
     by ip _ e l = cc
 
 module _ (most : ℕ) (flags : Flags) (start : StartPredicate) where
-  twice-enough : (ip : ℕ) → CoversInsn twice_weights (twice_program most flags start) (slice_get (twice_program most flags start).insns ip) ip
+  twice-enough : (ip : ℕ) → CoversInsn twice_weights (two_required_program most flags start) (slice_get (two_required_program most flags start).insns ip) ip
   twice-enough zero = omega arith
   twice-enough (suc zero) = tt
   twice-enough (suc (suc zero)) = omega arith

@@ -21,9 +21,9 @@ use Rattle.regex_meaning.proofs.EachElementLemmas.{Each, Each-map, Each-reverse}
 use Rattle.regex_meaning.proofs.CodeUnitOffsetsLemmas.{offset-place_at, offset-less}
 use Rattle.regress_machine.specs.Machine.{LoopData, State, Thread, running, waiting, Next, goes, state_with_ip, state_at_next_ip, with_some, only_if, go_if}
 use Rattle.regress_machine.specs.Machine.{first_running_and_others_waiting}
-use Rattle.regress_machine.specs.Machine.{preferring, range_swapped_if_leftwards, iterate_or_leave_at_loop_head, effect_at_iteration_end, loop_again_effect, test_of}
-use Rattle.regress_machine.specs.Machine.{has_bytes}
-use Rattle.regress_machine.specs.Machine.{moved_by, read_one, stay_if}
+use Rattle.regress_machine.specs.Machine.{choice_in_order_of_greediness, range_swapped_if_leftwards, iterate_or_leave_at_loop_head, effect_at_iteration_end, loop_again_effect, test_of}
+use Rattle.regress_machine.specs.Machine.{occurs_beside_offset}
+use Rattle.regress_machine.specs.Machine.{offset_moved_in_direction, read_one, stay_if}
 use Rattle.regress_machine.specs.Machine.{read_bytes, backref_read, read_group, char_loop_states, scan, act_on, act, after_lookaround, search}
 use Rattle.regress_machine.proofs.NearestCharacterLemmas.{Beside, nothing_left, one_more, beside, length-nearest}
 use Rattle.regress_machine.proofs.UnchangedGroupsAndLoops.{slice_get-set_same, slice_get-set_other}
@@ -32,14 +32,14 @@ use Rattle.regress_machine.proofs.CharLoopRepetitions.{numbers_between}
 use Rattle.regress_machine.proofs.AdjacentCharacterLemmas.{stands-length}
 use Rattle.regress_machine.proofs.AdjacentCharacterBytes.{starts-stands}
 use Rattle.regress_memo.specs.ThreadBisimulation.{AlikeThreads, AlikeEnds, AlikeAnswers, AlikeAsked, AlikeNext, IsBisimulation}
-use Rattle.regress_memo.specs.Liveness.{Liveness, IsConsistentEdge, IsConsistentPlainEdge, none, IsUnlimited, Decides, by_count, by_minimum, never_empty, Enters}
+use Rattle.regress_memo.specs.Liveness.{Liveness, IsConsistentEdge, IsConsistentPlainEdge, none, IsUnlimited, LoopCountDecidesExit, by_count, by_minimum, never_empty, Enters}
 use Rattle.regress_memo.specs.Liveness.{Repeats}
-use Rattle.regress_memo.specs.Liveness.{IsRepeated, IsConsistentLookaround, IsSoundLivenessAt, IsNotAheadInDirection, left_from, IsSound, Similar, SimilarAt, World}
+use Rattle.regress_memo.specs.Liveness.{IsRepeated, IsConsistentLookaround, IsSoundLivenessAt, IsNotAheadInDirection, units_left_in_direction, IsSound, Similar, SimilarAt, World}
 use Rattle.regress_memo.specs.Liveness.{outermost, IsKeptIn}
 use Rattle.regress_memo.specs.Liveness.{Agree, IsLivenessFor, LiveDataDecideSearchResult, LiveDataDecideThreadLists}
 use Rattle.regress_memo.proofs.ThreadBisimulationLemmas.{end-alike}
 
--- ---- Tests
+-- ---- Disjunctions of tests
 
 data Either (a b : Bool) : Type 0 where
   first : a ≡ true → Either a b
@@ -58,7 +58,7 @@ or-second false b h = h
 
 -- ---- Offsets that are passed
 
--- the way from an offset to another one
+-- `from` is not ahead of `to`, and differs from it if a character is read.
 pub record Moves (d : Direction) (reads : Bool) (from to : ℕ) : Type 0 where
   pub passed : IsNotAheadInDirection d from to
   pub further : reads ≡ true → from ≡ to → ⊥
@@ -82,8 +82,8 @@ still-not-here : (d : Direction) (e p q : ℕ) → IsNotAheadInDirection d e p �
 still-not-here rightwards e p q a b n = ne_eqb e q (λ same. eqb-false e p n (omega (arith, a, b, same)))
 still-not-here leftwards e p q a b n = ne_eqb e q (λ same. eqb-false e p n (omega (arith, a, b, same)))
 
-few-later : (top : ℕ) (d : Direction) (e p k more : ℕ) → IsNotAheadInDirection d e p → (e == p) ≡ false → k + left_from top d e ≤ top + more → p ≤ top
-    → k + 1 + left_from top d p ≤ top + more
+few-later : (top : ℕ) (d : Direction) (e p k more : ℕ) → IsNotAheadInDirection d e p → (e == p) ≡ false → k + units_left_in_direction top d e ≤ top + more → p ≤ top
+    → k + 1 + units_left_in_direction top d p ≤ top + more
 few-later top rightwards e p k more a n f in_text = elim (cases_lt e p) [
   | inl less ↦ omega (arith, f, less, in_text)
   | inr le ↦ absurd (eqb-false e p n (omega (arith, a, le)))
@@ -93,18 +93,18 @@ few-later top leftwards e p k more a n f in_text = elim (cases_lt p e) [
   | inr le ↦ absurd (eqb-false e p n (omega (arith, a, le)))
 ]
 
--- the first iterations may be empty
-few-first : (top : ℕ) (d : Direction) (p k more : ℕ) → k ≤ more → p ≤ top → k + left_from top d p ≤ top + more
+-- A count that is at most `more` meets the bound on iterations at each offset of the text.
+few-first : (top : ℕ) (d : Direction) (p k more : ℕ) → k ≤ more → p ≤ top → k + units_left_in_direction top d p ≤ top + more
 few-first top rightwards p k more le in_text = omega (arith, le)
 few-first top leftwards p k more le in_text = omega (arith, le, in_text)
 
--- an iteration that may be empty is of a loop whose number is asked up to its minimum
+-- The minimum of a loop is at most `more`, or the iteration is not empty.
 abbrev MayBeEmpty : (empty : Bool) (least more : ℕ) → Type 0
 MayBeEmpty empty least more = (least ≤ more) ⊎ (empty ≡ false)
 
--- one iteration more
-few-more : (top : ℕ) (d : Direction) (e p k more least : ℕ) → IsNotAheadInDirection d e p → k + left_from top d e ≤ top + more → p ≤ top → MayBeEmpty (e == p) least more
-    → (b : Bool) → (e == p) ≡ b → (e == p && nat_lt least (k + 1)) ≡ false → k + 1 + left_from top d p ≤ top + more
+-- The bound on iterations still holds after one more iteration.
+few-more : (top : ℕ) (d : Direction) (e p k more least : ℕ) → IsNotAheadInDirection d e p → k + units_left_in_direction top d e ≤ top + more → p ≤ top → MayBeEmpty (e == p) least more
+    → (b : Bool) → (e == p) ≡ b → (e == p && nat_lt least (k + 1)) ≡ false → k + 1 + units_left_in_direction top d p ≤ top + more
 few-more top d e p k more least passed few in_text (inr not_here) b is q = few-later top d e p k more passed not_here few in_text
 few-more top d e p k more least passed few in_text (inl asked) false is q = few-later top d e p k more passed is few in_text
 few-more top d e p k more least passed few in_text (inl asked) true is q =
@@ -112,7 +112,7 @@ few-more top d e p k more least passed few in_text (inl asked) true is q =
     let le = ltb-false least (k + 1) not_yet in
     few-first top d p (k + 1) more (omega (arith, le, asked)) in_text
 
--- ---- Numbers that are the same up to one
+-- ---- Numbers that are the same up to a bound
 
 same-count : (j k n : ℕ) → min j n ≡ min k n → j ≤ n → k ≤ n → j ≡ k
 same-count j k n e p q = omega (arith, e, p, q)
@@ -125,7 +125,7 @@ same-test true c h k = sym (h refl)
 same-test false true h k = k refl
 same-test false false h k = refl
 
--- both have come to a number up to there, or neither has
+-- Of counts that agree up to `n`, both have reached a minimum up to `n`, or neither has.
 both-reach : (least n j k : ℕ) → min j n ≡ min k n → least ≤ n → nat_le least j ≡ nat_le least k
 both-reach least n j k e le =
     same-test _ _ (λ h. let p = leb-true least j h in le-leb least k (omega (arith, p, e, le))) (λ h. let p = leb-true least k h in le-leb least j (omega (arith, p, e, le)))
@@ -136,7 +136,7 @@ both-past least n j k e le =
     (λ h. let p = ltb-true least (j + 1) h in lt-ltb least (k + 1) (omega (arith, p, e, le)))
     (λ h. let p = ltb-true least (k + 1) h in lt-ltb least (j + 1) (omega (arith, p, e, le)))
 
--- and with one more
+-- Counts that agree up to `n` both reach a minimum up to `n + 1` by one more, or neither does.
 both-come : (least n j k : ℕ) → min j n ≡ min k n → least ≤ n + 1 → nat_le least (j + 1) ≡ nat_le least (k + 1)
 both-come least n j k e le =
     same-test _ _
@@ -146,7 +146,7 @@ both-come least n j k e le =
 -- ---- Movements in a text
 
 module _ (text : Text) (is : HasRisingPlaceOffsets text) where
-  -- so many characters on, if there are so many
+  -- `Moves` relates an offset to the one `n` characters on, if so many are ahead.
   pub moves-on : (d : Direction) (at p n : ℕ) → place_at text at ≡ Some p → n ≤ characters_ahead text d p → Moves d (nat_lt 0 n) at (offset text (moved text d n p))
   moves-on rightwards at p zero e few =
       let o = (offset-place_at text at p is e).0 in
@@ -168,7 +168,7 @@ module _ (text : Text) (is : HasRisingPlaceOffsets text) where
       let same = o.0 in
       record { passed = omega (arith, less, same); further = λ x y. omega (arith, less, same, y) }
 
-  -- the next character, if there is one
+  -- `Moves` relates an offset to the one behind the next character, if that passes a test.
   pub moves-one : (d : Direction) (at p : ℕ) (test : ℕ → Bool) → place_at text at ≡ Some p → is_some_and (next_character text d p) test ≡ true → Moves d true at (offset text (moved text d 1 p))
   moves-one d at p test e h = by (beside text d p (offset-place_at text at p is e).1)
     where
@@ -179,7 +179,7 @@ module _ (text : Text) (is : HasRisingPlaceOffsets text) where
 -- ---- States that agree
 
 module _ (a : Liveness) (top : ℕ) where
-  -- the data of a loop, one instruction on
+  -- Sound data of a loop stays sound at the next instruction if the loop is not entered.
   sound-on : (d : Direction) (reads : Bool) (begun entered : ℕ → Bool) (ip next pos to l : ℕ) → IsConsistentEdge a reads begun entered ip next → entered l ≡ false → Moves d reads pos to
       → (x : LoopData) → IsSound a top d pos ip l x → IsSound a top d to next l x
   sound-on d reads begun entered ip next pos to l leads out m x s = record {
@@ -221,7 +221,7 @@ module _ (a : Liveness) (top : ℕ) where
       by true e h = neither (not-here d x.entry pos to s.left.passed m.passed (m.further e)) (not-here d y.entry pos to s.right.passed m.passed (m.further e))
       by false e h = kept (either (a.empty ip l) (a.moved ip l) (leads.empty l h out e))
 
-  -- the parts of it, in turn
+  -- States agree if each part that is live does: groups, starts, loop data.
   pub agree-of : (w : World) (d : Direction) (s t : State) → s.ip ≡ t.ip → s.pos ≡ t.pos → s.pos ≤ top → length s.groups ≡ length t.groups → (a.groups ≡ true → s.groups ≡ t.groups)
       → length s.starts ≡ length t.starts → ((id : ℕ) → (a.start s.ip id || w.starts id) ≡ true → slice_get s.starts id ≡ slice_get t.starts id) → length s.loops ≡ length t.loops
       → ((l : ℕ) → a.inside s.ip l ≡ true → SimilarAt a top d s.pos s.ip l (slice_get s.loops l) (slice_get t.loops l)) → ((l : ℕ) → w.kept l ≡ true → IsKeptIn a top w s t l) → Agree a top w d s t
@@ -250,7 +250,7 @@ module _ (a : Liveness) (top : ℕ) where
         by (first e) = g.starts id (or-first (a.start s.ip id) (w.starts id) (leads.start id e old))
         by (second e) = g.starts id (or-second (a.start s.ip id) (w.starts id) e)
 
-    -- one instruction on, with nothing written but groups
+    -- States still agree at the next instruction if nothing but groups is written.
     groups-on : (reads : Bool) (next to : ℕ) (xs ys : Groups) → IsConsistentPlainEdge a reads s.ip next → Moves d reads s.pos to → to ≤ top → length xs ≡ length ys → (a.groups ≡ true → xs ≡ ys)
         → R (record s { ip = next; pos = to; groups = xs }) (record t { ip = next; pos = to; groups = ys })
     groups-on reads next to xs ys leads m in_text as_many same =
@@ -262,11 +262,11 @@ module _ (a : Liveness) (top : ℕ) where
         → R (record s { ip = next; pos = to }) (record t { ip = next; pos = to })
     agree-on reads next to leads m in_text = groups-on reads next to s.groups t.groups leads m in_text g.as_many_groups g.groups
 
-    -- at the same offset
+    -- States still agree at the next instruction if the offset stays the same.
     pub agree-here : (next : ℕ) → IsConsistentPlainEdge a false s.ip next → R (state_with_ip next s) (record t { ip = next; pos = s.pos })
     agree-here next leads = agree-on false next s.pos leads (stays d s.pos) g.within
 
-    -- a group begins
+    -- States still agree after a group has begun.
     agree-begun : (id : ℕ) → IsConsistentEdge a false (λ i. i == id) (none a) s.ip (s.ip + 1) → id < length s.starts
         → R (record s { ip = s.ip + 1; groups = slice_set s.groups id None; starts = slice_set s.starts id s.pos })
         (record t { ip = s.ip + 1; pos = s.pos; groups = slice_set t.groups id None; starts = slice_set t.starts id s.pos })
@@ -289,11 +289,11 @@ module _ (a : Liveness) (top : ℕ) where
             ∙ starts-on (λ i. i == id) (none a) false (s.ip + 1) i leads e h
             ∙ sym (slice_get-set_other t.starts id i s.pos other)
 
-    -- so many iterations have read a character, but for some
+    -- Each count is at most the passed offsets and the count asked for, added up.
     abbrev AreFew : LoopFields → ℕ → ℕ → Type 0
-    AreFew f j k = (j + left_from top d s.pos ≤ top + a.up_to f.loop_id) × (k + left_from top d s.pos ≤ top + a.up_to f.loop_id)
+    AreFew f j k = (j + units_left_in_direction top d s.pos ≤ top + a.up_to f.loop_id) × (k + units_left_in_direction top d s.pos ≤ top + a.up_to f.loop_id)
 
-    -- an iteration of a loop begins
+    -- States still agree after an iteration of a loop has begun.
     agree-entered : (f : LoopFields) (begin j k : ℕ) → Enters a f s.ip begin → f.loop_id < length s.loops
         → min j (a.up_to f.loop_id) ≡ min k (a.up_to f.loop_id) → (a.counted f.loop_id ≡ false → AreFew f j k)
         → (a.counted f.loop_id ≡ true → (j ≤ a.up_to f.loop_id) × (k ≤ a.up_to f.loop_id))
@@ -347,7 +347,7 @@ module _ (a : Liveness) (top : ℕ) where
               writes = e.again.writes l k.writes;
             }
 
-    -- ---- The contents of a lookaround, and what goes on behind
+    -- ---- The contents of a lookaround, and the continuation behind it
 
     abbrev pub contents-world : (continuation : ℕ) → World
     contents-world continuation = record {
@@ -416,9 +416,9 @@ module _ (a : Liveness) (top : ℕ) where
         behind = λ x y h. alike-resumed negate x y h;
       }
 
--- ---- What comes of two states in one turn
+-- ---- The results of two states in one step
 
--- both are there, or neither is
+-- Both values are present, or neither is.
 abbrev pub BothThere : {X : Type 0} → Option X → Option X → Type 0
 BothThere None None = Unit {0}
 BothThere (Some x) (Some y) = Unit {0}
@@ -449,9 +449,9 @@ module _ (a : Liveness) (top : ℕ) (w : World) (d : Direction) where
   states-append [] (t ∷ ts) us vs h k = absurd h
   states-append (s ∷ ss) [] us vs h k = absurd h
 
-  states-preferring : (greedy : Bool) (ss ts us vs : List State) → SameStates ss ts → SameStates us vs → SameStates (preferring greedy ss us) (preferring greedy ts vs)
-  states-preferring true ss ts us vs h k = states-append ss ts us vs h k
-  states-preferring false ss ts us vs h k = states-append us vs ss ts k h
+  states-choice_in_order_of_greediness : (greedy : Bool) (ss ts us vs : List State) → SameStates ss ts → SameStates us vs → SameStates (choice_in_order_of_greediness greedy ss us) (choice_in_order_of_greediness greedy ts vs)
+  states-choice_in_order_of_greediness true ss ts us vs h k = states-append ss ts us vs h k
+  states-choice_in_order_of_greediness false ss ts us vs h k = states-append us vs ss ts k h
 
   states-waiting : (ss ts : List State) → SameStates ss ts → AlikeThreads (Agree a top w d) (map waiting ss) (map waiting ts)
   states-waiting [] [] h = tt
@@ -501,10 +501,10 @@ module _ (a : Liveness) (top : ℕ) (w : World) (d : Direction) where
   same-dropped true false x y e h = cc
   same-dropped false true x y e h = cc
 
-  -- ---- Loops
+  -- ---- Heads of loops
 
   module _ (s t : State) (g : Agree a top w d s t) where
-    -- the second state, at the first one's instruction and offset
+    -- `beside_it` is the second state at the first one's instruction and offset.
     abbrev beside_it : State
     beside_it = record t { ip = s.ip; pos = s.pos }
 
@@ -514,7 +514,7 @@ module _ (a : Liveness) (top : ℕ) (w : World) (d : Direction) where
     same-loop f begin j k e again leave count few =
         same-only (nat_lt f.loop_id (length s.loops)) (nat_lt f.loop_id (length t.loops)) _ _ (ap (nat_lt f.loop_id) g.as_many_loops)
         (λ within. states-in_turn _ _
-        (states-preferring f.greedy _ _ _ _
+        (states-choice_in_order_of_greediness f.greedy _ _ _ _
         (states-if (nat_lt j f.max_iters) (nat_lt k f.max_iters) _ _ again (λ h. agree-entered a top w d s t g f begin j k e (ltb-true f.loop_id (length s.loops) within) count few (counted-ones h)))
         (states-if (nat_le f.min_iters j) (nat_le f.min_iters k) _ _ leave (λ h. agree-here a top w d s t g f.exit e.leave))))
       where
@@ -528,7 +528,7 @@ module _ (a : Liveness) (top : ℕ) (w : World) (d : Direction) where
     same-enter : (f : LoopFields) → Enters a f s.ip s.ip → SameNext (iterate_or_leave_at_loop_head f s.ip 0 s) (iterate_or_leave_at_loop_head f s.ip 0 beside_it)
     same-enter f e = same-loop f s.ip 0 0 e refl refl refl (λ h. (none-yet, none-yet))
       where
-        none-yet : 0 + left_from top d s.pos ≤ top + a.up_to f.loop_id
+        none-yet : 0 + units_left_in_direction top d s.pos ≤ top + a.up_to f.loop_id
         none-yet = few-first top d s.pos 0 (a.up_to f.loop_id) (omega arith) g.within
 
     same-again : (f : LoopFields) (begin : ℕ) (x y : LoopData) → Repeats a top f s.ip begin → Similar a top d s.pos s.ip f.loop_id x y
@@ -552,7 +552,7 @@ module _ (a : Liveness) (top : ℕ) (w : World) (d : Direction) where
         bounded z sound u = let few = sound.few u.counted in let far = u.beyond in lt-ltb z.iters f.max_iters (omega (arith, few, far))
 
         on : (z : LoopData) → IsSound a top d s.pos s.ip f.loop_id z → IsUnlimited a top f → MayBeEmpty (z.entry == s.pos) f.min_iters (a.up_to f.loop_id)
-            → (z.entry == s.pos && nat_lt f.min_iters (z.iters + 1)) ≡ false → z.iters + 1 + left_from top d s.pos ≤ top + a.up_to f.loop_id
+            → (z.entry == s.pos && nat_lt f.min_iters (z.iters + 1)) ≡ false → z.iters + 1 + units_left_in_direction top d s.pos ≤ top + a.up_to f.loop_id
         on z sound u may q = few-more top d z.entry s.pos z.iters (a.up_to f.loop_id) f.min_iters sound.passed (sound.few u.counted) g.within may (z.entry == s.pos) refl q
 
         unlimited : IsUnlimited a top f → f.min_iters ≤ a.up_to f.loop_id + 1
@@ -562,7 +562,7 @@ module _ (a : Liveness) (top : ℕ) (w : World) (d : Direction) where
         unlimited u le p p' drop =
             both (bounded x h.left u ∙ sym (bounded y h.right u)) drop (λ q. more (on x h.left u p q) (on y h.right u p' (sym drop ∙ q)))
           where
-            more : x.iters + 1 + left_from top d s.pos ≤ top + a.up_to f.loop_id → y.iters + 1 + left_from top d s.pos ≤ top + a.up_to f.loop_id
+            more : x.iters + 1 + units_left_in_direction top d s.pos ≤ top + a.up_to f.loop_id → y.iters + 1 + units_left_in_direction top d s.pos ≤ top + a.up_to f.loop_id
                 → SameNext (iterate_or_leave_at_loop_head f begin (x.iters + 1) s) (iterate_or_leave_at_loop_head f begin (y.iters + 1) beside_it)
             more i j =
                 let far = u.beyond in
@@ -571,7 +571,7 @@ module _ (a : Liveness) (top : ℕ) (w : World) (d : Direction) where
                 (both-come f.min_iters (a.up_to f.loop_id) x.iters y.iters h.count le)
                 (one-more-each x.iters y.iters (a.up_to f.loop_id) h.count) (λ c. (i, j))
 
-        by : Decides a top f (a.moved s.ip f.loop_id) → SameNext (effect_at_iteration_end f begin x s) (effect_at_iteration_end f begin y beside_it)
+        by : LoopCountDecidesExit a top f (a.moved s.ip f.loop_id) → SameNext (effect_at_iteration_end f begin x s) (effect_at_iteration_end f begin y beside_it)
         by (by_count c) =
             let same = same-count x.iters y.iters (a.up_to f.loop_id) h.count (h.left.all c) (h.right.all c) in
             both (ap (λ n. nat_lt n f.max_iters) same)
@@ -599,7 +599,7 @@ module _ (a : Liveness) (top : ℕ) (w : World) (d : Direction) where
         with_data (Some x) None h = absurd h
     same-repeated _ begin r = tt
 
--- ---- Turns
+-- ---- Steps of states that agree
 
 module _ (program : Program) (text : Text) (is : HasRisingPlaceOffsets text) (a : Liveness) (w : World) (d : Direction) (s t : State) (g : Agree a (units text) w d s t) where
   abbrev Turn : Next → Next → Type 0
@@ -641,8 +641,8 @@ module _ (program : Program) (text : Text) (is : HasRisingPlaceOffsets text) (a 
       same-some a (units text) w d (place_at text range.1) _ _ (λ to at_to.
       turn-again sameness from to p at leads)))
 
-  -- literal bytes
-  bytes-move : (d : Direction) (all bytes : List ℕ) (at : ℕ) → has_bytes all d bytes at ≡ true → Moves d (nat_lt 0 (length bytes)) at (moved_by d (length bytes) at)
+  -- `Moves` relates an offset to the one behind literal bytes that are there.
+  bytes-move : (d : Direction) (all bytes : List ℕ) (at : ℕ) → occurs_beside_offset all d bytes at ≡ true → Moves d (nat_lt 0 (length bytes)) at (offset_moved_in_direction d (length bytes) at)
   bytes-move rightwards all bytes at h = record { passed = omega arith; further = λ e q. let some = ltb-true 0 (length bytes) e in omega (arith, some, q) }
   bytes-move leftwards all bytes at h = record {
     passed = omega arith;
@@ -657,15 +657,15 @@ module _ (program : Program) (text : Text) (is : HasRisingPlaceOffsets text) (a 
 
   turn-bytes : (bytes : List ℕ) → IsConsistentPlainEdge a (nat_lt 0 (length bytes)) s.ip (s.ip + 1) → NextIn (units text) (read_bytes text bytes d s) → Turn (read_bytes text bytes d s) (read_bytes text bytes d there)
   turn-bytes bytes leads inside =
-      same-go_if a (units text) w d (has_bytes (encode_utf8_all text.characters) d bytes s.pos) _ _ (λ h.
-      agree-on a (units text) w d s t g (nat_lt 0 (length bytes)) (s.ip + 1) (moved_by d (length bytes) s.pos) leads
-      (bytes-move d (encode_utf8_all text.characters) bytes s.pos h) (by (has_bytes (encode_utf8_all text.characters) d bytes s.pos) h inside))
+      same-go_if a (units text) w d (occurs_beside_offset (encode_utf8_all text.characters) d bytes s.pos) _ _ (λ h.
+      agree-on a (units text) w d s t g (nat_lt 0 (length bytes)) (s.ip + 1) (offset_moved_in_direction d (length bytes) s.pos) leads
+      (bytes-move d (encode_utf8_all text.characters) bytes s.pos h) (by (occurs_beside_offset (encode_utf8_all text.characters) d bytes s.pos) h inside))
     where
-      by : (b : Bool) → b ≡ true → NextIn (units text) (go_if b (record s { ip = s.ip + 1; pos = moved_by d (length bytes) s.pos })) → moved_by d (length bytes) s.pos ≤ units text
+      by : (b : Bool) → b ≡ true → NextIn (units text) (go_if b (record s { ip = s.ip + 1; pos = offset_moved_in_direction d (length bytes) s.pos })) → offset_moved_in_direction d (length bytes) s.pos ≤ units text
       by true e h = h.0
       by false e h = cc
 
-  -- a loop over one character
+  -- States that agree still agree behind a loop over one character.
   module _ (least most : ℕ) (greedy : Bool) (leads : IsConsistentPlainEdge a (nat_lt 0 least) s.ip (s.ip + 2)) where
     module _ (test : ℕ → Bool) (p : ℕ) (at : place_at text s.pos ≡ Some p) where
       abbrev last : ℕ

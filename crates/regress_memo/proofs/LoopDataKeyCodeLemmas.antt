@@ -16,12 +16,12 @@ use Rattle.regress_memo.specs.MemoSearch.{Key}
 use Rattle.regress_memo.specs.ThreadPotentials.{Shape, is_same_direction, stands_there, has_shape}
 use Rattle.regress_memo.specs.LoopDataKeyCodes.{Question, is_empty, how_many, number_of_possible_answers, bool_as_digit, answer_to_loop_question, code_of, codes_of}
 use Rattle.regress_memo.specs.LoopDataKeyCodes.{plan_code, plan_codes, AsksAll}
-use Rattle.regress_memo.specs.LoopDataKeyCodes.{HasSlotsOfProgram, key_of, own_row, ThreadHasKey, KeyCodesDistinguishLoopData}
+use Rattle.regress_memo.specs.LoopDataKeyCodes.{HasSlotsOfProgram, key_of, shape_of_only_thread_of_key, ThreadHasKey, KeyCodesDistinguishLoopData}
 use Rattle.regress_memo.proofs.MemoKeyLemmas.{unasked-count}
 
--- ---- Digits
+-- ---- Digits of equal codes
 
--- a lower digit is less than the base, so both are told by the number
+-- Of equal numbers with lower digits below the base, the first has no lesser upper digit.
 less-apart : (r a b x y : ℕ) → a < r → b < r → a + r * x ≡ b + r * y → x < y → ⊥
 less-apart r a b x y p q e less =
     let le : r * (x + 1) ≤ r * y = mul-le-mul_left r (omega (arith, less)) in
@@ -41,7 +41,7 @@ digit-below r a n x p q =
     let le : r * (x + 1) ≤ r * n = mul-le-mul_left r (omega (arith, q)) in
     omega (arith, p, le)
 
--- ---- Answers
+-- ---- Answers to questions
 
 number-below : (o : Option LoopData) (number : LoopData → ℕ) (n : ℕ) → 0 < n → ((x : LoopData) → number x < n) → unwrap_or (option_map number o) 0 < n
 number-below None number n some below = some
@@ -69,7 +69,7 @@ answers-same (r ∷ qs) s t e q h =
     by same later (inl i) = subst (λ p. answer_to_loop_question p s ≡ answer_to_loop_question p t) i same
     by same later (inr there) = later there
 
--- an answer of a loop that is there
+-- The answer about a loop whose data is present is the number of that data.
 pub answer-is : (o : Option LoopData) (x : LoopData) (number : LoopData → ℕ) → o ≡ Some x → unwrap_or (option_map number o) 0 ≡ number x
 answer-is o x number e = ap (λ o. unwrap_or (option_map number o) 0) e
 
@@ -101,7 +101,7 @@ module _ (questions : ℕ → List Question) (a : Liveness) (asks : AsksAll ques
     | inr le ↦ unasked-count x.iters y.iters (a.up_to l) (omega (arith, le))
   ]
 
--- ---- Keys
+-- ---- Keys with equal codes
 
 pub and-both : (b c : Bool) → b ≡ true → c ≡ true → (b && c) ≡ true
 and-both b c e f = ap (λ b. b && c) e ∙ f
@@ -124,7 +124,7 @@ module _ (program : Program) (text : Text) (a : Liveness) (questions : ℕ → L
   thread-has-key d s there is_on is sound own =
       let code = plan_code questions in
       let k = key_of code s in
-      let alone : has_shape program code (own_row k) (running s ∷ []) ≡ true = and-both _ _ (stands-here program code (record { runs = true; ip = k.ip; pos = k.at; code = k.code }) s is refl refl refl) refl in
+      let alone : has_shape program code (shape_of_only_thread_of_key k) (running s ∷ []) ≡ true = and-both _ _ (stands-here program code (record { runs = true; ip = k.ip; pos = k.at; code = k.code }) s is refl refl refl) refl in
       record {
         is_of =
             and-both _ _ (lt-ltb (code s) (plan_codes questions s.ip) (code-below (questions s.ip) s))

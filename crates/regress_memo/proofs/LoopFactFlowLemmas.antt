@@ -23,7 +23,7 @@ or-right : (a b : Bool) → b ≡ true → (a || b) ≡ true
 or-right true b e = refl
 or-right false b e = e
 
--- ---- One of them says it
+-- ---- Rows that state a fact
 
 pub holds-there : (said : LoopProgressFact) (l : ℕ) (rows : List EnclosingLoop) (k : ℕ) (r : EnclosingLoop) → slice_get rows k ≡ Some r → r.id ≡ l → enclosing_loop_has_fact said r ≡ true
     → states_loop_fact said l rows ≡ true
@@ -38,7 +38,7 @@ holds-there said l (x ∷ rows) (suc k) r there is h =
 pub holds-more : (said : LoopProgressFact) (l : ℕ) (r : EnclosingLoop) (rows : List EnclosingLoop) → states_loop_fact said l rows ≡ true → states_loop_fact said l (r ∷ rows) ≡ true
 holds-more said l r rows h = or-right ((r.id == l) && enclosing_loop_has_fact said r) (states_loop_fact said l rows) h
 
--- the row that does
+-- One of the rows is of the loop `l` and states the fact.
 pub record Says (said : LoopProgressFact) (l : ℕ) (rows : List EnclosingLoop) : Type 0 where
   pub k : ℕ
   pub row : EnclosingLoop
@@ -59,7 +59,7 @@ holds-in said l (x ∷ rows) h = by (λ k. holds-in said l rows k) ((x.id == l) 
         let found = on rest in
         record { k = suc found.k; row = found.row; there = found.there; is = found.is; says_it = found.says_it }
 
--- ---- One row after another
+-- ---- Facts of each row
 
 module _ {A : Type 0} (P : A → Type 0) (rows : List A) (n : ℕ) (before : (k : ℕ) → k < n → (row : A) → slice_get rows k ≡ Some row → P row) where
   pub rows-more : (d : A) → n < length rows → P (get_or rows n d) → (k : ℕ) → k < n + 1 → (row : A) → slice_get rows k ≡ Some row → P row
@@ -78,7 +78,7 @@ module _ {A : Type 0} (P : A → Type 0) (rows : List A) (n : ℕ) (before : (k 
       let within : k < length rows = slice_get_within rows k row here in
       before k (omega (arith, within, long)) row here
 
--- ---- From an instruction to another one
+-- ---- Facts that flow from an instruction to another one
 
 pub below-from : (a b l : ℕ) → a ≤ b → nat_le a l ≡ false → nat_le b l ≡ false
 below-from a b l le h = elim (cases_lt l a) [
@@ -87,7 +87,7 @@ below-from a b l le h = elim (cases_lt l a) [
 ]
 
 module _ (t : MemoAnalysis) (reads : Bool) (entered : Option ℕ) (ip next : ℕ) (rows : AllLoopFactsFlow t reads entered ip next) where
-  -- of the row that says something of a loop
+  -- Loop facts flow to the row that states a fact of a loop.
   at-row : (said : LoopProgressFact) (l : ℕ) (found : Says said l (enclosing_loops_of t next)) → LoopFactsFlow t reads entered ip found.row
   at-row said l found = rows found.k found.row found.there
 
@@ -126,7 +126,7 @@ module _ (t : MemoAnalysis) (reads : Bool) (entered : Option ℕ) (ip next : ℕ
     silent = silent;
   }
 
-  -- the same of lines at hand
+  -- The flow between two instructions is consistent if the given lines of both fit each other.
   pub lines-lead : (here there : InsnAnalysis) → here ≡ insn_analysis_of t ip → there ≡ insn_analysis_of t next → here.from ≤ there.from → here.forward ≡ there.forward
       → (here.silent ≡ true → there.silent ≡ true) → IsConsistentFlow t reads entered ip next
   lines-lead here there is_here is_there from forward silent =

@@ -19,7 +19,7 @@ use Rattle.regress_memo.specs.BitSet.{is_set}
 use Rattle.regress_memo.specs.MemoContractView.{MemoView}
 use Rattle.regress_memo.specs.MemoContents.{same_key, memo_key_at, has_bit, is_noted, RecordsFailure, RecordsSuccess}
 
--- ---- Keys
+-- ---- Keys that are the same
 
 pub same-is : (j k : Key) → same_key j k ≡ true → j ≡ k
 same-is j k h =
@@ -35,7 +35,7 @@ same-itself k =
     and_from (k.ip == k.ip) _ (eq-eqb k.ip k.ip refl)
     (and_from (k.at == k.at) _ (eq-eqb k.at k.at refl) (eq-eqb k.code k.code refl))
 
--- ---- Bits
+-- ---- Bits of keys
 
 module _ (t : MemoAnalysis) (places : ℕ) where
   pub bit-there : (k : Key) → has_bit t places k ≡ true → IsRecordableMemoKey t places k
@@ -62,19 +62,19 @@ module _ (t : MemoAnalysis) (places : ℕ) where
   none-noted words none k = and_right (has_bit t places k) (is_set words (bit k)) (none (bit k))
 
   module _ (k : Key) (has : IsRecordableMemoKey t places k) where
-    -- a key that has a bit is noted if that is set
+    -- A key that has a bit is noted exactly if the bit is set.
     pub noted-is : (words : List ℕ) → is_set words (bit k) ≡ is_noted t places words k
     noted-is words = sym (ap (λ b. b && is_set words (bit k)) (bit-is k has))
 
     module _ (coded : HasDisjointCodes t) where
-      -- another key has another bit
+      -- Keys that have a bit have the same one exactly if they are the same key.
       bit-same : (j : Key) → IsRecordableMemoKey t places j → (bit j == bit k) ≡ same_key j k
       bit-same j has_j =
           same-truth (bit j == bit k) (same_key j k)
           (λ e. subst (λ i. same_key i k ≡ true) (sym (bits-apart t coded places j k has_j has (eqb-true (bit j) (bit k) e))) (same-itself k))
           (λ e. eq-eqb (bit j) (bit k) (ap (λ i. bit i) (same-is j k e)))
 
-      -- where its bit is set besides, one key more is noted
+      -- If one more bit is set, the key of that bit is noted besides the others.
       pub noted-more : (old new : List ℕ) → ((i : ℕ) → is_set new i ≡ (is_set old i || i == bit k))
           → (j : Key) → is_noted t places new j ≡ (is_noted t places old j || same_key j k)
       noted-more old new more j = by (has_bit t places j) refl
@@ -85,9 +85,9 @@ module _ (t : MemoAnalysis) (places : ℕ) where
               sym (false_from_ne_true (same_key j k)
               (λ s. both_ways (has_bit t places j) e (bit-is j (subst (λ i. IsRecordableMemoKey t places i) (sym (same-is j k s)) has))))
 
--- ---- Codes
+-- ---- Codes of keys
 
--- a line that says something is there
+-- An instruction that records is within the lines of the analysis.
 pub line-there : (t : MemoAnalysis) (ip : ℕ) (x : InsnAnalysis) → x ≡ insn_analysis_of t ip → x.records ≡ true → ip < length t.lines.items
 line-there t ip x is records = elim (cases_lt ip (length t.lines.items)) [
   | inl less ↦ less
@@ -101,7 +101,7 @@ module _ (t : MemoAnalysis) (ip : ℕ) (x : InsnAnalysis) (is : x ≡ insn_analy
   records-so : (insn_analysis_of t ip).records ≡ true
   records-so = ap (λ (y : InsnAnalysis). y.records) (sym is) ∙ records
 
-  -- what a code tells is one of so many
+  -- The code of a state is less than the number of codes of its instruction.
   code-few : HasDisjointCodes t → (s : State) → s.ip ≡ ip → code_of (key_code_questions_of t ip) s < x.codes
   code-few coded s at =
       let below : code_of (key_code_questions_of t ip) s < plan_codes (key_code_questions_of t) ip =
@@ -130,7 +130,7 @@ module _ (t : MemoAnalysis) (ip : ℕ) (x : InsnAnalysis) (is : x ≡ insn_analy
     code = let same : x.codes ≡ (insn_analysis_of t ip).codes = ap (λ (y : InsnAnalysis). y.codes) is in omega (arith, few, same);
   }
 
-  -- a code that is so of each state there
+  -- A code that each state of an offset and loop data has makes a key that can be recorded.
   pub told-bit : HasDisjointCodes t → (places at code : ℕ) (loops : List LoopData)
       → ((s : State) → s.pos ≡ at → s.loops ≡ loops → code ≡ code_of (key_code_questions_of t ip) s)
       → at < places → IsRecordableMemoKey t places (record { ip = ip; at = at; code = code })
@@ -140,7 +140,7 @@ module _ (t : MemoAnalysis) (ip : ℕ) (x : InsnAnalysis) (is : x ≡ insn_analy
       let few = code-few coded s refl in
       code-bit places at code (omega (arith, is, few)) within
 
--- ---- Notes
+-- ---- Noted keys
 
 abbrev pub known_by : MemoAnalysis → (places : ℕ) → (records_successes : Bool) → (failures ends : List ℕ) → MemoView
 known_by memo_analysis places records_successes failures ends = record { memo_analysis = memo_analysis; places = places; records_successes = records_successes; failures = failures; ends = ends }

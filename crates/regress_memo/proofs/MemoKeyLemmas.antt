@@ -47,7 +47,7 @@ module _ (a : Liveness) (top : ℕ) (d : Direction) (s t : State) (no_groups : N
       unasked id true e h = cc
       unasked id false e h = cc
 
--- a state that agrees with itself is sound
+-- A state that agrees with itself is sound.
 pub sound-state : (a : Liveness) (top : ℕ) (d : Direction) (s : State) → Agree a top outermost d s s → IsSoundState a top d s
 sound-state a top d s g = record {
   within = g.within;
@@ -57,7 +57,7 @@ sound-state a top d s g = record {
 pub keys-decide : MemoKeysDecideFailure
 keys-decide program text a acc no_groups d s t p q k none = failure-shared program text a acc d s t (keys-agree a (units text) d s t no_groups p q k) none
 
--- nothing of a number is asked up to none
+-- Any two counts agree up to zero.
 pub unasked-count : (j k n : ℕ) → n ≡ 0 → min j n ≡ min k n
 unasked-count j k n e = omega (arith, e)
 

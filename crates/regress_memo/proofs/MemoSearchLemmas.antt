@@ -10,7 +10,7 @@ use Rattle.regress_machine.specs.ThreadSimulation.{Within, Simulates, AllFindNot
 use Rattle.regress_machine.proofs.ThreadSimulationLemmas.{within-start, within-simulates, simulates-fewer, simulates-then, simulates-before}
 use Rattle.regress_memo.specs.Liveness.{Liveness, IsLivenessFor}
 use Rattle.regress_memo.specs.DistinctLists.{IsIn, IsNew, AreDistinct, AreIn}
-use Rattle.regress_memo.specs.MemoSearch.{Key, Keys, Entry, one_thread, thread_group, key_record, IsBare, thread_entries, threads_in, keys_in, at_of, AreOnward, GoesOnward}
+use Rattle.regress_memo.specs.MemoSearch.{Key, Keys, Entry, one_thread, thread_group, key_record, IsBare, thread_entries, threads_in, keys_in, offset_of_thread, AreOnward, GoesOnward}
 use Rattle.regress_memo.specs.MemoSearch.{entry_potential, Answers, KeyStandsFor, AreKeys, Fails, IsKnown, known_to_fail, IsMemory, AreRightKeyRecords, AreAnswered}
 use Rattle.regress_memo.specs.MemoSearch.{HoldsInvariant}
 use Rattle.regress_memo.specs.MemoSearch.{IsOpened, AreOpened, IsMemoStep, ReachesBySteps, at_first, gives, reaches, learns, PendingRecordsStayRight}
@@ -22,7 +22,7 @@ use Rattle.regress_memo.proofs.ThreadsThatFailAlone.{splits}
 use Rattle.regress_memo.proofs.FailingThreadLists.{row-takes, row-shared, same-answers}
 use Rattle.regress_memo.proofs.DistinctListLemmas.{Each-left, Each-right, distinct-moved, in-moved, sum-moved, distinct-joined, price-few}
 
--- ---- Rows
+-- ---- Rows of entries
 
 pub threads-tries : (ts : List Thread) → threads_in (thread_entries ts) ≡ ts
 threads-tries [] = refl
@@ -44,7 +44,7 @@ keys-joined (one_thread t ∷ xs) ys = keys-joined xs ys
 keys-joined (thread_group ts ∷ xs) ys = keys-joined xs ys
 keys-joined (key_record k ts ∷ xs) ys = ap (λ ks. k ∷ ks) (keys-joined xs ys)
 
--- there is no key in threads alone
+-- Bare entries add no keys to those of the entries behind them.
 pub keys-bare : (front rest : List Entry) → IsBare front → keys_in (front ++ rest) ≡ keys_in rest
 keys-bare [] rest b = refl
 keys-bare (one_thread t ∷ front) rest b = keys-bare front rest b
@@ -56,26 +56,26 @@ onward-none rightwards [] = refl
 onward-none rightwards (t ∷ ts) = tt
 onward-none leftwards ts = tt
 
--- no turn goes back
+-- Joined entries go onward if both parts do and no key of the second is ahead of the first.
 onward-joined : (from at : ℕ) → from ≤ at → (entries rest : List Entry) → AreOnward at entries → Each (λ k. k.at ≤ at) (keys_in rest) → AreOnward from rest → AreOnward from (entries ++ rest)
 onward-joined from at le [] rest h below k = k
 onward-joined from at le (one_thread t ∷ xs) rest h below k =
     let here = h.0 in (
       omega (arith, le, here),
-      subst (λ ks. Each (λ k. k.at ≤ at_of t) ks) (sym (keys-joined xs rest))
-          (Each-append (λ k. k.at ≤ at_of t) (keys_in xs) (keys_in rest) h.1 (Each-map (λ k. k.at ≤ at) (λ k. k.at ≤ at_of t) (λ k l. omega (arith, here, l)) (keys_in rest) below)),
+      subst (λ ks. Each (λ k. k.at ≤ offset_of_thread t) ks) (sym (keys-joined xs rest))
+          (Each-append (λ k. k.at ≤ offset_of_thread t) (keys_in xs) (keys_in rest) h.1 (Each-map (λ k. k.at ≤ at) (λ k. k.at ≤ offset_of_thread t) (λ k l. omega (arith, here, l)) (keys_in rest) below)),
       onward-joined from at le xs rest h.2 below k,
     )
 onward-joined from at le (thread_group ts ∷ xs) rest h below q = (both ts h.0, onward-joined from at le xs rest h.1 below q)
   where
-    both : (ts : List Thread) → Each (λ t. (at ≤ at_of t) × Each (λ k. k.at ≤ at_of t) (keys_in xs)) ts → Each (λ t. (from ≤ at_of t) × Each (λ k. k.at ≤ at_of t) (keys_in (xs ++ rest))) ts
+    both : (ts : List Thread) → Each (λ t. (at ≤ offset_of_thread t) × Each (λ k. k.at ≤ offset_of_thread t) (keys_in xs)) ts → Each (λ t. (from ≤ offset_of_thread t) × Each (λ k. k.at ≤ offset_of_thread t) (keys_in (xs ++ rest))) ts
     both [] h = tt
     both (t ∷ ts) h =
         let here = h.0.0 in (
           (
             omega (arith, le, here),
-            subst (λ ks. Each (λ k. k.at ≤ at_of t) ks) (sym (keys-joined xs rest))
-                (Each-append (λ k. k.at ≤ at_of t) (keys_in xs) (keys_in rest) h.0.1 (Each-map (λ k. k.at ≤ at) (λ k. k.at ≤ at_of t) (λ k l. omega (arith, here, l)) (keys_in rest) below)),
+            subst (λ ks. Each (λ k. k.at ≤ offset_of_thread t) ks) (sym (keys-joined xs rest))
+                (Each-append (λ k. k.at ≤ offset_of_thread t) (keys_in xs) (keys_in rest) h.0.1 (Each-map (λ k. k.at ≤ at) (λ k. k.at ≤ offset_of_thread t) (λ k l. omega (arith, here, l)) (keys_in rest) below)),
           ),
           both ts h.1,
         )
@@ -87,17 +87,17 @@ onward-rest from (one_thread t ∷ front) rest b h = onward-rest from front rest
 onward-rest from (thread_group ts ∷ front) rest b h = onward-rest from front rest b h.1
 onward-rest from (key_record k ts ∷ front) rest b h = absurd b
 
--- what the first of some threads knows of those below
+-- The first thread of bare entries is neither before `from` nor before any key below.
 onward-head : (from : ℕ) (front rest : List Entry) → IsBare front → AreOnward from (front ++ rest) → (t : Thread) (ts : List Thread) → threads_in front ≡ t ∷ ts
-    → (from ≤ at_of t) × Each (λ k. k.at ≤ at_of t) (keys_in rest)
+    → (from ≤ offset_of_thread t) × Each (λ k. k.at ≤ offset_of_thread t) (keys_in rest)
 onward-head from [] rest b h t ts e = cc
 onward-head from (one_thread u ∷ front) rest b h t ts e =
     let same : u ≡ t = cc in
-    subst (λ t. (from ≤ at_of t) × Each (λ k. k.at ≤ at_of t) (keys_in rest)) same (h.0, subst (λ ks. Each (λ k. k.at ≤ at_of u) ks) (keys-bare front rest b) h.1)
+    subst (λ t. (from ≤ offset_of_thread t) × Each (λ k. k.at ≤ offset_of_thread t) (keys_in rest)) same (h.0, subst (λ ks. Each (λ k. k.at ≤ offset_of_thread u) ks) (keys-bare front rest b) h.1)
 onward-head from (thread_group [] ∷ front) rest b h t ts e = onward-head from front rest b h.1 t ts e
 onward-head from (thread_group (u ∷ us) ∷ front) rest b h t ts e =
     let same : u ≡ t = cc in
-    subst (λ t. (from ≤ at_of t) × Each (λ k. k.at ≤ at_of t) (keys_in rest)) same (h.0.0.0, subst (λ ks. Each (λ k. k.at ≤ at_of u) ks) (keys-bare front rest b) h.0.0.1)
+    subst (λ t. (from ≤ offset_of_thread t) × Each (λ k. k.at ≤ offset_of_thread t) (keys_in rest)) same (h.0.0.0, subst (λ ks. Each (λ k. k.at ≤ offset_of_thread u) ks) (keys-bare front rest b) h.0.0.1)
 onward-head from (key_record k us ∷ front) rest b h t ts e = absurd b
 
 onward-turn : (from : ℕ) (d : Direction) → d ≡ rightwards → (front entries rest : List Entry) → IsBare front → GoesOnward d (threads_in front) entries → AreOnward from (front ++ rest) → AreOnward from (entries ++ rest)
@@ -106,9 +106,9 @@ onward-turn from rightwards e front entries rest b g h = by (threads_in front) r
   where
     by : (ts : List Thread) → threads_in front ≡ ts → GoesOnward rightwards ts entries → AreOnward from (entries ++ rest)
     by [] e g = subst (λ xs. AreOnward from (xs ++ rest)) (sym g) (onward-rest from front rest b h)
-    by (t ∷ ts) e g = let x = onward-head from front rest b h t ts e in onward-joined from (at_of t) x.0 entries rest g x.1 (onward-rest from front rest b h)
+    by (t ∷ ts) e g = let x = onward-head from front rest b h t ts e in onward-joined from (offset_of_thread t) x.0 entries rest g x.1 (onward-rest from front rest b h)
 
--- where threads stand is asked for the count alone
+-- A memo step is a sound step.
 pub given : (program : Program) (text : Text) (a : Liveness) (keys : Keys) (d : Direction) (memory : List Key) (ts : List Thread) (entries : List Entry)
     → IsMemoStep program text a keys d memory ts entries → IsSoundStep program text a keys d memory ts entries
 given program text a keys d memory ts entries g = record {
@@ -135,7 +135,7 @@ module _ (program : Program) (text : Text) (a : Liveness) (keys : Keys) (d : Dir
   noted-right above (thread_group ts ∷ xs) ys h = subst (λ vs. AreRight vs ys) (append_assoc above ts (threads_in xs)) (noted-right (above ++ ts) xs ys h)
   noted-right above (key_record j us ∷ xs) ys h = noted-right above xs ys h.1
 
-  -- threads that simulate the first ones above all
+  -- Records stay right if the first threads are replaced by ones that simulate them.
   noted-simulates : (n : ℕ) (us ts : List Thread) → Simulates program text false d n us ts → (front : List Thread) (row : List Entry) → AreRight (ts ++ front) row → AreRight (us ++ front) row
   noted-simulates n us ts s front [] h = tt
   noted-simulates n us ts s front (one_thread t ∷ row) h =
@@ -158,7 +158,7 @@ module _ (program : Program) (text : Text) (a : Liveness) (keys : Keys) (d : Dir
       noted-joined [] entries rest h
       (subst (λ us. AreRight us rest) (append-nil (threads_in entries)) (noted-simulates n (threads_in entries) ts s [] rest (subst (λ us. AreRight us rest) (sym (append-nil ts)) k)))
 
-  -- the records below the first threads of a row
+  -- Records below some entries are right with the threads of these above them.
   pub noted-below : (front rest : List Entry) → AreRight [] (front ++ rest) → AreRight (threads_in front) rest
   noted-below front rest h = noted-right [] front rest h
 
@@ -185,7 +185,7 @@ module _ (program : Program) (text : Text) (a : Liveness) (keys : Keys) (d : Dir
   answered-none [] = tt
   answered-none (t ∷ ts) = answered-none ts
 
-  -- what others simulate answers, and so do the first ones of these
+  -- If threads simulate ones whose search answers, the first of them answer.
   pub answers-first : (n turns : ℕ) (us others ts vs : List Thread) (f : Found) → Simulates program text false d n (us ++ others) ts → search program text turns d (ts ++ vs) ≡ Some f
       → Answers program text d us
   answers-first n turns us others ts vs f s e =
@@ -209,7 +209,7 @@ module _ (program : Program) (text : Text) (a : Liveness) (keys : Keys) (d : Dir
   turns-go-on price weight memory ts from _ _ _ e h (learns work more now new rest c known distinct inside paid) = turns-go-on price weight memory ts from work now rest e h c
 
   module _ (acc : IsLivenessFor program text a) (are : AreKeys program text a keys) where
-    -- none of the records below is of a key that is opened
+    -- No record below is of a key that is opened.
     returns-not : (memory : List Key) (ts : List Thread) (k : Key) (us : List Thread) → KeyStandsFor program text a keys d k us → IsOpened program text a keys d memory ts k us
         → (front : List Thread) (rest : List Entry) → AreRight (ts ++ front) rest → Answered rest → IsNew k (keys_in rest)
     returns-not memory ts k us is o front [] h q = tt
@@ -333,7 +333,7 @@ module _ (program : Program) (text : Text) (a : Liveness) (keys : Keys) (d : Dir
       reached = turn-reached;
     }
 
-    -- ---- Work
+    -- ---- Work of a search
 
     module _ (price : Key → ℕ) (weight : List Thread → ℕ) (memory : List Key) (ts : List Thread) (n : ℕ) (f : Found) (m : IsMemory program text a keys memory) (e : search program text n d ts ≡ Some f) where
       abbrev Paid : ℕ → List Key → List Entry → Type 0

@@ -73,7 +73,7 @@ module _ (program : Program) (text : Text) (a : Liveness) (keys : Keys) (d : Dir
               (subst (λ vs. AreRightKeyRecords program text a keys d vs rest) (sym (append-nil ts)) below) (answered-below program text a keys d front rest b h.answered),
         )
 
-  -- ---- Turns
+  -- ---- Steps of a search
 
   opened-coming : (memory : List Key) (ts : List Thread) (entries : List Entry) → AreOpened program text a keys d memory ts entries
       → AreComing program text a keys d ts entries

@@ -1,4 +1,5 @@
--- The known keys of a memo table form a list that recording extends, and what is known of them is true.
+-- The known keys of a memo table form a list that recording extends, and what is known of them is
+-- true.
 use Rattle.std.proofs.Common.{◌≡◌, ◌<◌, ◌≤◌, ℕ, ◌+◌, Bool, true, false, not, ◌&&◌, ◌||◌, List, [], ◌∷◌, Some, None, length, slice_get, if◌then◌else◌}
 use Rattle.std.proofs.Common.{refl, sym, ap, ◌∙◌, subst, arith}
 use Rattle.std.specs.Prelude.{◌==◌, ◌*◌, min, nat_le, nat_lt, option_map, unwrap_or}
@@ -17,7 +18,7 @@ use Rattle.regress_machine.specs.CharLoopExitStatesByPreference.{behind}
 use Rattle.regress_memo.specs.Liveness.{Agree, outermost}
 use Rattle.regress_memo.specs.DistinctLists.{IsIn, IsNew, AreDistinct}
 use Rattle.regress_memo.specs.LoopDataKeyCodes.{Question, is_empty, how_many, number_of_possible_answers, bool_as_digit, answer_to_loop_question, code_of}
-use Rattle.regress_memo.specs.LoopDataKeyCodes.{plan_code, plan_codes, key_of, own_row}
+use Rattle.regress_memo.specs.LoopDataKeyCodes.{plan_code, plan_codes, key_of, shape_of_only_thread_of_key}
 use Rattle.regress_memo.specs.LoopDataKeyCodes.{HasSlotsOfProgram}
 use Rattle.regress_memo.specs.UnboundedCharLoopMemoKeys.{row_by, plan_rows, char_loop_greediness_at, insn_before, CharLoopRecords, run_key}
 use Rattle.regress_memo.specs.MemoPlanChecksAndGuarantees.{plan_steps_below_record}
@@ -35,7 +36,7 @@ use Rattle.regress_memo.specs.Laws.{analysis_keys, KeyFails, KeySucceeds, IsTrue
 use Rattle.regress_memo.specs.Laws.{KeysAreThoseWithBits}
 use Rattle.regress_memo.proofs.MemoContentsLemmas.{same-is, same-itself, bit-there, line-there}
 
--- ---- Lists
+-- ---- Lists without repetition
 
 hold-none : (known : Key → Bool) → ((k : Key) → known k ≡ false) → ListsExactlyKnownKeys known []
 hold-none known none = record { only = λ k h. absurd h; all = λ k h. both_ways (known k) (none k) h }
@@ -90,7 +91,7 @@ memos-hold = record {
       ∙ sym (or_assoc (has_failure m j) (has_success m j) (same_key j k))) h;
 }
 
--- ---- Keys that there are
+-- ---- Keys of a memo table
 
 pub records-there : (t : MemoAnalysis) (ip : ℕ) → (insn_analysis_of t ip).records ≡ true → is_one_of (recorded t) ip ≡ true
 records-there t ip records = true_from_ne_false (is_one_of (recorded t) ip) (λ other. true≢false (not-recorded t ip other true records))
@@ -129,13 +130,13 @@ module _ (program : Program) (text : Text) (t : MemoAnalysis) where
           let key = key_of (plan_code (key_code_questions_of t)) s in
           let same : key ≡ k = cc in
           let rows = plan_rows program text (key_code_questions_of t) (insn_direction t) in
-          let own : rows key ≡ own_row key =
+          let own : rows key ≡ shape_of_only_thread_of_key key =
           ap (λ o. row_by program text (key_code_questions_of t) (insn_direction t) o (test_of program (slice_get program.insns s.ip)) (place_at text s.pos) key) no_body in
           subst (λ j. KeyStandsFor program text (analysis_as_liveness t) (analysis_keys program text t) d j (running s ∷ [])) same
           (plans-tell.has_key program text (analysis_as_liveness t) (key_code_questions_of t) (insn_direction t) (recorded t) rows (plan_steps_below_record program) d s
           (records-there t s.ip e) way of_program sound own)
 
--- a code asks for the offset and for what loops hold, and for nothing else
+-- Answers to a question are the same for states of the same offset and loop data.
 answer-same : (q : Question) (u v : State) → u.pos ≡ v.pos → u.loops ≡ v.loops → answer_to_loop_question q u ≡ answer_to_loop_question q v
 answer-same (is_empty l) u v pos loops =
     ap (λ n. unwrap_or (option_map (λ (x : LoopData). bool_as_digit (x.entry == n)) (slice_get u.loops l)) 0) pos
@@ -164,7 +165,7 @@ run-key-is program text t d test greedy s place r =
 pub keys-are-there : KeysAreThoseWithBits
 keys-are-there = record { has_bit = key-has-bit; inside = key-inside; thread = λ program text t of. thread-key program text t; run = run-key-is }
 
--- ---- What is known is so
+-- ---- Known keys are true
 
 true-begun : (program : Program) (text : Text) (t : MemoAnalysis) (records_successes : Bool) (m : MemoView)
     → IsAnalysisOf program t → IsEmptyMemo t (units text + 1) records_successes m → IsTrueOf program text m
@@ -202,9 +203,9 @@ module _ (program : Program) (text : Text) (k : Key) (m n : MemoView) where
         ]);
   }
 
--- ---- The list
+-- ---- The list of known keys
 
--- those of some keys that pass a test, once each
+-- `chosen` lists the keys that pass a test, without repetitions.
 chosen : (f : Key → Bool) → List Key → List Key
 chosen f [] = []
 chosen f (k ∷ ks) = if f k then k ∷ chosen (λ j. f j && not (same_key j k)) ks else chosen f ks

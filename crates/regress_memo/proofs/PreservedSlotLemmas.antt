@@ -14,7 +14,7 @@ use Rattle.regex_meaning.specs.CompilationRelation.{Program, LoopFields, Insn, G
 use Rattle.regex_meaning.specs.CompilationRelation.{WordBoundaryUnicodeICase, Alt, Jump, EnterLoop, LoopAgain, ResetCaptureGroup, Loop1CharBody}
 use Rattle.regex_meaning.specs.CompilationRelation.{BeginCaptureGroup, EndCaptureGroup, BackRef, Lookahead, Lookbehind}
 use Rattle.regress_machine.specs.Machine.{State, Thread, running, waiting, Next, goes, state_with_ip, with_some, go, go_if, range_swapped_if_leftwards, test_of, next_insn_at_place}
-use Rattle.regress_machine.specs.Machine.{moved_by}
+use Rattle.regress_machine.specs.Machine.{offset_moved_in_direction}
 use Rattle.regress_machine.specs.Machine.{read_one, stay_if, read_group, char_loop_states, scan, act_on, act}
 use Rattle.regress_machine.proofs.StatesInEffects.{IsOfThread, IsOfNext, of-in_turn, of-with_some, of-only_if, of-go_if, of-map, of-loop_turn, of-again_at}
 use Rattle.regress_memo.specs.LoopDataKeyCodes.{HasSlotsOfProgram}
@@ -24,7 +24,7 @@ module _ (program : Program) (text : Text) (d : Direction) (s : State) (is : Has
   abbrev Good : State → Type 0
   Good = HasSlotsOfProgram program
 
-  -- the same groups and loops elsewhere
+  -- A state keeps the numbers of its groups and loops at another instruction and offset.
   stays : (ip pos : ℕ) → Good (record s { ip = ip; pos = pos })
   stays ip pos = record { groups = is.groups; starts = is.starts; loops = is.loops }
 
@@ -71,7 +71,7 @@ module _ (program : Program) (text : Text) (d : Direction) (s : State) (is : Has
   acts None = tt
   acts (Some Goal) = is
   acts (Some JustFail) = tt
-  acts (Some (ByteSeq bytes)) = of-go_if Good _ (record s { ip = s.ip + 1; pos = moved_by d (length bytes) s.pos }) (λ b. stays (s.ip + 1) (moved_by d (length bytes) s.pos))
+  acts (Some (ByteSeq bytes)) = of-go_if Good _ (record s { ip = s.ip + 1; pos = offset_moved_in_direction d (length bytes) s.pos }) (λ b. stays (s.ip + 1) (offset_moved_in_direction d (length bytes) s.pos))
   acts (Some (StartOfLine multiline)) = looks _
   acts (Some (EndOfLine multiline)) = looks _
   acts (Some (WordBoundary invert)) = looks _

@@ -2,7 +2,7 @@
 use Rattle.std.proofs.Common.{◌≡◌, ◌≤◌, ◌+◌, ℕ, Bool, true, false, List, Some, refl, ap, ◌∙◌, sym, subst, slice_get}
 use Rattle.regex_meaning.specs.Text.{Direction}
 use Rattle.regress_machine.specs.Machine.{LoopData, State}
-use Rattle.regress_memo.specs.Liveness.{left_from, IsSound}
+use Rattle.regress_memo.specs.Liveness.{units_left_in_direction, IsSound}
 use Rattle.regress_memo.specs.MemoKeys.{IsSoundState}
 use Rattle.regress_memo.specs.declared.analysis_result.EnclosingLoop.{EnclosingLoop}
 use Rattle.regress_memo.specs.declared.analysis_result.MemoAnalysis.{MemoAnalysis}
@@ -12,23 +12,23 @@ use Rattle.regress_memo.specs.AnalysisAsPotentials.{insn_direction}
 use Rattle.regress_memo.specs.ReachableThreadLoopStates.{direction_from_forward, IsAtMost, ThreadLoopStateFitsAnalysis}
 use Rattle.regress_memo.proofs.LoopFactFlowLemmas.{holds-there, holds-in}
 
--- ---- Iterations
+-- ---- Bounds on iterations
 
 all-asked : (b : Bool) (up_to : ℕ) (d : Direction) (top : ℕ) (x : LoopData) → IsAtMost b up_to d top x → b ≡ true → x.iters ≤ up_to
 all-asked true up_to d top x h e = h
 all-asked false up_to d top x h e = cc
 
 few-asked : (b : Bool) (up_to : ℕ) (d : Direction) (top : ℕ) (x : LoopData) → IsAtMost b up_to d top x → b ≡ false
-    → x.iters + left_from top d x.entry ≤ top + up_to
+    → x.iters + units_left_in_direction top d x.entry ≤ top + up_to
 few-asked true up_to d top x h e = cc
 few-asked false up_to d top x h e = h
 
 at-most : (b : Bool) (up_to : ℕ) (d : Direction) (top : ℕ) (x : LoopData) → (b ≡ true → x.iters ≤ up_to)
-    → (b ≡ false → x.iters + left_from top d x.entry ≤ top + up_to) → IsAtMost b up_to d top x
+    → (b ≡ false → x.iters + units_left_in_direction top d x.entry ≤ top + up_to) → IsAtMost b up_to d top x
 at-most true up_to d top x all few = all refl
 at-most false up_to d top x all few = few refl
 
--- ---- Rows
+-- ---- Rows of enclosing loops
 
 module _ (t : MemoAnalysis) (top : ℕ) where
   abbrev pub AreSoundRows : (ip at : ℕ) → List LoopData → Direction → Type 0
@@ -63,7 +63,7 @@ module _ (t : MemoAnalysis) (top : ℕ) where
           few = at-most (count_bound_of t row.id).counted (count_bound_of t row.id).up_to d top x here.all here.few;
         }
 
-  -- ---- At an instruction and an offset, by a line's direction
+  -- ---- States at an instruction and an offset
 
   module _ (ip at : ℕ) (loops : List LoopData) (forward : Bool) (is : forward ≡ (insn_analysis_of t ip).forward) (s : State) (same_ip : s.ip ≡ ip) (same_at : s.pos ≡ at) (same_loops : s.loops ≡ loops) where
     direction : direction_from_forward forward ≡ insn_direction t ip
@@ -87,7 +87,7 @@ module _ (t : MemoAnalysis) (top : ℕ) where
         (subst (λ p. AreSoundRows ip p s.loops (insn_direction t ip)) same_at
         (subst (λ i. AreSoundRows i s.pos s.loops (insn_direction t ip)) same_ip (rows-sound s (insn_direction t ip) sound))))
 
-    -- that of a row at hand
+    -- In a sound state, the loop data of each given row fits the facts of the analysis.
     pub sound-row-there : (rows : List EnclosingLoop) → rows ≡ enclosing_loops_of t ip → IsSoundState (analysis_as_liveness t) top (insn_direction t ip) s → (k : ℕ) (row : EnclosingLoop)
         → slice_get rows k ≡ Some row → ThreadLoopStateFitsAnalysis t (direction_from_forward forward) top at (slice_get loops row.id) row
     sound-row-there rows same sound k row there = sound-rows sound k row (ap (λ xs. slice_get xs k) (sym same) ∙ there)

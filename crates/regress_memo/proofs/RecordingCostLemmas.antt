@@ -6,7 +6,7 @@ use Rattle.regex_meaning.specs.NumberListHelpers.{numbers_from}
 use Rattle.regress_memo.specs.TotalCostsOfRecordingInsns.{unrecorded, RecordingCostsAreLinear}
 use Rattle.regress_memo.proofs.DistinctListLemmas.{price-few}
 
--- ---- Sums
+-- ---- Sums over lists
 
 pub sum-le : {X : Type 0} (f g : X → ℕ) → ((x : X) → f x ≤ g x) → (xs : List X) → sum_by f xs ≤ sum_by g xs
 sum-le f g le [] = omega arith
@@ -30,10 +30,10 @@ sum-flat g to (ip ∷ ips) =
     let l = sum-flat g to ips in
     omega (arith, a, b, l)
 
--- ---- What records, and what does not
+-- ---- Instructions that record, and others
 
 module _ (records : ℕ → Bool) (left : ℕ → ℕ) where
-  -- what is left by an instruction that does not record
+  -- `bare` is what an instruction leaves if it does not record, and otherwise zero.
   abbrev bare : ℕ → ℕ
   bare ip = if records ip then 0 else left ip
 

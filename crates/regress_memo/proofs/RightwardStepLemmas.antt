@@ -18,12 +18,12 @@ use Rattle.regex_meaning.specs.CompilationRelation.{MatchAnyExceptLineTerminator
 use Rattle.regex_meaning.specs.CompilationRelation.{BeginCaptureGroup, EndCaptureGroup, BackRef, Lookahead, Lookbehind}
 use Rattle.regex_meaning.proofs.BoolLemmas.{and-left}
 use Rattle.regex_meaning.proofs.CodeUnitOffsetsLemmas.{offset-place_at}
-use Rattle.regress_machine.specs.Machine.{State, Thread, running, waiting, Next, with_some, go, test_of, next_insn_at_place, has_bytes, read_one, stay_if}
+use Rattle.regress_machine.specs.Machine.{State, Thread, running, waiting, Next, with_some, go, test_of, next_insn_at_place, occurs_beside_offset, read_one, stay_if}
 use Rattle.regress_machine.specs.Machine.{read_group, char_loop_states, scan, act_on}
 use Rattle.regress_machine.proofs.NearestCharacterLemmas.{length-nearest}
 use Rattle.regress_machine.proofs.CharLoopRepetitions.{numbers_between}
 use Rattle.regress_machine.proofs.StatesInEffects.{IsOfThread, IsOfNext, of-in_turn, of-with_some, of-only_if, of-go_if, of-map, of-loop_turn, of-again_at}
-use Rattle.regress_memo.specs.MemoSearch.{Key, key_record, thread_entries, at_of, AreOnward}
+use Rattle.regress_memo.specs.MemoSearch.{Key, key_record, thread_entries, offset_of_thread, AreOnward}
 use Rattle.regress_memo.specs.ThreadPotentials.{RightwardInsnsNeverMoveLeft}
 use Rattle.regress_memo.proofs.LivenessLemmas.{moves-on, moves-one}
 use Rattle.regress_memo.proofs.MemoSearchLemmas.{keys-tries, keys-joined}
@@ -34,9 +34,9 @@ module _ (from : ℕ) where
 
   all-onward : (ts : List Thread) → Each (IsOfThread On) ts → AreOnward from (thread_entries ts)
   all-onward [] h = tt
-  all-onward (t ∷ ts) h = (at-or-past t h.0, subst (λ ks. Each (λ k. k.at ≤ at_of t) ks) (sym (keys-tries ts)) tt, all-onward ts h.1)
+  all-onward (t ∷ ts) h = (at-or-past t h.0, subst (λ ks. Each (λ k. k.at ≤ offset_of_thread t) ks) (sym (keys-tries ts)) tt, all-onward ts h.1)
     where
-      at-or-past : (t : Thread) → IsOfThread On t → from ≤ at_of t
+      at-or-past : (t : Thread) → IsOfThread On t → from ≤ offset_of_thread t
       at-or-past (running s) h = h
       at-or-past (waiting s) h = h
 
@@ -100,7 +100,7 @@ module _ (program : Program) (text : Text) (is : HasRisingPlaceOffsets text) (s 
   act-on (Some (Char c)) = read-on (test_of program (Some (Char c)))
   act-on (Some (CharSet members)) = read-on (test_of program (Some (CharSet members)))
   act-on (Some (ByteSet members)) = read-on (test_of program (Some (ByteSet members)))
-  act-on (Some (ByteSeq bytes)) = of-go_if Past (has_bytes (encode_utf8_all text.characters) rightwards bytes s.pos) (record s { ip = s.ip + 1; pos = s.pos + length bytes }) (λ h. omega arith)
+  act-on (Some (ByteSeq bytes)) = of-go_if Past (occurs_beside_offset (encode_utf8_all text.characters) rightwards bytes s.pos) (record s { ip = s.ip + 1; pos = s.pos + length bytes }) (λ h. omega arith)
   act-on (Some (AsciiBracket members)) = read-on (test_of program (Some (AsciiBracket members)))
   act-on (Some (Bracket index)) = read-on (test_of program (Some (Bracket index)))
   act-on (Some MatchAny) = read-on (test_of program (Some MatchAny))
@@ -125,7 +125,7 @@ noted-onward : (from : ℕ) (ts us : List Thread) (k : Key) → AreOnward from (
 noted-onward from [] us k h e = (omega (arith, e), tt)
 noted-onward from (t ∷ ts) us k h e =
     let here = h.0 in
-    (here, subst (λ ks. Each (λ k. k.at ≤ at_of t) ks) (sym (keys-joined (thread_entries ts) (key_record k us ∷ []) ∙ ap (λ ks. ks ++ k ∷ []) (keys-tries ts))) (omega (arith, here, e), tt), noted-onward from ts us k h.2 e)
+    (here, subst (λ ks. Each (λ k. k.at ≤ offset_of_thread t) ks) (sym (keys-joined (thread_entries ts) (key_record k us ∷ []) ∙ ap (λ ks. ks ++ k ∷ []) (keys-tries ts))) (omega (arith, here, e), tt), noted-onward from ts us k h.2 e)
 
 pub turns-move-on : RightwardInsnsNeverMoveLeft
 turns-move-on = record {

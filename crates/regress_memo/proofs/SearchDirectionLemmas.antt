@@ -27,7 +27,7 @@ is-same : (d : Direction) → is_same_direction d d ≡ true
 is-same rightwards = refl
 is-same leftwards = refl
 
--- of a direction, and of what is left by one
+-- `heavy` is zero for the direction of the search, and two for the other one.
 abbrev heavy : Direction → Direction → ℕ
 heavy d v = if is_same_direction v d then 0 else 2
 

@@ -1,4 +1,5 @@
--- Searches of lookaround contents learn keys for the enclosing search, which may decide lookarounds.
+-- Searches of lookaround contents learn keys for the enclosing search, which may decide
+-- lookarounds.
 use Rattle.std.proofs.Common.{◌≡◌, ℕ, ◌+◌, ◌≤◌, List, [], ◌∷◌, ◌++◌, Option, Some, None, Bool, true, false, ◌||◌, refl, ap, ◌∙◌, sym, subst, arith}
 use Rattle.std.proofs.Common.{append_assoc, append-nil, sum_by}
 use Rattle.std.specs.Prelude.{IsSome}
@@ -27,7 +28,7 @@ use Rattle.regress_memo.proofs.DistinctListLemmas.{Each-left, Each-right, distin
 use Rattle.regress_memo.proofs.ThreadsThatFailAlone.{splits}
 use Rattle.regress_memo.proofs.MemoSearchLemmas.{threads-joined, noted-below, answered-below, work-is-bounded}
 
--- the first keys move behind others among which none of them is
+-- `xs`, `ys` and `zs` are distinct if `xs` and `ys` each are with `zs` and no `ys` is in `xs`.
 distinct-between : (xs ys zs : List Key) → AreDistinct (xs ++ zs) → AreDistinct (ys ++ zs) → Each (λ y. IsNew y xs) ys → AreDistinct (xs ++ (ys ++ zs))
 distinct-between xs [] zs h k new = h
 distinct-between xs (y ∷ ys) zs h k new =
@@ -71,7 +72,7 @@ looks-learn program text a keys acc are d price weight outer memory us turns f m
     }
 
 module _ (program : Program) (text : Text) (d : Direction) where
-  -- what begins with threads that find an end finds it
+  -- A search that begins with threads that find an end has an end.
   pub begins-found : (ts vs : List Thread) (n : ℕ) (f : Found) → FindEnd program text d ts → search program text n d (ts ++ vs) ≡ Some f → IsSome f.end
   begins-found ts vs n f found e =
       let x = splits program text d vs n n (omega arith) ts f e in
@@ -168,7 +169,7 @@ soundness-stays program text a acc d = record {
   outer = agree-outermost program text a acc d;
 }
 
--- ---- Lookarounds that are decided
+-- ---- Lookarounds that known keys decide
 
 module _ (program : Program) (text : Text) (d : Direction) where
   resumed-none : (negate : Bool) (t : State) (e : Option State) → e ≡ None → Simulates program text false d 0 (after_lookaround negate t None) (after_lookaround negate t e)

@@ -41,14 +41,14 @@ module _ (program : Program) (text : Text) (a : Liveness) (d : Direction) (s : S
       ap (λ (x : LookaroundInsn). asks x.inner x.negate (state_at_next_ip s) (state_with_ip x.continuation s)) (some-same (record { inner = leftwards; negate = negate; continuation = continuation }) look e)
   asks-there _ e = cc
 
--- ---- Behind contents
+-- ---- States behind a lookaround's contents
 
 module _ (program : Program) (text : Text) (a : Liveness) (acc : IsLivenessFor program text a) (w : World) (d : Direction) (s : State) (g : Agree a (units text) w d s s)
     (continuation : ℕ) (looks : IsConsistentLookaround a s.ip continuation) (inner : Direction) where
   abbrev inner-world : World
   inner-world = contents-world a (units text) w d s s g continuation
 
-  -- an end of the contents is sound in their world
+  -- The end of a search of a lookaround's contents agrees with itself.
   end-sound : (turns : ℕ) (f : Found) (e : State) → search program text turns inner (running (state_at_next_ip s) ∷ []) ≡ Some f → f.end ≡ Some e
       → Agree a (units text) inner-world inner e e
   end-sound turns f e searches ended =
@@ -101,7 +101,7 @@ success-goes-on program text a acc silent are w d s look is positive quiet g fou
           (simulates-asks program text false d look.inner false s (state_at_next_ip s) (state_with_ip look.continuation s) n h asked searches));
     }
 
--- ---- Turns
+-- ---- Steps that skip lookarounds
 
 module _ (program : Program) (text : Text) (a : Liveness) (acc : IsLivenessFor program text a) (w : World) (d : Direction) (s t : State) (g : Agree a (units text) w d s t) where
   abbrev Turns : Next → Next → Type 0
@@ -141,7 +141,7 @@ module _ (program : Program) (text : Text) (a : Liveness) (acc : IsLivenessFor p
     ends = λ u e. ends-too u (act program text d t) refl (both-turn (ends u) e);
   }
 
--- ---- Keys
+-- ---- Known keys
 
 module _ (program : Program) (text : Text) (a : Liveness) (questions : ℕ → List Question) (only : AsksOnly questions a) (w : World) (d : Direction) where
   abbrev Agreeing : State → State → Type 0

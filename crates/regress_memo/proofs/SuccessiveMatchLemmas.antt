@@ -28,7 +28,7 @@ sum-last w start (suc n) =
     let one : suc (n + 1) ≡ suc n + 1 = omega arith in
     subst (λ m. sum_by w (numbers_from start m) ≡ sum_by w (numbers_from start (suc n)) + w (start + suc n)) one (omega (arith, a, b, l, c))
 
--- of all places before one
+-- `before` adds up `w` over all numbers below `n`.
 abbrev before : (w : ℕ → ℕ) (n : ℕ) → ℕ
 before w n = sum_by w (numbers_from 0 n)
 
@@ -46,7 +46,7 @@ before-more w m (suc k) =
 before-rises : (w : ℕ → ℕ) (m n : ℕ) → m ≤ n → before w m ≤ before w n
 before-rises w m n le = let e : m + (n - m) ≡ n = omega (arith, le) in subst (λ k. before w m ≤ before w k) e (before-more w m (n - m))
 
--- ---- One place
+-- ---- The work at one place
 
 abbrev one-if : Bool → ℕ
 one-if b = if b then 1 else 0
@@ -87,7 +87,7 @@ once-at-most at (suc n) =
       | inr past ↦ let no = not-it at n (λ e. omega (arith, e, past)) in let l = once-at-most at n in omega (arith, x, no, l)
     ])
 
--- ---- Attempts
+-- ---- Attempts in turn
 
 onward-from : (low from : ℕ) (ts : List Thread) → low ≤ from → AreOnward from (thread_entries ts) → AreOnward low (thread_entries ts)
 onward-from low from [] le h = tt
@@ -100,7 +100,7 @@ module _ (program : Program) (text : Text) (a : Liveness) (keys : Keys) (price :
   abbrev ready : ℕ → ℕ
   ready at = ready_at program text a keys price weight row at
 
-  -- searches in turn, from an offset that is no further on
+  -- The work so far is that of searches up to an offset that is at most `from`.
   record Low (from work : ℕ) (memory : List Key) (starts : List ℕ) : Type 0 where
     low : ℕ
     le : low ≤ from

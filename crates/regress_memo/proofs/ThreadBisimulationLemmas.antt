@@ -74,7 +74,7 @@ module _ {W : Type 0} (R : W → Direction → Relation) (program : Program) (te
   after-alike n later w d stuck (ends t) k ts us h = absurd k
   after-alike n later w d stuck (asks i b u t) k ts us h = absurd k
 
-  -- by the number of turns
+  -- Threads that are related have searches that end alike, for each number of turns.
   pub end-alike : (n : ℕ) → EndAlike n
   unfolding search
   end-alike n w d [] [] h = record { steps = refl; ends = tt }

@@ -14,7 +14,7 @@ use Rattle.regex_meaning.specs.CompilationRelation.{WordBoundaryUnicodeICase, Al
 use Rattle.regex_meaning.specs.CompilationRelation.{BeginCaptureGroup, EndCaptureGroup, BackRef, Lookahead, Lookbehind}
 use Rattle.regex_meaning.proofs.BoolLemmas.{and-left, and-right}
 use Rattle.regress_machine.specs.Machine.{State, Thread, running, waiting, Next, goes, state_with_ip, with_some, only_if, go, go_if, first_running_and_others_waiting}
-use Rattle.regress_machine.specs.Machine.{preferring}
+use Rattle.regress_machine.specs.Machine.{choice_in_order_of_greediness}
 use Rattle.regress_machine.specs.Machine.{iterate_or_leave_at_loop_head, effect_at_iteration_end, loop_again_effect, test_of, range_swapped_if_leftwards, next_insn_at_place, read_one}
 use Rattle.regress_machine.specs.Machine.{stay_if, read_group, scan, act_on, act}
 use Rattle.regress_machine.specs.ThreadSimulation.{Simulates, AllFindNothing}
@@ -26,7 +26,7 @@ use Rattle.regress_memo.specs.DistinctLists.{IsIn, IsNew, AreDistinct}
 use Rattle.regress_memo.specs.MemoSearch.{Key, Keys, Entry, one_thread, thread_group, key_record, IsBare, entry_potential, threads_in, keys_in, GoesOnward, KeyStandsFor, AreKeys}
 use Rattle.regress_memo.specs.MemoSearch.{AreRightKeyRecords, AreOpened, IsMemoStep}
 use Rattle.regress_memo.specs.StepSoundness.{IsSoundStep, StepsAreSound}
-use Rattle.regress_memo.specs.ThreadPotentials.{Potentials, potential_of, CoversOne, CoversRepeat, CoversInsn, AreCovering, is_same_direction, is_one_of, places_of, Shape}
+use Rattle.regress_memo.specs.ThreadPotentials.{Potentials, potential_of, CoversOne, CoversRepeat, CoversInsn, AreCovering, is_same_direction, is_one_of, keys_of_insns_at_offsets, Shape}
 use Rattle.regress_memo.specs.ThreadPotentials.{Distinguishes}
 use Rattle.regress_memo.specs.ThreadPotentials.{stands_there, has_shape, place_keys, each_noted, AreOfEach, StepsAreMemoSteps, ThreadsLeftFitInsnPotentials}
 use Rattle.regress_memo.specs.ThreadPotentials.{KeysCoverRecordedExits}
@@ -34,7 +34,7 @@ use Rattle.regress_memo.specs.ThreadPotentials.{OffsetsAndCodesAreKeys}
 use Rattle.regress_memo.proofs.MemoKeyLemmas.{keys-agree, sound-state, unasked-count}
 use Rattle.regress_memo.proofs.MemoSearchLemmas.{threads-joined, keys-bare, given, turn-left}
 
--- ---- Turns with records
+-- ---- Steps with records
 
 module _ (program : Program) (text : Text) (a : Liveness) (keys : Keys) (d : Direction) (memory : List Key) where
   pub none-noted : (above : List Thread) (bare rest : List Entry) → IsBare bare → AreRightKeyRecords program text a keys d (above ++ threads_in bare) rest → AreRightKeyRecords program text a keys d above (bare ++ rest)
@@ -164,7 +164,7 @@ turns-leave program text a keys acc are d memory = record {
       (subst (λ ts. Simulates program text false d 0 ts (threads_in front)) (sym same) (simulates-same program text false d (threads_in front)))) h;
 }
 
--- ---- Weights
+-- ---- Potentials of threads
 
 module _ (w : Potentials) (most : ℕ) where
   abbrev NextFew : Next → Type 0
@@ -196,21 +196,21 @@ module _ (w : Potentials) (most : ℕ) where
   few-two : (x y : State) → w.at x.ip + w.at y.ip + 1 ≤ most → sum_by (potential_of w) (running x ∷ waiting y ∷ []) ≤ most
   few-two x y h = let p = sum_by-cons (potential_of w) (running x) (waiting y ∷ []) in let q = sum_by-cons (potential_of w) (waiting y) [] in omega (arith, p, q, h)
 
-  few-preferring : (again leave : State) → w.at again.ip + w.at leave.ip + 1 ≤ most → (greedy b c : Bool)
-      → sum_by (potential_of w) (first_running_and_others_waiting (preferring greedy (if b then again ∷ [] else []) (if c then leave ∷ [] else []))) ≤ most
-  few-preferring again leave h true true true = few-two again leave h
-  few-preferring again leave h false true true = few-two leave again (omega (arith, h))
-  few-preferring again leave h true true false = one (running again) (omega (arith, h))
-  few-preferring again leave h false true false = one (running again) (omega (arith, h))
-  few-preferring again leave h true false true = one (running leave) (omega (arith, h))
-  few-preferring again leave h false false true = one (running leave) (omega (arith, h))
-  few-preferring again leave h true false false = omega arith
-  few-preferring again leave h false false false = omega arith
+  few-choice_in_order_of_greediness : (again leave : State) → w.at again.ip + w.at leave.ip + 1 ≤ most → (greedy b c : Bool)
+      → sum_by (potential_of w) (first_running_and_others_waiting (choice_in_order_of_greediness greedy (if b then again ∷ [] else []) (if c then leave ∷ [] else []))) ≤ most
+  few-choice_in_order_of_greediness again leave h true true true = few-two again leave h
+  few-choice_in_order_of_greediness again leave h false true true = few-two leave again (omega (arith, h))
+  few-choice_in_order_of_greediness again leave h true true false = one (running again) (omega (arith, h))
+  few-choice_in_order_of_greediness again leave h false true false = one (running again) (omega (arith, h))
+  few-choice_in_order_of_greediness again leave h true false true = one (running leave) (omega (arith, h))
+  few-choice_in_order_of_greediness again leave h false false true = one (running leave) (omega (arith, h))
+  few-choice_in_order_of_greediness again leave h true false false = omega arith
+  few-choice_in_order_of_greediness again leave h false false false = omega arith
 
   few-loop_turn : (f : LoopFields) (begin k : ℕ) (s : State) → w.at (begin + 1) + w.at f.exit + 1 ≤ most → NextFew (iterate_or_leave_at_loop_head f begin k s)
   few-loop_turn f begin k s h =
       few-only_if (nat_lt f.loop_id (length s.loops)) _
-      (few-preferring (record s { ip = begin + 1; loops = slice_set s.loops f.loop_id (record { iters = k; entry = s.pos }) }) (state_with_ip f.exit s) h f.greedy (nat_lt k f.max_iters) (nat_le f.min_iters k))
+      (few-choice_in_order_of_greediness (record s { ip = begin + 1; loops = slice_set s.loops f.loop_id (record { iters = k; entry = s.pos }) }) (state_with_ip f.exit s) h f.greedy (nat_lt k f.max_iters) (nat_le f.min_iters k))
 
   few-again_at : (o : Option Insn) (ip begin : ℕ) (s : State) → w.left ip ≡ most → CoversRepeat w o ip begin → NextFew (loop_again_effect o begin s)
   few-again_at (Some (EnterLoop f)) ip begin s e h =
@@ -271,7 +271,7 @@ module _ (program : Program) (text : Text) (w : Potentials) (d : Direction) (s :
   act-weighed : AreCovering w program → (ts : List Thread) → act program text d s ≡ goes ts → sum_by (potential_of w) ts ≤ w.left s.ip
   act-weighed are ts e = subst Few e (act-few (slice_get program.insns s.ip) (are.enough s.ip))
 
--- the table that simulates every program
+-- These potentials cover the instructions of every program.
 ones : Potentials
 ones = record { at = λ ip. 1; left = λ ip. 3 }
 
@@ -331,15 +331,15 @@ in-rows ip top code at first (suc count) inside le less = elim (cases_lt first c
       (subst (λ c. IsIn (place ip code at) (row-of ip c 0 (top + 1))) same (in-row ip code at 0 (top + 1) (omega arith) (omega (arith, inside))))
 ]
 
-pub in-places : (top : ℕ) (codes : ℕ → ℕ) (ip code at : ℕ) → at ≤ top → code < codes ip → (ips : List ℕ) → is_one_of ips ip ≡ true → IsIn (place ip code at) (places_of ips top codes)
+pub in-places : (top : ℕ) (codes : ℕ → ℕ) (ip code at : ℕ) → at ≤ top → code < codes ip → (ips : List ℕ) → is_one_of ips ip ≡ true → IsIn (place ip code at) (keys_of_insns_at_offsets ips top codes)
 in-places top codes ip code at le less [] h = cc
 in-places top codes ip code at le less (i ∷ ips) h = by (i == ip) refl (λ there. in-places top codes ip code at le less ips there)
   where
-    by : (b : Bool) → (i == ip) ≡ b → (is_one_of ips ip ≡ true → IsIn (place ip code at) (places_of ips top codes)) → IsIn (place ip code at) (places_of (i ∷ ips) top codes)
+    by : (b : Bool) → (i == ip) ≡ b → (is_one_of ips ip ≡ true → IsIn (place ip code at) (keys_of_insns_at_offsets ips top codes)) → IsIn (place ip code at) (keys_of_insns_at_offsets (i ∷ ips) top codes)
     by true e later =
-        in-joined-left (place ip code at) (rows-of i top 0 (codes i)) (places_of ips top codes)
+        in-joined-left (place ip code at) (rows-of i top 0 (codes i)) (keys_of_insns_at_offsets ips top codes)
         (subst (λ j. IsIn (place ip code at) (rows-of j top 0 (codes j))) (sym (eqb-true i ip e)) (in-rows ip top code at 0 (codes ip) le (omega arith) (omega (arith, less))))
-    by false e later = in-joined-right (place ip code at) (rows-of i top 0 (codes i)) (places_of ips top codes) (later (ap (λ b. b || is_one_of ips ip) (sym e) ∙ h))
+    by false e later = in-joined-right (place ip code at) (rows-of i top 0 (codes i)) (keys_of_insns_at_offsets ips top codes) (later (ap (λ b. b || is_one_of ips ip) (sym e) ∙ h))
 
 row-sum : (price : ℕ → ℕ) (ip code first count : ℕ) → sum_by (λ (k : Key). price k.ip) (row-of ip code first count) ≡ price ip * count
 row-sum price ip code first zero = omega arith
@@ -357,17 +357,17 @@ rows-sum price ip top first (suc count) =
     omega (arith, x, y, z)
 
 places-cost : (top : ℕ) (codes price : ℕ → ℕ) (ips : List ℕ)
-    → sum_by (λ (k : Key). price k.ip) (places_of ips top codes) ≡ sum_by (λ ip. price ip * codes ip) ips * (top + 1)
+    → sum_by (λ (k : Key). price k.ip) (keys_of_insns_at_offsets ips top codes) ≡ sum_by (λ ip. price ip * codes ip) ips * (top + 1)
 places-cost top codes price [] = omega arith
 places-cost top codes price (ip ∷ ips) =
-    let x = sum_by-append (λ (k : Key). price k.ip) (rows-of ip top 0 (codes ip)) (places_of ips top codes) in
+    let x = sum_by-append (λ (k : Key). price k.ip) (rows-of ip top 0 (codes ip)) (keys_of_insns_at_offsets ips top codes) in
     let y = rows-sum price ip top 0 (codes ip) in
     let z = places-cost top codes price ips in
     let c = ap (λ n. n * (top + 1)) (sum_by-cons (λ ip. price ip * codes ip) ip ips) in
     omega (arith, x, y, z, c)
 
 module _ (program : Program) (text : Text) (a : Liveness) (no_groups : NoGroupsAreLive a) (code_of : State → ℕ) (tells : Distinguishes a (units text) code_of) where
-  -- a state of the program's stands there
+  -- A state has the instruction, offset and code of a shape, and the slots of the program.
   record StandsThere (x : Shape) (s : State) : Type 0 where
     ip : s.ip ≡ x.ip
     pos : s.pos ≡ x.pos
@@ -472,7 +472,7 @@ module _ (program : Program) (text : Text) (a : Liveness) (no_groups : NoGroupsA
         by rightwards rightwards leftwards h k = cc
         by leftwards leftwards rightwards h k = cc
 
-    keys-inside : (d : Direction) (k : Key) (ts : List Thread) → Is d k ts → IsIn k (places_of ips (units text) codes)
+    keys-inside : (d : Direction) (k : Key) (ts : List Thread) → Is d k ts → IsIn k (keys_of_insns_at_offsets ips (units text) codes)
     keys-inside d k ts p = let x = place-of d k ts p in in-places (units text) codes k.ip k.code k.at x.within x.code ips x.there
 
     places-are : AreKeys program text a (place_keys program code_of way ips (units text) codes rows taken)
@@ -495,7 +495,7 @@ places-keys = record {
   };
 }
 
--- ---- Runs
+-- ---- Steps of char loops
 
 pub runs-pay : KeysCoverRecordedExits
 runs-pay price weight known [] first ready more le few each = omega (arith, le, few)

@@ -1,4 +1,5 @@
--- A thread that finds nothing alone finds nothing before other threads, and states that agree fail alike.
+-- A thread that finds nothing alone finds nothing before other threads, and states that agree fail
+-- alike.
 use Rattle.std.proofs.Common.{◌≡◌, ℕ, zero, suc, ◌+◌, ◌≤◌, ◌<◌, List, [], ◌∷◌, ◌++◌, Option, Some, None, Bool, refl, ap, ◌∙◌, sym, subst, arith}
 use Rattle.std.proofs.Common.{append_assoc}
 use Rattle.std.specs.Prelude.{IsSome}
@@ -15,7 +16,7 @@ use Rattle.regress_memo.specs.ThreadBisimulation.{AlikeAnswers, AlikeEnds}
 use Rattle.regress_memo.specs.Liveness.{Agree, outermost, LiveDataDecideFailure}
 use Rattle.regress_memo.proofs.LivenessLemmas.{agreeing-alike}
 
--- what the threads in front answer alone, and then those behind
+-- The search of joined threads ends as that of the first ones, or else as that of the others.
 pub record Split (x : Option Found) (y : Option Found) (f : Found) : Type 0 where
   pub alone : Found
   pub is : x ≡ Some alone
@@ -44,7 +45,7 @@ module _ (program : Program) (text : Text) (d : Direction) (vs : List Thread) wh
   abbrev way : ℕ → Direction → List Thread → Option Found
   way n = λ d us. search program text n d us
 
-  -- the threads behind are searched with so many turns
+  -- `Splits n` says that a search of `n` turns is split, if the threads behind have `all` turns.
   module _ (all : ℕ) where
     abbrev Splits : ℕ → Type 0
     Splits n = (ts : List Thread) (f : Found) → search program text n d (ts ++ vs) ≡ Some f → Split (search program text n d ts) (search program text all d vs) f
@@ -112,7 +113,7 @@ module _ (program : Program) (text : Text) (d : Direction) where
       go (asks inner negate u s) e = by_asked negate s (search program text n inner (running u ∷ [])) e
       go stuck e = cc
 
-  -- a search that finds nothing alone may be left out anywhere
+  -- A state whose searches alone have no end finds nothing.
   pub nothing-alone : (s : State) → ((turns : ℕ) (f : Found) → search program text turns d (running s ∷ []) ≡ Some f → f.end ≡ None) → FindsNothing program text d (running s)
   nothing-alone s h = record {
     within = λ turns vs f e.

@@ -20,7 +20,7 @@ use Rattle.regress_machine.proofs.CharLoopExitStateLemmas.{behind-from}
 use Rattle.regress_memo.specs.ThreadBisimulation.{Relation, AlikeThreads}
 use Rattle.regress_memo.specs.Liveness.{Liveness, IsLivenessFor, IsNotAheadInDirection, Agree, outermost}
 use Rattle.regress_memo.specs.DistinctLists.{IsNew, AreDistinct}
-use Rattle.regress_memo.specs.MemoSearch.{Key, Keys, Entry, one_thread, thread_group, key_record, keys_in, at_of, AreOnward, GoesOnward, KeyStandsFor, AreSound, IsMemoStep}
+use Rattle.regress_memo.specs.MemoSearch.{Key, Keys, Entry, one_thread, thread_group, key_record, keys_in, offset_of_thread, AreOnward, GoesOnward, KeyStandsFor, AreSound, IsMemoStep}
 use Rattle.regress_memo.specs.ThreadPotentials.{each_noted, AreOfEach}
 use Rattle.regress_memo.specs.LoopDataKeyCodes.{Question, HasSlotsOfProgram}
 use Rattle.regress_memo.specs.CharLoopExitThreadLists.{passing, greedy_loop_threads, lazy_loop_threads, pending_loop_threads}
@@ -32,7 +32,7 @@ use Rattle.regress_memo.proofs.CharLoopExitLemmas.{passing-left, passing-on, run
 use Rattle.regress_memo.proofs.CharLoopKeyLemmas.{runs-have-keys}
 use Rattle.regress_memo.proofs.ThreadPotentialLemmas.{turns-give}
 
--- ---- Numbers
+-- ---- Lists of numbers
 
 numbers-end : (least count : ℕ) → numbers_from least (suc count) ≡ numbers_from least count ++ (least + count) ∷ []
 numbers-end least zero = let e : least ≡ least + 0 = omega arith in ap (λ n. n ∷ []) e
@@ -43,7 +43,7 @@ numbers-end least (suc count) =
 numbers-back : (least count : ℕ) → reverse (numbers_from least (suc count)) ≡ (least + count) ∷ reverse (numbers_from least count)
 numbers-back least count = ap reverse (numbers-end least count) ∙ reverse-append (numbers_from least count) ((least + count) ∷ [])
 
--- ---- Sound rows
+-- ---- Lists of sound threads
 
 module _ (R : Relation) where
   alike-first : (xs ys : List Thread) → AlikeThreads R (xs ++ ys) (xs ++ ys) → AlikeThreads R xs xs
@@ -51,7 +51,7 @@ module _ (R : Relation) where
   alike-first (running s ∷ xs) ys h = (h.0, alike-first xs ys h.1)
   alike-first (waiting s ∷ xs) ys h = (h.0, alike-first xs ys h.1)
 
--- ---- Places
+-- ---- Places of a char loop
 
 pub moved-twice : (text : Text) (d : Direction) (m n p : ℕ) → moved text d n (moved text d m p) ≡ moved text d (m + n) p
 moved-twice text rightwards m n p = omega arith
@@ -62,7 +62,7 @@ place-inside text rightwards n p inside few = omega (arith, few, inside)
 place-inside text leftwards n p inside few = omega (arith, inside)
 
 module _ (text : Text) (is : HasRisingPlaceOffsets text) (test : ℕ → Bool) where
-  -- the way from a place of a run to another one that is further on
+  -- `Moves` relates the offset of a place of a char loop to that of a place further on.
   way-on : (d : Direction) (m n p : ℕ) → p ≤ last_place text → m + n ≤ passing text test d p
       → Moves d (nat_lt 0 n) (offset text (moved text d m p)) (offset text (moved text d (m + n) p))
   way-on d m n p inside few =
@@ -86,14 +86,14 @@ module _ (text : Text) (is : HasRisingPlaceOffsets text) (test : ℕ → Bool) w
       let e : m + (M - m) ≡ M = omega (arith, less) in
       (way-on d m (M - m) p inside (omega (arith, less, few))).further (lt-ltb 0 (M - m) (omega (arith, less))) (same ∙ ap (λ n. offset text (moved text d n p)) (sym e))
 
--- ---- Rows of a run
+-- ---- Threads that a greedy loop leaves
 
 module _ (text : Text) (is : HasRisingPlaceOffsets text) (test : ℕ → Bool) (d : Direction) (p : ℕ) (s : State) (inside : p ≤ last_place text) where
-  -- the row from so many characters on
+  -- `row-from n` lists the threads that a greedy loop leaves from `n` characters on.
   abbrev row-from : ℕ → List Thread
   row-from n = greedy_loop_threads text test d 0 (moved text d n p) s
 
-  -- It is the row from the next one on, and then the thread that waits here,
+  -- The row from a place on is that from the next place on, with the thread that waits here last.
   pub row-next : (n : ℕ) → n + 1 ≤ passing text test d p → row-from (n + 1) ++ waiting (behind text d p s n) ∷ [] ≡ row-from n
   row-next n few =
       let q = moved text d n p in
@@ -105,7 +105,7 @@ module _ (text : Text) (is : HasRisingPlaceOffsets text) (test : ℕ → Bool) (
       sym (runs-begin text test d q 0 1 s within (omega arith) (omega (arith, sum, few))
       ∙ ap₂ (λ r u. greedy_loop_threads text test d 0 r s ++ waiting u ∷ []) (moved-twice text d n 1 p) here)
 
-  -- and where none passes any more, the thread here alone.
+  -- Where no character passes any more, the row is the running thread alone.
   pub row-last : (n : ℕ) → n ≡ passing text test d p → running (behind text d p s n) ∷ [] ≡ row-from n
   row-last n same =
       let q = moved text d n p in
@@ -132,20 +132,20 @@ module _ (program : Program) (text : Text) (a : Liveness) (questions : ℕ → L
     abbrev all-placed : (least count : ℕ) → List (Thread × Key)
     all-placed least count = placed program text a questions way ips taken d test s p least count
 
-    -- the row from so many characters on
+    -- `row n` lists the threads that a greedy loop leaves from `n` characters on.
     abbrev row : ℕ → List Thread
     row n = greedy_loop_threads text test d 0 (moved text d n p) s
 
     abbrev Agreeing : Relation
     Agreeing u v = Agree a (units text) outermost d u v
 
-    -- ---- Rows
+    -- ---- Threads with their keys
 
     threads-placed : (ns : List ℕ) → map (λ (x : Thread × Key). x.0) (map pair ns) ≡ map waiting (map (behind text d p s) ns)
     threads-placed [] = refl
     threads-placed (n ∷ ns) = ap (λ ts. waits-at n ∷ ts) (threads-placed ns)
 
-    -- ---- Keys are different ones
+    -- ---- Keys that are distinct
 
     keys-apart : (M : ℕ) → M ≤ passing text test d p → (ns : List ℕ) → Each (λ n. n < M) ns → IsNew (key M) (map (λ (x : Thread × Key). x.1) (map pair ns))
     keys-apart M few [] h = tt
@@ -160,7 +160,7 @@ module _ (program : Program) (text : Text) (a : Liveness) (questions : ℕ → L
         subst (λ ns. AreDistinct (map (λ (x : Thread × Key). x.1) (map pair ns))) (sym (numbers-back least count))
         (keys-apart (least + count) (omega (arith, few)) (reverse (numbers_from least count)) (below-it least count), placed-apart least count (omega (arith, few)))
 
-    -- ---- Each has its key
+    -- ---- Keys that stand for rows
 
     module _ (memory : List Key) (records : CharLoopRecords program a questions way ips d test true s.ip) (of : HasSlotsOfProgram program s) (none-below : (n : ℕ) → taken (key n) ≡ 0) where
       row-of-key : (n : ℕ) → n ≤ passing text test d p → AreSound program text a keys d (row n) → KeyStandsFor program text a keys d (key n) (row n)
@@ -186,11 +186,11 @@ module _ (program : Program) (text : Text) (a : Liveness) (questions : ℕ → L
                 (each-of-key least count (omega (arith, few)) (λ m le less. sound m le (omega (arith, less))) (λ m le less. new m le (omega (arith, less)))),
           )
 
-  -- ---- To the right no place stands before the one that the run began at
+  -- ---- Places to the right of the first one
 
   waiting-onward : (from : ℕ) (ks : List Key) (ns : List ℕ)
       → Each (λ n. (from ≤ offset text (moved text rightwards n p)) × Each (λ (k : Key). k.at ≤ offset text (moved text rightwards n p)) ks) ns
-      → Each (λ t. (from ≤ at_of t) × Each (λ (k : Key). k.at ≤ at_of t) ks) (map waiting (map (behind text rightwards p s) ns))
+      → Each (λ t. (from ≤ offset_of_thread t) × Each (λ (k : Key). k.at ≤ offset_of_thread t) ks) (map waiting (map (behind text rightwards p s) ns))
   waiting-onward from ks [] h = tt
   waiting-onward from ks (n ∷ ns) h = (h.0, waiting-onward from ks ns h.1)
 
@@ -359,7 +359,7 @@ module _ (program : Program) (text : Text) (a : Liveness) (questions : ℕ → L
           (subst (λ m. Simulates program text false d (1 + (passing text test d p + 1)) (first_running_and_others_waiting (fewest_first text d p s least m)) (running s ∷ [])) none lazy-whole)
           (onward-none lazy-begins d)
 
-  -- what waits is come back to
+  -- The resumption of a lazy loop is a memo step that goes onward.
   module _ (d : Direction) (memory : List Key) where
     again-onward : (e : Direction) → GoesOnward e (waiting (behind text e p s 0) ∷ pending_loop_threads text test e 1 p s)
         (one_thread (running (behind text e p s 0)) ∷ thread_group (pending_loop_threads text test e 1 p s) ∷ key_record (key e 0) (pending_loop_threads text test e 0 p s) ∷ [])

@@ -19,19 +19,19 @@ use Rattle.regress_memo.specs.declared.analysis_result.MemoAnalysis.{MemoAnalysi
 use Rattle.regress_memo.specs.declared.successors.Successors.{Successors}
 use Rattle.regress_memo.specs.declared.successors.Successors.TheVariants.{Ends, One, Two, Enter, Again, Run, LookaroundSuccessor, Same}
 use Rattle.regress_memo.specs.UnreachedCharLoopBodies.{are_char_loop_successors, IsNotLoopBody, EntersPastBodies, FlowsPastBodies, CharLoopBodiesAreUnreached}
-use Rattle.regress_memo.specs.Successors.{AreInsnsOfProgram, successors_of_insn_if_any}
+use Rattle.regress_memo.specs.Successors.{DeclaredInsnsEqualProgramInsns, successors_of_insn_if_any}
 use Rattle.regress_memo.specs.AnalysisChecks.{IsConsistentAt}
 use Rattle.regress_memo.specs.CheckedAnalysis.{IsAnalysisOf, ip_of}
 use Rattle.regress_memo.proofs.AnalysisCheckLemmas.{EnoughBy, has-enough}
 
--- ---- What is checked
+-- ---- Checks of successors
 
 no-run : (x : Option Insn) (ip : ℕ) → are_char_loop_successors (successors_of_insn_if_any ip x) ≡ false → char_loop_greediness_at x ≡ None
 no-run (Some (Loop1CharBody least most greedy)) ip e = cc
 no-run _ ip e = refl
 
--- an instruction behind no run, or the first one
-pub no-body : (program : Program) (insns : List declared.Insn) (ip : ℕ) → AreInsnsOfProgram program insns → 0 < ip
+-- An instruction is not a loop body if the one before it is no char loop.
+pub no-body : (program : Program) (insns : List declared.Insn) (ip : ℕ) → DeclaredInsnsEqualProgramInsns program insns → 0 < ip
     → are_char_loop_successors (successors_of_insn_if_any (ip - 1) (slice_get (map insn_as_spec_insn insns) (ip - 1))) ≡ false → IsNotLoopBody program ip
 no-body program insns zero has some e = absurd (omega (arith, some))
 no-body program insns (suc ip) has some e =
@@ -39,8 +39,8 @@ no-body program insns (suc ip) has some e =
     no-run (slice_get program.insns ip) ip
     (ap (λ xs. are_char_loop_successors (successors_of_insn_if_any ip (slice_get xs ip))) has ∙ subst (λ k. are_char_loop_successors (successors_of_insn_if_any k (slice_get (map insn_as_spec_insn insns) k)) ≡ false) at e)
 
--- an instruction that there is not leads nowhere
-pub past-all : (program : Program) (insns : List declared.Insn) → AreInsnsOfProgram program insns
+-- If each instruction flows past loop bodies, so do all indices, even past the last one.
+pub past-all : (program : Program) (insns : List declared.Insn) → DeclaredInsnsEqualProgramInsns program insns
     → ((k : ℕ) → k < length insns → FlowsPastBodies program (successors_of_insn_if_any k (slice_get program.insns k)) k)
     → (ip : ℕ) → FlowsPastBodies program (successors_of_insn_if_any ip (slice_get program.insns ip)) ip
 past-all program insns has each ip = elim (cases_lt ip (length insns)) [
@@ -51,7 +51,7 @@ past-all program insns has each ip = elim (cases_lt ip (length insns)) [
       subst (λ o. FlowsPastBodies program (successors_of_insn_if_any ip o) ip) (sym (ap (λ xs. slice_get xs ip) has ∙ none)) tt
 ]
 
--- ---- Turns
+-- ---- Steps that avoid loop bodies
 
 abbrev heavy : Option Bool → ℕ
 heavy None = 0

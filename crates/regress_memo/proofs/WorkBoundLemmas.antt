@@ -29,13 +29,13 @@ use Rattle.regress_memo.specs.AnalysisAsPotentials.{potentials_of}
 use Rattle.regress_memo.specs.AnalysisAsPotentials.{key_cost_of, insn_direction}
 use Rattle.regress_memo.specs.CheckedAnalysis.{HasDisjointCodes}
 use Rattle.regress_memo.specs.AnalysisChecks.{unlimited}
-use Rattle.regress_memo.specs.Successors.{AreInsnsOfProgram, successors_of_insn_if_any}
+use Rattle.regress_memo.specs.Successors.{DeclaredInsnsEqualProgramInsns, successors_of_insn_if_any}
 use Rattle.regress_memo.specs.WorkBound.{LookIsBounded, InsnIsBounded, IsStepWorkBounded, insn_keys_cost_per_position, all_keys_cost_per_position}
 use Rattle.regress_memo.specs.WorkBound.{work_per_position, initial_threads}
 use Rattle.regress_memo.specs.WorkBound.{AnalysesBoundTotalWork}
 use Rattle.regress_memo.proofs.CheckedAnalysisLemmas.{ledgers-serve}
 
--- the prices of lines, by what each instruction costs
+-- The costs of instructions that record add up to the prices of their lines.
 pub of-lines : (f : ℕ → ℕ) (first : ℕ) (lines : List InsnAnalysis)
     → ((i : ℕ) (x : InsnAnalysis) → slice_get lines i ≡ Some x → x.records ≡ true → f (first + i) ≡ x.price * x.codes)
     → sum_by f (recorded_from first lines) ≡ sum_by insn_keys_cost_per_position lines
@@ -94,7 +94,7 @@ ledgers-bound program t of text is_text bytes less at_first work stages =
     let all = ap (λ n. n * (units text + 1)) number in
     omega (arith, enough, all)
 
--- a sum over the lines so far
+-- The prices of the first lines and of the next one add up to those of one line more.
 pub price-more : (lines : List InsnAnalysis) (i : ℕ) (x : InsnAnalysis) → slice_get lines i ≡ Some x
     → sum_by insn_keys_cost_per_position (take (i + 1) lines) ≡ sum_by insn_keys_cost_per_position (take i lines) + insn_keys_cost_per_position x
 price-more [] i x e = absurd (nothing i x e)
@@ -121,7 +121,7 @@ price-all (y ∷ lines) (suc i) le =
     let l = price-all lines i (omega (arith, le)) in
     omega (arith, a, b, l)
 
--- ---- What is checked of each line
+-- ---- Checks of each line
 
 pub ready-all : (lines : List InsnAnalysis) → ((k : ℕ) (x : InsnAnalysis) → slice_get lines k ≡ Some x → 1 ≤ x.ready)
     → (ip : ℕ) → 1 ≤ (unwrap_or (slice_get lines ip) no_insn_analysis).ready
@@ -156,7 +156,7 @@ module _ (t : MemoAnalysis) where
       no-look e = cc
   bounded-insn x ip h = record { look = λ l e. cc; lazy = λ least e. cc }
 
-  pub bounded-all : (program : Program) (insns : List declared.Insn) → AreInsnsOfProgram program insns
+  pub bounded-all : (program : Program) (insns : List declared.Insn) → DeclaredInsnsEqualProgramInsns program insns
       → ((ip : ℕ) → ip < length insns → IsStepWorkBounded t (successors_of_insn_if_any ip (slice_get (map insn_as_spec_insn insns) ip)) ip)
       → (ip : ℕ) → InsnIsBounded t (slice_get program.insns ip) ip
   bounded-all program insns has each ip =

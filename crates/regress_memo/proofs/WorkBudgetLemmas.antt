@@ -21,7 +21,7 @@ sum-same n first (suc count) =
     let m = mul-add n count 1 in
     omega (arith, a, l, m)
 
--- sums of products, over plain numbers
+-- The bounds of early and late work add up to a bound of all work.
 whole : (n at_first ready price early late : ℕ) → early ≤ at_first * n + n → late ≤ 3 * (ready * n) + 3 * (price * n)
     → early + late ≤ (at_first + 1 + 3 * (ready + price)) * n
 whole n at_first ready price early late few more =
@@ -36,7 +36,7 @@ whole n at_first ready price early late few more =
     let h = ap (λ m. m * n) same in
     omega (arith, few, more, a, b, c, d, e, f, g, h)
 
--- so much for each place up to two of them
+-- The cost of offsets up to two given ones is at most three times that of all offsets.
 twice : (ready top from next : ℕ) → from ≤ top + 1 → next ≤ top + 1 → ready * next + ready * (from + 1) ≤ 3 * (ready * (top + 1))
 twice ready top from next low high =
     let a = mul-le-mul_left ready high in

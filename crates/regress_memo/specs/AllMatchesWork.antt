@@ -7,7 +7,7 @@ use Rattle.regex_meaning.specs.CompilationRelation.{Program}
 use Rattle.regress_machine.specs.Machine.{State, Thread, Found, search}
 use Rattle.regress_memo.specs.Liveness.{Liveness, IsLivenessFor}
 use Rattle.regress_memo.specs.MemoKeys.{NoGroupsAreLive}
-use Rattle.regress_memo.specs.MemoSearch.{Key, Keys, Entry, one_thread, thread_entries, at_of, entry_potential, AreOnward, AreKeys, ReachesBySteps}
+use Rattle.regress_memo.specs.MemoSearch.{Key, Keys, Entry, one_thread, thread_entries, offset_of_thread, entry_potential, AreOnward, AreKeys, ReachesBySteps}
 use Rattle.regress_memo.specs.ThreadPotentials.{Shape, Distinguishes, place_keys}
 
 module _ (program : Program) (text : Text) (a : Liveness) (keys : Keys) (price : Key → ℕ) (weight : List Thread → ℕ)
@@ -24,12 +24,13 @@ module _ (program : Program) (text : Text) (a : Liveness) (keys : Keys) (price :
           → Searched from (work + more) (ready + sum_by (entry_potential weight) (thread_entries ts)) now
       -- A search that ends at an offset. Its waiting threads and records are discarded. The next
       -- search begins at this offset, or further on if this search began there too.
-      found : (from next work ready more : ℕ) (memory now : List Key) (t : Thread) (rest : List Entry) (ts : List Thread)
+      found : (from next work ready more : ℕ) (memory now : List Key) (t : Thread) (rest : List Entry)
+          (ts : List Thread)
           (turns : ℕ) (f : Found) → Searched from work ready memory
           → search program text turns rightwards ts ≡ Some f → AreOnward from (thread_entries ts)
           → ReachesBySteps program text a keys rightwards price weight memory (thread_entries ts) more now
           (one_thread t ∷ rest)
-          → at_of t ≤ next → from < next → Searched next (work + more)
+          → offset_of_thread t ≤ next → from < next → Searched next (work + more)
           (ready + sum_by (entry_potential weight) (thread_entries ts)) now
 
 -- ---- Laws

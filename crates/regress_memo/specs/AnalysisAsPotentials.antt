@@ -85,17 +85,17 @@ analysis_as_liveness t = record {
 -- ---- Questions: the properties of loop states that a memo key distinguishes
 
 -- Adds the question whether the loop's iteration is empty, if the entry needs it.
-abbrev pub with_empty : EnclosingLoop → List Question → List Question
-with_empty r qs = if r.empty then is_empty r.id ∷ qs else qs
+abbrev pub with_emptiness_question : EnclosingLoop → List Question → List Question
+with_emptiness_question r qs = if r.empty then is_empty r.id ∷ qs else qs
 
 -- Adds the question about the loop's iteration count, if counts are distinguished.
-abbrev pub with_count : EnclosingLoop → (up_to : ℕ) → List Question → List Question
-with_count r up_to qs = if nat_lt 0 up_to then how_many r.id up_to ∷ qs else qs
+abbrev pub with_count_question : EnclosingLoop → (up_to : ℕ) → List Question → List Question
+with_count_question r up_to qs = if nat_lt 0 up_to then how_many r.id up_to ∷ qs else qs
 
 -- The questions about the given enclosing loops.
 abbrev pub questions_on : (up_to : ℕ → ℕ) → List EnclosingLoop → List Question
 questions_on up_to [] = []
-questions_on up_to (r ∷ rows) = with_empty r (with_count r (up_to r.id) (questions_on up_to rows))
+questions_on up_to (r ∷ rows) = with_emptiness_question r (with_count_question r (up_to r.id) (questions_on up_to rows))
 
 -- The questions at an instruction.
 abbrev pub key_code_questions_of : MemoAnalysis → (ip : ℕ) → List Question

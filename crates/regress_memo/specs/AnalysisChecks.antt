@@ -5,7 +5,7 @@ use Rattle.regex_meaning.specs.Text.{rightwards, leftwards}
 use Rattle.regex_meaning.specs.CompilationRelation.{Program, Insn, EnterLoop}
 use Rattle.regex_meaning.specs.CompilationRelation as layout
 use Rattle.regress_program.specs.InsnsAsSpec.{loop_fields_as_spec}
-use Rattle.regress_memo.specs.Liveness.{IsConsistentEdge, none, Decides}
+use Rattle.regress_memo.specs.Liveness.{IsConsistentEdge, none, LoopCountDecidesExit}
 use Rattle.regress_memo.specs.LoopDataKeyCodes.{plan_codes}
 use Rattle.regress_memo.specs.ThreadPotentials.{CoversOne, CoversTwo, CoversRepeat}
 use Rattle.regress_memo.specs.AmortizedStepCosts.{GreedyLoopIsCovered, LazyLoopIsCovered}
@@ -66,7 +66,7 @@ module _ (t : MemoAnalysis) where
   -- For texts of fewer than 2^63 units, the distinguished iteration counts decide how the loop
   -- continues.
   abbrev pub CountDecides : (f : layout.LoopFields) (moved : Bool) → Type 0
-  CountDecides f moved = (top : ℕ) → top < 2 ^ 63 → Decides (analysis_as_liveness t) top f moved
+  CountDecides f moved = (top : ℕ) → top < 2 ^ 63 → LoopCountDecidesExit (analysis_as_liveness t) top f moved
 
   -- The edges to the loop's body and to its exit are consistent.
   pub record MayBeginIteration (f : layout.LoopFields) (ip begin : ℕ) : Type 0 where

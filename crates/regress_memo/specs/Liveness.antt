@@ -60,13 +60,14 @@ module _ (a : Liveness) where
     pub beyond : top + a.up_to f.loop_id < f.max_iters
 
   -- How the live part of an iteration count decides whether the loop continues.
-  pub data Decides (top : ℕ) (f : LoopFields) (moved : Bool) : Type 0 where
+  pub data LoopCountDecidesExit (top : ℕ) (f : LoopFields) (moved : Bool) : Type 0 where
     -- All of the count is live, as for a loop with a maximum.
-    by_count : a.counted f.loop_id ≡ true → Decides top f moved
+    by_count : a.counted f.loop_id ≡ true → LoopCountDecidesExit top f moved
     -- The count is live up to the minimum. If the minimum is 0, no part of it is live.
-    by_minimum : IsUnlimited top f → f.min_iters ≤ a.up_to f.loop_id → Decides top f moved
+    by_minimum : IsUnlimited top f → f.min_iters ≤ a.up_to f.loop_id → LoopCountDecidesExit top f moved
     -- The count is live up to one less than the minimum, and no iteration is empty.
-    never_empty : IsUnlimited top f → f.min_iters ≤ a.up_to f.loop_id + 1 → moved ≡ true → Decides top f moved
+    never_empty : IsUnlimited top f → f.min_iters ≤ a.up_to f.loop_id + 1 → moved ≡ true
+        → LoopCountDecidesExit top f moved
 
   -- The edges from the start of an iteration are consistent.
   pub record Enters (f : LoopFields) (ip begin : ℕ) : Type 0 where
@@ -80,7 +81,7 @@ module _ (a : Liveness) where
     pub enters : Enters f ip begin
     pub inside : a.inside ip f.loop_id ≡ true
     pub empty : (a.empty ip f.loop_id || a.moved ip f.loop_id) ≡ true
-    pub decides : Decides top f (a.moved ip f.loop_id)
+    pub decides : LoopCountDecidesExit top f (a.moved ip f.loop_id)
 
   -- `Repeats` for a loop head. Other instructions satisfy it.
   abbrev pub IsRepeated : (top : ℕ) → Option Insn → (ip begin : ℕ) → Type 0
@@ -141,9 +142,9 @@ IsNotAheadInDirection rightwards entry pos = entry ≤ pos
 IsNotAheadInDirection leftwards entry pos = pos ≤ entry
 
 -- The number of units from an offset to the end of the text, in the direction.
-abbrev pub left_from : (top : ℕ) → Direction → ℕ → ℕ
-left_from top rightwards at = top - at
-left_from top leftwards at = at
+abbrev pub units_left_in_direction : (top : ℕ) → Direction → ℕ → ℕ
+units_left_in_direction top rightwards at = top - at
+units_left_in_direction top leftwards at = at
 
 module _ (a : Liveness) (top : ℕ) (d : Direction) (pos ip l : ℕ) where
   -- The data of a loop that encloses the instruction are sound.
@@ -152,7 +153,7 @@ module _ (a : Liveness) (top : ℕ) (d : Direction) (pos ip l : ℕ) where
     pub moved : a.moved ip l ≡ true → (x.entry == pos) ≡ false
     pub all : a.counted l ≡ true → x.iters ≤ a.up_to l
     -- Apart from at most `a.up_to l` iterations, each iteration has read a character.
-    pub few : a.counted l ≡ false → x.iters + left_from top d x.entry ≤ top + a.up_to l
+    pub few : a.counted l ≡ false → x.iters + units_left_in_direction top d x.entry ≤ top + a.up_to l
 
   -- Both data are sound, and all live parts of them are equal.
   pub record Similar (x y : LoopData) : Type 0 where
@@ -233,7 +234,8 @@ module _ (program : Program) (text : Text) (a : Liveness) where
   FailureIsShared = IsLivenessFor → (d : Direction) (s t : State) → Agree a (units text) outermost d s t
       → FindsNothing program text d (running s) → FindsNothing program text d (running t)
 
--- Searches from states that agree have the same outcome, for all programs and texts.
+-- Searches from states that agree have the same outcome and number of steps, for all programs and
+-- texts.
 abbrev pub LiveDataDecideSearchResult : Type 0
 LiveDataDecideSearchResult = (program : Program) (text : Text) (a : Liveness) → AgreeingEndAlike program text a
 

@@ -29,14 +29,14 @@ of_insns insns flags start = record {
 }
 
 -- The program of `(?:ab)*c`.
-abbrev pub row_program : (most : ℕ) → Flags → StartPredicate → Program
-row_program most =
+abbrev pub ab_loop_example_program : (most : ℕ) → Flags → StartPredicate → Program
+ab_loop_example_program most =
     of_insns (EnterLoop (record { loop_id = 0; min_iters = 0; max_iters = most; greedy = true; exit = 4 }) ∷ Char
     97 ∷ Char 98 ∷ LoopAgain 0 ∷ Char 99 ∷ Goal ∷ [])
 
 -- The liveness analysis of `(?:ab)*c`.
-abbrev pub row_account : Liveness
-row_account = record {
+abbrev pub ab_loop_example_liveness : Liveness
+ab_loop_example_liveness = record {
   groups = false;
   start = λ ip id. false;
   inside = λ ip l. (l == 0) && (nat_le 1 ip && nat_le ip 3);
@@ -49,8 +49,8 @@ row_account = record {
 
 -- The program of `(?:a*){2,}b`. An iteration may be empty, and two iterations are required, so both
 -- facts are live in the loop.
-abbrev pub twice_program : (most : ℕ) → Flags → StartPredicate → Program
-twice_program most =
+abbrev pub two_required_program : (most : ℕ) → Flags → StartPredicate → Program
+two_required_program most =
     of_insns
     (EnterLoop (record { loop_id = 0; min_iters = 2; max_iters = most; greedy = true; exit = 4 })
     ∷ Loop1CharBody 0 most true ∷ Char 97 ∷ LoopAgain 0 ∷ Char 98 ∷ Goal ∷ [])
@@ -99,7 +99,7 @@ twice_weights = record { at = twice_at; left = twice_left }
 -- The analysis of `(?:a*){2,}b` is sound and complete: it has codes, keys, a plan and costs.
 pub record TwiceIsRight : Type 0 where
   pub right : (top most : ℕ) (flags : Flags) (start : StartPredicate) → top + 2 < most
-      → IsSoundLiveness twice_account top (twice_program most flags start)
+      → IsSoundLiveness twice_account top (two_required_program most flags start)
   pub no_groups : NoGroupsAreLive twice_account
   pub asks : AsksAll twice_questions twice_account
   pub only : AsksOnly twice_questions twice_account
@@ -107,22 +107,23 @@ pub record TwiceIsRight : Type 0 where
   pub one_code : plan_codes twice_questions 4 ≡ 1
   -- The char loop of the pattern has keys.
   pub run : (most : ℕ) (flags : Flags) (start : StartPredicate)
-      → CharLoopRecords (twice_program most flags start) twice_account twice_questions (λ ip. rightwards) (2 ∷ [])
+      → CharLoopRecords (two_required_program most flags start) twice_account twice_questions (λ ip. rightwards)
+      (2 ∷ [])
       rightwards (λ c. 97 == c) true 1
   -- The pattern has a plan in each text in which the maximum is out of reach.
   pub plan : (text : Text) (most : ℕ) (flags : Flags) (start : StartPredicate) → HasRisingPlaceOffsets text
       → units text + 2 < most
       → (way : ℕ → Direction) (ips : List ℕ) (taken : Key → ℕ)
-      → IsPlan (twice_program most flags start) text twice_account twice_questions way ips taken
+      → IsPlan (two_required_program most flags start) text twice_account twice_questions way ips taken
   -- Costs of 6 for each key suffice.
   pub paid : (most : ℕ) (flags : Flags) (start : StartPredicate)
-      → AreCostsCovered (twice_program most flags start) twice_weights (λ ip. 6) (2 ∷ 3 ∷ [])
+      → AreCostsCovered (two_required_program most flags start) twice_weights (λ ip. 6) (2 ∷ 3 ∷ [])
   pub run_paid : (most : ℕ) (flags : Flags) (start : StartPredicate)
-      → GreedyLoopIsCovered (twice_program most flags start) twice_weights (λ ip. 6) (2 ∷ 3 ∷ []) 0 1
+      → GreedyLoopIsCovered (two_required_program most flags start) twice_weights (λ ip. 6) (2 ∷ 3 ∷ []) 0 1
 
 -- Both analyses are sound, and in the first one positions alone decide.
 pub record LivenessExamplesAreRight : Type 0 where
   pub right : (top most : ℕ) (flags : Flags) (start : StartPredicate) → top < most
-      → IsSoundLiveness row_account top (row_program most flags start)
-  pub alone : OnlyPositionsAreLive row_account
+      → IsSoundLiveness ab_loop_example_liveness top (ab_loop_example_program most flags start)
+  pub alone : OnlyPositionsAreLive ab_loop_example_liveness
   pub twice : TwiceIsRight

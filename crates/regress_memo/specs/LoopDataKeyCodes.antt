@@ -76,8 +76,8 @@ abbrev pub key_of : (code : State → ℕ) → State → Key
 key_of code s = record { ip = s.ip; at = s.pos; code = code s }
 
 -- The shape of the only thread that this key stands for.
-abbrev pub own_row : Key → List Shape
-own_row k = record { runs = true; ip = k.ip; pos = k.at; code = k.code } ∷ []
+abbrev pub shape_of_only_thread_of_key : Key → List Shape
+shape_of_only_thread_of_key k = record { runs = true; ip = k.ip; pos = k.at; code = k.code } ∷ []
 
 -- The state has as many groups and loops as the program.
 pub record HasSlotsOfProgram (program : Program) (s : State) : Type 0 where
@@ -91,7 +91,7 @@ module _ (program : Program) (text : Text) (a : Liveness) where
       (rows : Key → List Shape) (taken : Key → ℕ) → Type 0
   ThreadHasKey questions way ips rows taken = (d : Direction) (s : State)
       → is_one_of ips s.ip ≡ true → way s.ip ≡ d → HasSlotsOfProgram program s → Agree a (units text) outermost d s s
-      → rows (key_of (plan_code questions) s) ≡ own_row (key_of (plan_code questions) s)
+      → rows (key_of (plan_code questions) s) ≡ shape_of_only_thread_of_key (key_of (plan_code questions) s)
       → KeyStandsFor program text a
       (place_keys program (plan_code questions) way ips (units text) (plan_codes questions) rows taken) d
       (key_of (plan_code questions) s) (running s ∷ [])

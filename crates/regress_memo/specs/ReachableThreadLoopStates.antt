@@ -2,7 +2,7 @@
 use Rattle.std.specs.Prelude.{◌≡◌, ◌≤◌, ℕ, ◌+◌, Bool, true, false, ◌==◌, if◌then◌else◌, Option, Some}
 use Rattle.regex_meaning.specs.Text.{Direction, rightwards, leftwards}
 use Rattle.regress_machine.specs.Machine.{LoopData}
-use Rattle.regress_memo.specs.Liveness.{IsNotAheadInDirection, left_from}
+use Rattle.regress_memo.specs.Liveness.{IsNotAheadInDirection, units_left_in_direction}
 use Rattle.regress_memo.specs.declared.analysis_result.EnclosingLoop.{EnclosingLoop}
 use Rattle.regress_memo.specs.declared.analysis_result.LoopCountsDistinguishedUpTo.{LoopCountsDistinguishedUpTo}
 use Rattle.regress_memo.specs.declared.analysis_result.MemoAnalysis.{MemoAnalysis}
@@ -16,7 +16,7 @@ direction_from_forward forward = if forward then rightwards else leftwards
 -- has at most `up_to` more than the code units that were passed.
 abbrev pub IsAtMost : Bool → (up_to : ℕ) (d : Direction) (top : ℕ) → LoopData → Type 0
 IsAtMost true up_to d top x = x.iters ≤ up_to
-IsAtMost false up_to d top x = x.iters + left_from top d x.entry ≤ top + up_to
+IsAtMost false up_to d top x = x.iters + units_left_in_direction top d x.entry ≤ top + up_to
 
 -- The number of iterations is within the loop's count bound.
 abbrev pub IsWithinCountBound : LoopCountsDistinguishedUpTo → (d : Direction) (top : ℕ) → LoopData → Type 0

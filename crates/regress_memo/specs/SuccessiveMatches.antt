@@ -6,7 +6,7 @@ use Rattle.regex_meaning.specs.Text.{Text, rightwards}
 use Rattle.regex_meaning.specs.CompilationRelation.{Program}
 use Rattle.regress_machine.specs.Machine.{Thread, Found, search}
 use Rattle.regress_memo.specs.Liveness.{Liveness, IsLivenessFor}
-use Rattle.regress_memo.specs.MemoSearch.{Key, Keys, Entry, one_thread, thread_entries, at_of, entry_potential, AreOnward, AreKeys, ReachesBySteps}
+use Rattle.regress_memo.specs.MemoSearch.{Key, Keys, Entry, one_thread, thread_entries, offset_of_thread, entry_potential, AreOnward, AreKeys, ReachesBySteps}
 
 -- The number of occurrences of a position in a list.
 abbrev pub times_in : List ℕ → ℕ → ℕ
@@ -38,7 +38,7 @@ module _ (program : Program) (text : Text) (a : Liveness) (keys : Keys)
           → AreOnward next (thread_entries (row next))
           → ReachesBySteps program text a keys rightwards price weight memory (thread_entries (row next)) more now
           (one_thread t ∷ rest)
-          → at_of t ≤ on → from < on
+          → offset_of_thread t ≤ on → from < on
           → Attempted on on (looks + 1) (work + more) now (next ∷ starts)
 
     -- The initial potential of an attempt.

@@ -9,8 +9,8 @@ use Rattle.regress_memo.specs.declared.successors.Successors.{Successors}
 use Rattle.regress_memo.specs.declared.successors.Successors.TheVariants.{Ends, One, Two, Enter, Again, Run, LookaroundSuccessor, Same}
 
 -- The instructions of the program are these.
-abbrev pub AreInsnsOfProgram : Program → List declared.Insn → Type 0
-AreInsnsOfProgram program insns = program.insns ≡ map insn_as_spec_insn insns
+abbrev pub DeclaredInsnsEqualProgramInsns : Program → List declared.Insn → Type 0
+DeclaredInsnsEqualProgramInsns program insns = program.insns ≡ map insn_as_spec_insn insns
 
 -- The next instruction as the only successor.
 abbrev pub fall_through : (ip : ℕ) → (reads silent : Bool) → Successors

@@ -75,13 +75,13 @@ is_one_of [] ip = false
 is_one_of (i ∷ ips) ip = (i == ip) || is_one_of ips ip
 
 -- The keys of an instruction: one for each offset up to `top` and each code below `codes`.
-abbrev pub places_at : (ip top codes : ℕ) → List Key
-places_at ip top codes = flat_map (λ code. map (λ at. record { ip = ip; at = at; code = code })
+abbrev pub keys_of_insn_at_offsets : (ip top codes : ℕ) → List Key
+keys_of_insn_at_offsets ip top codes = flat_map (λ code. map (λ at. record { ip = ip; at = at; code = code })
     (numbers_from 0 (top + 1))) (numbers_from 0 codes)
 
 -- The keys of several instructions, each with its own number of codes.
-abbrev pub places_of : (ips : List ℕ) (top : ℕ) (codes : ℕ → ℕ) → List Key
-places_of ips top codes = flat_map (λ ip. places_at ip top (codes ip)) ips
+abbrev pub keys_of_insns_at_offsets : (ips : List ℕ) (top : ℕ) (codes : ℕ → ℕ) → List Key
+keys_of_insns_at_offsets ips top codes = flat_map (λ ip. keys_of_insn_at_offsets ip top (codes ip)) ips
 
 -- The shape of a thread: whether it runs, its instruction and offset, and the code of the live data
 -- of its loops.
@@ -123,7 +123,7 @@ module _ (program : Program) (code : State → ℕ) where
 
       -- The keys of positions and codes.
       abbrev pub place_keys : Keys
-      place_keys = record { all = places_of ips top codes; is_of = is_place; taken = taken }
+      place_keys = record { all = keys_of_insns_at_offsets ips top codes; is_of = is_place; taken = taken }
 
 -- ---- Char loops
 
@@ -204,5 +204,6 @@ pub record OffsetsAndCodesAreKeys : Type 0 where
       → NoGroupsAreLive a → Distinguishes a (units text) code
       → AreKeys program text a (place_keys program code way ips (units text) codes rows taken)
   pub cost : (ips : List ℕ) (top : ℕ) (codes price : ℕ → ℕ)
-      → sum_by (λ (k : Key). price k.ip) (places_of ips top codes) ≡ sum_by (λ ip. price ip * codes ip) ips * (top + 1)
+      → sum_by (λ (k : Key). price k.ip) (keys_of_insns_at_offsets ips top codes) ≡ sum_by (λ ip. price ip * codes ip)
+      ips * (top + 1)
   pub alone : (a : Liveness) (top : ℕ) → OnlyPositionsAreLive a → Distinguishes a top (λ s. 0)

@@ -12,20 +12,21 @@ use Rattle.regress_memo.specs.Liveness.{Liveness}
 use Rattle.regress_memo.specs.DistinctLists.{IsIn}
 use Rattle.regress_memo.specs.MemoSearch.{Key, Keys, KeyStandsFor, AreSound}
 use Rattle.regress_memo.specs.ThreadPotentials.{Shape, is_one_of, place_keys}
-use Rattle.regress_memo.specs.LoopDataKeyCodes.{Question, is_empty, how_many, number_of_possible_answers, plan_code, plan_codes, HasSlotsOfProgram, own_row}
+use Rattle.regress_memo.specs.LoopDataKeyCodes.{Question, is_empty, how_many, number_of_possible_answers, plan_code, plan_codes, HasSlotsOfProgram, shape_of_only_thread_of_key}
 use Rattle.regress_memo.specs.CharLoopExitThreadLists.{passing, greedy_loop_threads, pending_loop_threads}
 
 -- ---- Codes at later places
 
 -- The answer to a question after a character was read.
-abbrev pub answer_on : Question → ℕ → ℕ
-answer_on (is_empty l) n = 0
-answer_on (how_many l most) n = n
+abbrev pub answer_after_read_char : Question → ℕ → ℕ
+answer_after_read_char (is_empty l) n = 0
+answer_after_read_char (how_many l most) n = n
 
 -- The code after a character was read, digit by digit.
-abbrev pub code_on : List Question → (code : ℕ) → ℕ
-code_on [] code = 0
-code_on (q ∷ qs) code = answer_on q (code % number_of_possible_answers q) + number_of_possible_answers q * code_on qs
+abbrev pub code_after_read_char : List Question → (code : ℕ) → ℕ
+code_after_read_char [] code = 0
+code_after_read_char (q ∷ qs) code = answer_after_read_char q
+    (code % number_of_possible_answers q) + number_of_possible_answers q * code_after_read_char qs
     (code / number_of_possible_answers q)
 
 -- ---- Threads of a key
@@ -46,7 +47,7 @@ module _ (text : Text) (test : ℕ → Bool) (d : Direction) (qs : List Question
     runs = false;
     ip = ip;
     pos = offset text (moved text d n place);
-    code = if n == 0 then code else code_on qs code;
+    code = if n == 0 then code else code_after_read_char qs code;
   }
 
   -- The shapes of a char loop's threads. In a greedy loop, the furthest place runs and comes first.
@@ -69,7 +70,7 @@ module _ (program : Program) (text : Text) (questions : ℕ → List Question) (
   -- The shapes of a key's threads. If there is a char loop before the key's instruction, they are
   -- those of the loop.
   abbrev pub row_by : Option Bool → Option (ℕ → Bool) → Option ℕ → Key → List Shape
-  row_by None test place k = own_row k
+  row_by None test place k = shape_of_only_thread_of_key k
   row_by (Some greedy) (Some test) (Some place) k =
       run_row text test (way k.ip) (questions (k.ip + 1)) greedy (k.ip + 1) place k.code
   row_by (Some greedy) _ _ k = []

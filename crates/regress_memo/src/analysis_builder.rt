@@ -3,7 +3,7 @@
 
 ghost use Rattle.std.specs.Prelude.{◌<◌, ◌^◌, length, IfOk, IfSome};
 ghost use Rattle.regex_meaning.specs.CompilationRelation.{Program};
-ghost use Rattle.regress_memo.specs.{Successors.{AreInsnsOfProgram}, CheckedAnalysis.{IsAnalysisOf, HasDisjointCodes}};
+ghost use Rattle.regress_memo.specs.{Successors.{DeclaredInsnsEqualProgramInsns}, CheckedAnalysis.{IsAnalysisOf, HasDisjointCodes}};
 
 use crate::analysis_result::{
     EnclosingLoop, InsnAnalysis, LoopCountsDistinguishedUpTo, LoopProgressFact, MemoAnalysis,
@@ -60,7 +60,7 @@ impl MemoAnalysis {
         loops: usize,
     ) -> Result<Option<MemoAnalysis>, AllocError>
         ensures of { IfOk result (λ found. IfSome found (λ memo_analysis. (program : Program)
-            → AreInsnsOfProgram program insns.now → IsAnalysisOf program memo_analysis)) }
+            → DeclaredInsnsEqualProgramInsns program insns.now → IsAnalysisOf program memo_analysis)) }
         ensures coded { IfOk result (λ found. IfSome found HasDisjointCodes) }
     {
         let made = MemoAnalysis::build_unchecked_analysis(alloc, insns, loops)?;
@@ -84,10 +84,10 @@ impl MemoAnalysis {
             codes: 0,
         };
         made.open_all(alloc, insns)?;
-        made.say_moved(insns);
+        made.clear_unproved_moved(insns);
         made.set_count_bounds(insns);
-        made.ask_empty(insns);
-        made.share_bodies(insns);
+        made.set_empty_where_needed(insns);
+        made.copy_entries_to_char_loop_bodies(insns);
         made.choose_memo_points(alloc, insns)?;
         made.assign_costs(insns);
         made.number_codes();
@@ -157,13 +157,13 @@ impl MemoAnalysis {
     // ---- Facts about iterations
 
     // Clears `moved` in all entries where it does not follow from the preceding instructions.
-    fn say_moved(&mut self, insns: &[Insn]) {
+    fn clear_unproved_moved(&mut self, insns: &[Insn]) {
         for _pass in 0..PASSES {
             let mut changed = false;
             for ip in 0..insns.len() {
                 let [first, second] = edges_past_lookarounds(insns, ip);
-                changed |= self.spread(first);
-                changed |= self.spread(second);
+                changed |= self.clear_unproved_moved_at_target(first);
+                changed |= self.clear_unproved_moved_at_target(second);
             }
             if !changed {
                 return;
@@ -173,7 +173,7 @@ impl MemoAnalysis {
 
     // Clears `moved` in the entries at the target of an edge where it does not follow. Returns
     // whether anything changed.
-    fn spread(&mut self, edge: Option<FlowEdge>) -> bool {
+    fn clear_unproved_moved_at_target(&mut self, edge: Option<FlowEdge>) -> bool {
         let Some(edge) = edge else {
             return false;
         };
@@ -209,14 +209,14 @@ impl MemoAnalysis {
 
     // Sets `empty` where an iteration ends, and at the instructions before it where `moved` is not
     // known.
-    fn ask_empty(&mut self, insns: &[Insn]) {
+    fn set_empty_where_needed(&mut self, insns: &[Insn]) {
         for _pass in 0..PASSES {
             let mut changed = false;
             for ip in (0..insns.len()).rev() {
                 let [first, second] = edges_past_lookarounds(insns, ip);
                 changed |= self.ask_at_end(insns, ip);
-                changed |= self.ask_before(first);
-                changed |= self.ask_before(second);
+                changed |= self.propagate_empty_backward(first);
+                changed |= self.propagate_empty_backward(second);
             }
             if !changed {
                 return;
@@ -233,7 +233,7 @@ impl MemoAnalysis {
     }
 
     // Propagates `empty` backward along an edge. Returns whether anything changed.
-    fn ask_before(&mut self, edge: Option<FlowEdge>) -> bool {
+    fn propagate_empty_backward(&mut self, edge: Option<FlowEdge>) -> bool {
         let Some(edge) = edge else {
             return false;
         };
@@ -263,7 +263,7 @@ impl MemoAnalysis {
     }
 
     // Gives the body of each char loop the entries of the instruction after the loop.
-    fn share_bodies(&mut self, insns: &[Insn]) {
+    fn copy_entries_to_char_loop_bodies(&mut self, insns: &[Insn]) {
         for ip in 0..insns.len() {
             if let Successors::Run(_) = successors_at(insns, ip) {
                 let behind = self.insn_analysis_at(ip + 2);

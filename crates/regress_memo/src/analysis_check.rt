@@ -7,7 +7,7 @@ ghost use Rattle.regress_memo.specs.ThreadPotentials.{CoversOne, CoversTwo};
 ghost use Rattle.regress_memo.specs.AnalysisAsPotentials.{enclosing_loops_of, insn_analysis_of, groups_stay_unchanged_from, potentials_of};
 ghost use Rattle.regress_memo.specs.AnalysisAsPotentials.{states_loop_fact};
 ghost use Rattle.regress_memo.specs.AnalysisAsPotentials.{knows_iteration_reads};
-ghost use Rattle.regress_memo.specs.Successors.{AreInsnsOfProgram, successors_of_insn_if_any};
+ghost use Rattle.regress_memo.specs.Successors.{DeclaredInsnsEqualProgramInsns, successors_of_insn_if_any};
 ghost use Rattle.regress_memo.specs.AnalysisChecks.{is_entered, LoopFactsFlow, AllLoopFactsFlow, IsConsistentFlow, MayBeginIteration, MayRepeatLoop};
 ghost use Rattle.regress_memo.specs.AnalysisChecks.{MayEndIteration, MayRepeatLoopAt};
 ghost use Rattle.regress_memo.specs.AnalysisChecks.{CountDecides, LoopsAreBefore, IsolatesLookaround, IsConsistentAt, IsCoveredAt, IsInsnCostCovered};
@@ -23,14 +23,14 @@ use regress_program::instructions::{Insn, LoopFields};
 impl MemoAnalysis {
     // Checks whether the analysis is correct for the program with these instructions.
     pub(crate) fn is_analysis_of_program(&self, insns: &[Insn]) -> bool
-        ensures of { result ≡ true → (program : Program) → AreInsnsOfProgram program insns.now → IsAnalysisOf
+        ensures of { result ≡ true → (program : Program) → DeclaredInsnsEqualProgramInsns program insns.now → IsAnalysisOf
             program self.now }
         ensures coded { result ≡ true → HasDisjointCodes self.now }
     {
         if !self.starts_outside() {
             return false;
         }
-        self.lines.len() == insns.len() && self.is_written(insns)
+        self.lines.len() == insns.len() && self.is_analysis_right_at_each_insn(insns)
     }
 
     // Checks that the first instruction has no enclosing loop and is searched to the right.
@@ -41,8 +41,8 @@ impl MemoAnalysis {
     }
 
     // Checks the analysis of each instruction.
-    fn is_written(&self, insns: &[Insn]) -> bool
-        ensures { result ≡ true → (program : Program) → AreInsnsOfProgram program insns.now → (ip : ℕ)
+    fn is_analysis_right_at_each_insn(&self, insns: &[Insn]) -> bool
+        ensures { result ≡ true → (program : Program) → DeclaredInsnsEqualProgramInsns program insns.now → (ip : ℕ)
             → ip < length insns.now → IsInsnChecked self.now program
             (successors_of_insn_if_any ip (slice_get program.insns ip)) ip }
     {
@@ -57,7 +57,7 @@ impl MemoAnalysis {
     // Checks the analysis of one instruction.
     fn is_written_at(&self, insns: &[Insn], ip: usize) -> bool
         requires { ip < length insns.now }
-        ensures { result ≡ true → (program : Program) → AreInsnsOfProgram program insns.now
+        ensures { result ≡ true → (program : Program) → DeclaredInsnsEqualProgramInsns program insns.now
             → IsInsnChecked self.now program (successors_of_insn_if_any ip (slice_get program.insns ip)) ip }
     {
         self.is_right_at(insns, ip)
@@ -71,7 +71,7 @@ impl MemoAnalysis {
     // Checks that the facts at an instruction are consistent with those at its successors.
     fn is_right_at(&self, insns: &[Insn], ip: usize) -> bool
         requires { ip < length insns.now }
-        ensures { result ≡ true → (program : Program) → AreInsnsOfProgram program insns.now
+        ensures { result ≡ true → (program : Program) → DeclaredInsnsEqualProgramInsns program insns.now
             → IsConsistentAt self.now program (successors_of_insn_if_any ip (slice_get program.insns ip)) ip }
     {
         match successors_at(insns, ip) {
@@ -87,7 +87,9 @@ impl MemoAnalysis {
                 reads: bounds.least > 0,
                 entered: None,
             }),
-            Successors::LookaroundSuccessor(look) => self.looks_on(look, ip),
+            Successors::LookaroundSuccessor(look) => self.are_lookaround_contents_isolated(
+                look, ip,
+            ),
             Successors::Same => false,
         }
     }
@@ -192,7 +194,7 @@ impl MemoAnalysis {
 
     // Checks that another iteration may begin, if the instruction `begin` is a loop head.
     fn begins_again_at(&self, insns: &[Insn], ip: usize, begin: usize) -> bool
-        ensures { result ≡ true → (program : Program) → AreInsnsOfProgram program insns.now
+        ensures { result ≡ true → (program : Program) → DeclaredInsnsEqualProgramInsns program insns.now
             → MayRepeatLoopAt self.now (slice_get program.insns begin) ip begin }
     {
         match successors_at(insns, begin) {
@@ -203,6 +205,7 @@ impl MemoAnalysis {
     }
 
     // Checks that another iteration may begin.
+    // It also checks that an iteration may end at `ip`.
     fn begins_again(&self, fields: &LoopFields, ip: usize, begin: usize) -> bool
         requires { begin + 1 < 2 ^ 64 }
         ensures { result ≡ true → MayRepeatLoop self.now (loop_fields_as_spec fields.now) ip begin }
@@ -240,7 +243,7 @@ impl MemoAnalysis {
     // ---- Lookarounds
 
     // Checks that the contents of a lookaround are isolated from the code around it.
-    fn looks_on(&self, look: LookaroundSuccessor, ip: usize) -> bool
+    fn are_lookaround_contents_isolated(&self, look: LookaroundSuccessor, ip: usize) -> bool
         requires { ip + 1 < 2 ^ 64 }
         ensures { result ≡ true → IsolatesLookaround self.now look ip }
     {
@@ -250,12 +253,12 @@ impl MemoAnalysis {
             && inner.forward == look.forward
             && (inner.silent || !here.silent)
             && self.enclosing_loops(ip + 1).is_empty()
-            && self.are_left(look.past, inner.from)
+            && self.are_enclosing_loops_numbered_below(look.past, inner.from)
             && self.agrees_with_successor(ip, look.past)
     }
 
     // Checks that all loops that enclose an instruction have numbers below `from`.
-    fn are_left(&self, ip: usize, from: u32) -> bool
+    fn are_enclosing_loops_numbered_below(&self, ip: usize, from: u32) -> bool
         ensures { result ≡ true → LoopsAreBefore self.now ip from }
     {
         let rows = self.enclosing_loops(ip);

@@ -4,7 +4,7 @@ ghost use Rattle.std.specs.Prelude.{◌≡◌, ◌≤◌, ◌<◌, ◌+◌, ◌-
 ghost use Rattle.regex_meaning.specs.CompilationRelation.{Program};
 ghost use Rattle.regress_memo.specs.ThreadPotentials.{CoversOne, CoversTwo, CoversRepeat};
 ghost use Rattle.regress_memo.specs.AnalysisAsPotentials.{insn_analysis_of, potentials_of, key_code_questions_of, insn_direction};
-ghost use Rattle.regress_memo.specs.Successors.{AreInsnsOfProgram, successors_of_insn_if_any};
+ghost use Rattle.regress_memo.specs.Successors.{DeclaredInsnsEqualProgramInsns, successors_of_insn_if_any};
 ghost use Rattle.regress_memo.specs.AnalysisChecks.{IsCoveredAt, IsInsnCostCovered, IsCharLoopChecked, CoversUnboundedLoop, CoversBoundedLoop, unlimited};
 
 use crate::analysis_result::MemoAnalysis;
@@ -18,23 +18,23 @@ impl MemoAnalysis {
     // Checks that the potential that an instruction leaves covers its successors.
     pub(crate) fn covers_successors_at(&self, insns: &[Insn], ip: usize) -> bool
         requires { ip < length insns.now }
-        ensures { result ≡ true → (program : Program) → AreInsnsOfProgram program insns.now
+        ensures { result ≡ true → (program : Program) → DeclaredInsnsEqualProgramInsns program insns.now
             → IsCoveredAt self.now program (successors_of_insn_if_any ip (slice_get program.insns ip)) ip }
     {
         match successors_at(insns, ip) {
             Successors::Ends => true,
-            Successors::One(next) => self.has_one(ip, next.to),
+            Successors::One(next) => self.covers_one_successor(ip, next.to),
             Successors::Two(other) => self.has_two(ip, ip + 1, other),
             Successors::Enter(fields) => self.has_two(ip, ip + 1, fields.exit as usize),
             Successors::Again(begin) => self.has_repeated(insns, ip, begin),
             Successors::Run(bounds) => self.run_is_written(bounds, ip),
-            Successors::LookaroundSuccessor(look) => self.has_one(ip, look.past),
-            Successors::Same => self.has_one(ip, ip + 1),
+            Successors::LookaroundSuccessor(look) => self.covers_one_successor(ip, look.past),
+            Successors::Same => self.covers_one_successor(ip, ip + 1),
         }
     }
 
     // Checks that the potential left by an instruction covers one thread.
-    fn has_one(&self, ip: usize, next: usize) -> bool
+    fn covers_one_successor(&self, ip: usize, next: usize) -> bool
         ensures { result ≡ true → CoversOne (potentials_of self.now) ip next }
     {
         self.insn_analysis_at(next).ready <= self.insn_analysis_at(ip).left
@@ -52,7 +52,7 @@ impl MemoAnalysis {
     // Checks that the potential left by an instruction covers the threads after the end of an
     // iteration.
     fn has_repeated(&self, insns: &[Insn], ip: usize, begin: usize) -> bool
-        ensures { result ≡ true → (program : Program) → AreInsnsOfProgram program insns.now
+        ensures { result ≡ true → (program : Program) → DeclaredInsnsEqualProgramInsns program insns.now
             → CoversRepeat (potentials_of self.now) (slice_get program.insns begin) ip begin }
     {
         match successors_at(insns, begin) {

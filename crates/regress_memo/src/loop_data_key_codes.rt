@@ -48,6 +48,8 @@ struct KeyCodePrefix {
 
 impl MemoAnalysis {
     /// Returns the code of a thread at an instruction and an offset with these loop states.
+    ///
+    /// The code is that of the questions that the analysis asks at the instruction.
     pub fn code_at<R: IterationStatesOfAllLoops>(&self, ip: usize, at: usize, rounds: &R) -> usize
         requires { HasDisjointCodes self.now }
         ensures { (s : State) → s.pos ≡ at → s.loops ≡ R.rounds rounds.now

@@ -10,7 +10,7 @@ use regress_program::instructions::Insn;
 use std::alloc::{AllocError, Global};
 
 /// The maximum potential.
-const MOST_READY: u64 = 0x7FFF_FFFF;
+const MAX_POTENTIAL: u64 = 0x7FFF_FFFF;
 
 impl MemoAnalysis {
     // Makes these instructions record: those with more than one incoming edge, and the bodies of
@@ -62,8 +62,8 @@ impl MemoAnalysis {
     fn weigh(&mut self, insns: &[Insn], ip: usize) -> bool
         requires { ip < length insns.now }
     {
-        let left = self.left_for(insns, ip).min(MOST_READY);
-        let ready = self.ready_for(insns, ip, left).min(MOST_READY);
+        let left = self.left_for(insns, ip).min(MAX_POTENTIAL);
+        let ready = self.ready_for(insns, ip, left).min(MAX_POTENTIAL);
         let Some(line) = self.lines.get_mut(ip) else {
             return false;
         };
@@ -91,7 +91,7 @@ impl MemoAnalysis {
         requires { ip < length insns.now }
     {
         match successors_at(insns, ip) {
-            Successors::Run(bounds) => self.left_by_run(bounds, ip),
+            Successors::Run(bounds) => self.potential_of_bounded_char_loop(bounds, ip),
             Successors::Enter(fields) => self.ready_for_two(ip + 1, fields.exit as usize),
             Successors::Again(begin) => match loop_ending_at(insns, ip) {
                 Some(fields) => {
@@ -110,7 +110,7 @@ impl MemoAnalysis {
 
     // Returns the potential needed for the characters and the exits of a char loop with a maximum.
     // Returns 0 for a loop without a maximum.
-    fn left_by_run(&self, bounds: CharLoopMinMaxAndGreed, ip: usize) -> u64
+    fn potential_of_bounded_char_loop(&self, bounds: CharLoopMinMaxAndGreed, ip: usize) -> u64
         requires { ip + 2 < 2 ^ 64 }
     {
         if bounds.most == usize::MAX {
@@ -156,12 +156,14 @@ fn count_ways(alloc: Global, insns: &[Insn]) -> Result<Vec<u8>, AllocError> {
     Ok(ways)
 }
 
+// Counts the edge, if there is one, at its target.
 fn add_edge(ways: &mut [u8], edge: Option<FlowEdge>) {
     if let Some(edge) = edge {
         count_flow_edge(ways, edge.to);
     }
 }
 
+// Counts one more edge to the instruction, up to 255.
 fn count_flow_edge(ways: &mut [u8], to: usize) {
     if let Some(count) = ways.get_mut(to) {
         *count = count.saturating_add(1);

@@ -87,7 +87,7 @@ fn is_sound_by(
 {
     is_passed(place, loop_iteration_state.entry)
         && (!moved || loop_iteration_state.entry != place.at)
-        && are_few(count, place, loop_iteration_state)
+        && is_possible_iteration_count(count, place, loop_iteration_state)
 }
 
 // Checks that an offset is not ahead of the current one in the direction.
@@ -102,7 +102,7 @@ fn is_passed(place: TextOffsetAndSearchDirection, entry: usize) -> bool
 }
 
 // Checks that the number of iterations is possible.
-fn are_few(
+fn is_possible_iteration_count(
     count: LoopCountsDistinguishedUpTo,
     place: TextOffsetAndSearchDirection,
     loop_iteration_state: LoopCountAndIterationStart,

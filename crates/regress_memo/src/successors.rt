@@ -132,6 +132,7 @@ fn plain_step(insn: &Insn, ip: usize) -> Successors
     }
 }
 
+// Returns the successors of a lookaround.
 fn around(forward: bool, negate: bool, continuation: u32) -> Successors
     ensures { result ≡ Successors.LookaroundSuccessor
         (record { forward = forward; negate = negate; past = continuation }) }
@@ -143,6 +144,7 @@ fn around(forward: bool, negate: bool, continuation: u32) -> Successors
     })
 }
 
+// Returns the successors of an instruction that continues at the next one only.
 fn to_next(ip: usize, reads: bool, silent: bool) -> Successors
     requires { ip + 2 < 2 ^ 64 }
     ensures { result ≡ next_at ip reads silent }

@@ -3,14 +3,14 @@
 ghost use Rattle.std.specs.Prelude.{◌≡◌, ◌<◌, ℕ, true, length, slice_get};
 ghost use Rattle.regex_meaning.specs.CompilationRelation.{Program};
 ghost use Rattle.regress_memo.specs.UnreachedCharLoopBodies.{are_char_loop_successors, IsNotLoopBody, EntersPastBodies, FlowsPastBodies};
-ghost use Rattle.regress_memo.specs.Successors.{AreInsnsOfProgram, successors_of_insn_if_any};
+ghost use Rattle.regress_memo.specs.Successors.{DeclaredInsnsEqualProgramInsns, successors_of_insn_if_any};
 
 use crate::successors::{Successors, successors_at};
 use regress_program::instructions::Insn;
 
 // Checks that no instruction leads to the body of a char loop. The loop executes its body itself.
 pub(crate) fn no_char_loop_body_is_reached(insns: &[Insn]) -> bool
-    ensures { result ≡ true → (program : Program) → AreInsnsOfProgram program insns.now → (ip : ℕ)
+    ensures { result ≡ true → (program : Program) → DeclaredInsnsEqualProgramInsns program insns.now → (ip : ℕ)
         → FlowsPastBodies program (successors_of_insn_if_any ip (slice_get program.insns ip)) ip }
 {
     for ip in 0..insns.len() {
@@ -24,7 +24,7 @@ pub(crate) fn no_char_loop_body_is_reached(insns: &[Insn]) -> bool
 // Checks that the instruction `ip` does not lead to the body of a char loop.
 fn leads_past(insns: &[Insn], ip: usize) -> bool
     requires { ip < length insns.now }
-    ensures { result ≡ true → (program : Program) → AreInsnsOfProgram program insns.now
+    ensures { result ≡ true → (program : Program) → DeclaredInsnsEqualProgramInsns program insns.now
         → FlowsPastBodies program (successors_of_insn_if_any ip (slice_get program.insns ip)) ip }
 {
     match successors_at(insns, ip) {
@@ -41,7 +41,7 @@ fn leads_past(insns: &[Insn], ip: usize) -> bool
 // If the instruction `begin` is the head of a loop, checks that it does not lead to the body of a
 // char loop.
 fn enters_past(insns: &[Insn], begin: usize) -> bool
-    ensures { result ≡ true → (program : Program) → AreInsnsOfProgram program insns.now
+    ensures { result ≡ true → (program : Program) → DeclaredInsnsEqualProgramInsns program insns.now
         → EntersPastBodies program (slice_get program.insns begin) begin }
 {
     match successors_at(insns, begin) {
@@ -54,8 +54,8 @@ fn enters_past(insns: &[Insn], begin: usize) -> bool
 
 // Checks that neither of two instructions is the body of a char loop.
 fn are_no_bodies(insns: &[Insn], ip: usize, other: usize) -> bool
-    ensures one { result ≡ true → (program : Program) → AreInsnsOfProgram program insns.now → IsNotLoopBody program ip }
-    ensures other { result ≡ true → (program : Program) → AreInsnsOfProgram program insns.now → IsNotLoopBody
+    ensures one { result ≡ true → (program : Program) → DeclaredInsnsEqualProgramInsns program insns.now → IsNotLoopBody program ip }
+    ensures other { result ≡ true → (program : Program) → DeclaredInsnsEqualProgramInsns program insns.now → IsNotLoopBody
         program other }
 {
     is_no_body(insns, ip) && is_no_body(insns, other)
@@ -63,7 +63,7 @@ fn are_no_bodies(insns: &[Insn], ip: usize, other: usize) -> bool
 
 // Checks that the instruction before this one is not a char loop.
 fn is_no_body(insns: &[Insn], ip: usize) -> bool
-    ensures { result ≡ true → (program : Program) → AreInsnsOfProgram program insns.now → IsNotLoopBody program ip }
+    ensures { result ≡ true → (program : Program) → DeclaredInsnsEqualProgramInsns program insns.now → IsNotLoopBody program ip }
 {
     ip == 0 || !runs(successors_at(insns, ip - 1))
 }

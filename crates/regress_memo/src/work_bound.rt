@@ -5,7 +5,7 @@ ghost use Rattle.regress_program.specs.InsnsAsSpec.{insn_as_spec_insn};
 ghost use Rattle.regex_meaning.specs.CompilationRelation.{Program};
 ghost use Rattle.regress_memo.specs.WorkBound.{insn_keys_cost_per_position, all_keys_cost_per_position, work_per_position, IsStepWorkBounded, IsWorkBounded};
 ghost use Rattle.regress_memo.specs.AnalysisAsPotentials.{insn_analysis_of};
-ghost use Rattle.regress_memo.specs.Successors.{AreInsnsOfProgram, successors_of_insn_if_any};
+ghost use Rattle.regress_memo.specs.Successors.{DeclaredInsnsEqualProgramInsns, successors_of_insn_if_any};
 
 use crate::analysis_result::{InsnAnalysis, MemoAnalysis};
 use crate::successors::{LookaroundSuccessor, Successors, successors_at};
@@ -17,7 +17,7 @@ impl MemoAnalysis {
     /// Returns `None` if no bound is known.
     pub fn work_per_position(&self, insns: &[Insn]) -> Option<u64>
         ensures work { IfSome result (λ work. work ≡ work_per_position self.now) }
-        ensures bounded { IsSome result → (program : Program) → AreInsnsOfProgram program insns.now
+        ensures bounded { IsSome result → (program : Program) → DeclaredInsnsEqualProgramInsns program insns.now
             → IsWorkBounded self.now program }
     {
         if !self.all_is_paid(insns) {
@@ -45,7 +45,7 @@ impl MemoAnalysis {
     // no record is discarded when its contents match; no lazy char loop without a maximum is
     // searched to the left; and no thread reaches the body of a char loop.
     fn all_is_paid(&self, insns: &[Insn]) -> bool
-        ensures { result ≡ true → (program : Program) → AreInsnsOfProgram program insns.now → IsWorkBounded
+        ensures { result ≡ true → (program : Program) → DeclaredInsnsEqualProgramInsns program insns.now → IsWorkBounded
             self.now program }
     {
         for ip in 0..insns.len() {

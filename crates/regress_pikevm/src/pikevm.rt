@@ -8,8 +8,8 @@ ghost use Rattle.regress_program.specs.{CompilationOfTreesAsFunction.{compiled},
 ghost use Rattle.regress_machine.specs.{Machine.{first_running_and_others_waiting}, InsnEffects.{IsNotStuck}};
 ghost use Rattle.regress_search.specs.AttemptsAndStarts.{match_end_and_groups_at};
 ghost use Rattle.regress_search.specs.NewExecutorsAndAsciiTexts.{IsNewExecutor, ReadsBytesAsAscii, CanSearchAllAsciiTexts};
-ghost use Rattle.regress_pikevm.specs.InsnEffects.{end_and_groups, search_from_state, effect_at, HasRun};
-ghost use Rattle.regress_pikevm.specs.States.{groups_of, effect_of_next_states, waiting_threads, pending_threads, states_by_priority, TakesNextThread};
+ghost use Rattle.regress_pikevm.specs.InsnEffects.{end_and_groups, search_from_state, machine_effect_at_state, SearchEndsWithState};
+ghost use Rattle.regress_pikevm.specs.States.{groups_as_offset_ranges, effect_of_next_states, threads_of_stack, pending_threads, states_by_priority, TakesFirstOfPendingThreads};
 
 pub mod char_loops;
 pub mod insn_matchers;
@@ -24,7 +24,7 @@ use regress_input::position::PositionType;
 use regress_program::insn::{CompiledRegex, CompiledRegexFor16BitUnits, Insn, Program};
 use regress_search::exec::{Executor, MatchProducer, ProducerFromProgramAndText, SearchError};
 use regress_search::program_and_input::ProgramAndInput;
-use regress_search::search_loop::{SingleAttemptExecutor, group_at};
+use regress_search::search_loop::{SingleAttemptExecutor, position_range_of_group};
 use std::alloc::{AllocError, Global};
 
 /// An executor that runs a program on a text and copies whole states.
@@ -61,10 +61,10 @@ fn execute_in_direction<Input: InputIndexer>(
 ) -> Result<NextStates<Input::Position>, AllocError>
     requires code { map insn_as_spec_insn insns.now ≡ (compiled (tree_of searched.now.program.now)).insns }
     requires executable { let s = searched.now in
-        IsNotStuck (effect_at Input.Position.offset s.program.now (Input.text s.input) forward state) }
+        IsNotStuck (machine_effect_at_state Input.Position.offset s.program.now (Input.text s.input) forward state) }
     requires inside { Input.Position.offset state.pos ≤ units (Input.text searched.now.input) }
     ensures { let s = searched.now in IfOk result (λ t. effect_of_next_states Input.Position.offset t
-        ≡ effect_at Input.Position.offset s.program.now (Input.text s.input) forward state) }
+        ≡ machine_effect_at_state Input.Position.offset s.program.now (Input.text s.input) forward state) }
 {
     if forward {
         execute_insn(searched, insns, Forward, state)
@@ -75,11 +75,11 @@ fn execute_in_direction<Input: InputIndexer>(
 
 // Returns the current state if there is one. Otherwise pops the last state of the stack.
 #[inline(always)]
-fn next_thread<P: PositionType>(
+fn current_or_popped_state<P: PositionType>(
     next: Option<State<P>>,
     stack: &mut Vec<State<P>>,
 ) -> Option<State<P>>
-    ensures { TakesNextThread P.offset (pending_threads P.offset next stack.old.items) result stack.new.items }
+    ensures { TakesFirstOfPendingThreads P.offset (pending_threads P.offset next stack.old.items) result stack.new.items }
 {
     match next {
         Some(state) => Some(state),
@@ -88,12 +88,12 @@ fn next_thread<P: PositionType>(
 }
 
 // Returns the preferred state, and pushes the others.
-fn push_loop_exits<P: PositionType>(
+fn take_preferred_exit_and_push_others<P: PositionType>(
     mut states: Vec<State<P>>,
     stack: &mut Vec<State<P>>,
 ) -> Result<Option<State<P>>, AllocError>
     ensures { IfOk result (λ next. pending_threads P.offset next stack.new.items
-        ≡ first_running_and_others_waiting (states_by_priority P.offset states.items) ++ waiting_threads P.offset
+        ≡ first_running_and_others_waiting (states_by_priority P.offset states.items) ++ threads_of_stack P.offset
         stack.old.items) }
 {
     let Some(next) = states.pop() else {
@@ -115,14 +115,14 @@ fn run<Input: InputIndexer>(
     requires inside { Input.Position.offset start.pos ≤ units (Input.text searched.now.input) }
     requires terminates { let s = searched.now in IsSome (search_from_state Input.Position.offset s.program.now
         (Input.text s.input) forward (Input.Position.offset at) start) }
-    ensures { let s = searched.now in IfOk result (HasRun Input.Position.offset s.program.now
+    ensures { let s = searched.now in IfOk result (SearchEndsWithState Input.Position.offset s.program.now
         (Input.text s.input) forward (Input.Position.offset at) start) }
 {
     stack.clear();
     let insns = searched.program.insns();
     let mut next = Some(start);
     'search: loop {
-        let Some(state) = next_thread(next, stack) else {
+        let Some(state) = current_or_popped_state(next, stack) else {
             return Ok(None);
         };
         match execute_in_direction(searched, insns, forward, state)? {
@@ -132,7 +132,9 @@ fn run<Input: InputIndexer>(
                 stack.push(other)?;
                 next = Some(preferred);
             }
-            NextStates::CharLoopExits(_, states) => next = push_loop_exits(states, stack)?,
+            NextStates::CharLoopExits(_, states) => next = take_preferred_exit_and_push_others(
+                states, stack,
+            )?,
             NextStates::Lookaround {
                 forward,
                 negate,
@@ -171,7 +173,7 @@ impl<'r, Input: InputIndexer> SingleAttemptExecutor for PikeVMExecutor<'r, Input
 
     ghost text = { λ e. Input.text e.searched.input };
 
-    ghost groups = { λ e. groups_of Input.Position.offset e.groups.items };
+    ghost groups = { λ e. groups_as_offset_ranges Input.Position.offset e.groups.items };
 
     ghost is_text = { λ e. Input.is_text e.searched.input };
 
@@ -199,7 +201,7 @@ impl<'r, Input: InputIndexer> SingleAttemptExecutor for PikeVMExecutor<'r, Input
     }
 
     fn group(&self, id: usize) -> Option<(Input::Position, Input::Position)> {
-        group_at(&self.groups, id)
+        position_range_of_group(&self.groups, id)
     }
 
     fn first_start_to_try_from(&self, pos: Input::Position) -> Option<Input::Position> {
@@ -280,20 +282,20 @@ type OverUtf8 = PikeVMExecutor<'static, Utf8Input<'static>>;
 
 type OverAscii = PikeVMExecutor<'static, AsciiInput<'static>>;
 
-type OfUtf8 = <OverUtf8 as Executor<'static, 'static>>::AsAscii;
+type AsciiExecutorForUtf8PikeVM = <OverUtf8 as Executor<'static, 'static>>::AsAscii;
 
-type OfAscii = <OverAscii as Executor<'static, 'static>>::AsAscii;
+type AsciiExecutorForAsciiPikeVM = <OverAscii as Executor<'static, 'static>>::AsAscii;
 
 /// A law: the `AsAscii` of the executor for UTF-8 can search each ASCII text, and reads each byte
 /// as a character.
 pub fn ascii_is_read_in_bytes()
-    ensures takes { CanSearchAllAsciiTexts ⟦<OfUtf8 as ProducerFromProgramAndText<'static>>⟧.can_search }
-    ensures reads { ReadsBytesAsAscii ⟦<OfUtf8 as ProducerFromProgramAndText<'static>>⟧.text_of }
+    ensures takes { CanSearchAllAsciiTexts ⟦<AsciiExecutorForUtf8PikeVM as ProducerFromProgramAndText<'static>>⟧.can_search }
+    ensures reads { ReadsBytesAsAscii ⟦<AsciiExecutorForUtf8PikeVM as ProducerFromProgramAndText<'static>>⟧.text_of }
 {}
 
 /// A law: the `AsAscii` of the executor for ASCII can search each ASCII text, and reads each byte
 /// as a character.
 pub fn ascii_stays_in_bytes()
-    ensures takes { CanSearchAllAsciiTexts ⟦<OfAscii as ProducerFromProgramAndText<'static>>⟧.can_search }
-    ensures reads { ReadsBytesAsAscii ⟦<OfAscii as ProducerFromProgramAndText<'static>>⟧.text_of }
+    ensures takes { CanSearchAllAsciiTexts ⟦<AsciiExecutorForAsciiPikeVM as ProducerFromProgramAndText<'static>>⟧.can_search }
+    ensures reads { ReadsBytesAsAscii ⟦<AsciiExecutorForAsciiPikeVM as ProducerFromProgramAndText<'static>>⟧.text_of }
 {}

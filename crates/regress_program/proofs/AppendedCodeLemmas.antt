@@ -1,4 +1,5 @@
--- The code that the emitter appends for each kind of node has the specified instructions and length.
+-- The code that the emitter appends for each kind of node has the specified instructions and
+-- length.
 use Rattle.std.proofs.Common.{◌≡◌, ℕ, ◌+◌, ◌-◌, ◌<◌, ◌^◌, Bool, true, false, List, [], ◌∷◌, ◌++◌, length, refl, sym, ap, ◌∙◌, arith, append_assoc}
 use Rattle.std.proofs.Common.{append-nil, length-append, slice_set}
 use Rattle.std.proofs.Math.Seq.{set-append_seam}
@@ -10,7 +11,7 @@ use Rattle.regex_meaning.specs.Tree.{capture_group, back_ref, lookaround, loop, 
 use Rattle.regex_meaning.specs.Outcomes.{max_iterations, in_intervals}
 use Rattle.regex_meaning.specs.StartPredicate.{bytes_that_pass}
 use Rattle.regex_meaning.specs.CompilationRelation.{Insn, AsciiBracket, Bracket, is_uninverted_ascii_class, Alt, Jump, EnterLoop, LoopAgain, Loop1CharBody, Goal}
-use Rattle.regex_meaning.specs.CompilationRelation.{BeginCaptureGroup, lookaround_insn, EndCaptureGroup, ByteSeq, ResetCaptureGroup, ordered, chunks}
+use Rattle.regex_meaning.specs.CompilationRelation.{BeginCaptureGroup, lookaround_insn, EndCaptureGroup, ByteSeq, ResetCaptureGroup, reversed_if_in_lookbehind, chunks}
 use Rattle.regress_program.specs.CompilationOfTreesAsFunction.{node_insn_count, strings_size, loop_count, brackets_of, string_code, strings_code, group_reset_insns}
 use Rattle.regress_program.specs.CompilationOfTreesAsFunction.{code_of}
 use Rattle.regress_program.specs.EmitterStateAndAppendedCode.{EmitterState, HasIndexRoomForNode, with_code, with_insn_appended, with_insns_appended, with_insn_at}
@@ -28,15 +29,15 @@ same_state s t ei el eb =
 
 -- ---- The length of code
 
-pub length-ordered : {A : Type 0} → (d : Bool) (xs : List A) → length (ordered d xs) ≡ length xs
-length-ordered true xs = length-reverse xs
-length-ordered false xs = refl
+pub length-reversed_if_in_lookbehind : {A : Type 0} → (d : Bool) (xs : List A) → length (reversed_if_in_lookbehind d xs) ≡ length xs
+length-reversed_if_in_lookbehind true xs = length-reverse xs
+length-reversed_if_in_lookbehind false xs = refl
 
 pub length-resets : (g e : ℕ) → length (group_reset_insns g e) ≡ e - g
 length-resets g e = length-map (numbers_from g (e - g)) ResetCaptureGroup ∙ length-numbers_from g (e - g)
 
 pub length-string_code : (u icase d : Bool) (s : List ℕ) → length (string_code u icase d s) ≡ length s
-length-string_code u icase d s = length-map (ordered d s) _ ∙ length-ordered d s
+length-string_code u icase d s = length-map (reversed_if_in_lookbehind d s) _ ∙ length-reversed_if_in_lookbehind d s
 
 pub length-strings_code : (u icase d : Bool) (strings : List (List ℕ)) (at : ℕ) → length (strings_code u icase d strings at) ≡ strings_size strings
 length-strings_code u icase d [] at = refl
@@ -57,7 +58,7 @@ length-code_of u d goal at l b = refl
 length-code_of u d (char c) at l b = refl
 length-code_of u d (char_set members) at l b = refl
 length-code_of u d (byte_set members) at l b = refl
-length-code_of u d (byte_sequence bytes) at l b = length-map (ordered d (chunks bytes)) ByteSeq ∙ length-ordered d (chunks bytes)
+length-code_of u d (byte_sequence bytes) at l b = length-map (reversed_if_in_lookbehind d (chunks bytes)) ByteSeq ∙ length-reversed_if_in_lookbehind d (chunks bytes)
 length-code_of u d (cat first rest) at l b =
     omega (
       arith,
@@ -100,7 +101,7 @@ length-code_of u d (loop_1_char_body q loopee) at l b = omega (arith, length-cod
 pub length-with_code : (u d : Bool) (n : Node) (s : EmitterState) → length (with_code u d n s).insns ≡ length s.insns + node_insn_count n
 length-with_code u d n s = omega (arith, length-append s.insns (code_of u d n (length s.insns) s.loops (length s.brackets)), length-code_of u d n (length s.insns) s.loops (length s.brackets))
 
--- ---- Rows
+-- ---- Node lists
 
 pub with_code-end_of_cat : (u d : Bool) (s : EmitterState) → with_code u d end_of_cat s ≡ s
 unfolding code_of loop_count brackets_of
@@ -121,9 +122,9 @@ with_code-cat u d a b s =
     (omega arith)
     (sym (append_assoc s.brackets (brackets_of a) (brackets_of b)))
 
--- ---- A choice
+-- ---- Alternatives
 
--- the two jumps of a choice, written once their targets are known
+-- The two jumps of an alternative are replaced once their targets are known.
 alt_patched : (ca_at cb_at : ℕ → List Insn) (na nb : ℕ) (base c1 c2 c3 c4 c5 : List Insn) (x y : Insn)
     → ((m : ℕ) → length (ca_at m) ≡ na) → ((m : ℕ) → length (cb_at m) ≡ nb)
     → c1 ≡ base ++ x ∷ [] → c2 ≡ c1 ++ ca_at (length c1) → c3 ≡ c2 ++ y ∷ []
@@ -186,7 +187,7 @@ with_code-alt u d a b s s1 s2 s3 s4 s5 s6 x y e1 e2 e3 e4 e5 e6 =
     (ap (λ r. r.insns) e1) i2 (ap (λ r. r.insns) e3) (ap (λ r. r.insns) e4) i5)
     in_loops b6
 
--- ---- Room
+-- ---- Room for indices
 
 pub room-first : (s : EmitterState) (a b : Node) → HasIndexRoomForNode s (cat a b) → HasIndexRoomForNode s a
 unfolding node_insn_count loop_count
@@ -199,15 +200,15 @@ room-rest u d s t a b r e = record { insns = omega (arith, r.insns, ap (λ x. le
 length-with_insn : (x : Insn) (s : EmitterState) → length (with_insn_appended x s).insns ≡ length s.insns + 1
 length-with_insn x s = length-append s.insns (x ∷ [])
 
--- the length before the right arm
+-- Before the right arm, the code has the left arm and two instructions more.
 pub length-left : (u d : Bool) (a : Node) (s s1 s2 s3 : EmitterState) (x y : Insn)
     → s1 ≡ with_insn_appended x s → s2 ≡ with_code u d a s1 → s3 ≡ with_insn_appended y s2 → length s3.insns ≡ length s.insns + node_insn_count a + 2
 length-left u d a s s1 s2 s3 x y e1 e2 e3 =
     omega (arith, ap (λ z. length z.insns) e1, length-with_insn x s, ap (λ z. length z.insns) e2, length-with_code u d a s1, ap (λ z. length z.insns) e3, length-with_insn y s2)
 
--- ---- A part between a head and a tail
+-- ---- Code between a head and a tail
 
--- the code of a node behind one instruction
+-- The code of a node follows the instruction before it.
 after_head : (u d : Bool) (n : Node) (s s1 s2 : EmitterState) (x : Insn) → s1 ≡ with_insn_appended x s → s2 ≡ with_code u d n s1
     → s2.insns ≡ s.insns ++ x ∷ code_of u d n (length s.insns + 1) s.loops (length s.brackets)
 after_head u d n s s1 s2 x e1 e2 =
@@ -221,7 +222,7 @@ after_head u d n s s1 s2 x e1 e2 =
     ∙ ap (λ is. is ++ code (at + 1) s.loops (length s.brackets)) (ap (λ r. r.insns) e1)
     ∙ append_assoc s.insns (x ∷ []) (code (at + 1) s.loops (length s.brackets))
 
--- and one instruction behind it
+-- The code of a node stands between one instruction and another one.
 between : (u d : Bool) (n : Node) (s s1 s2 s3 : EmitterState) (x y : Insn) → s1 ≡ with_insn_appended x s → s2 ≡ with_code u d n s1 → s3 ≡ with_insn_appended y s2
     → s3.insns ≡ s.insns ++ x ∷ (code_of u d n (length s.insns + 1) s.loops (length s.brackets) ++ y ∷ [])
 between u d n s s1 s2 s3 x y e1 e2 e3 =
@@ -248,7 +249,7 @@ pub length-between : (u d : Bool) (n : Node) (s s1 s2 s3 : EmitterState) (x y : 
     → length s3.insns ≡ length s.insns + node_insn_count n + 2
 length-between u d n s s1 s2 s3 x y e1 e2 e3 = length-left u d n s s1 s2 s3 x y e1 e2 e3
 
--- the head is written again once the length is known
+-- The code of a lookaround is right once its head is replaced by one with the known length.
 pub with_code-lookaround : (u d : Bool) (l : Lookaround) (n : Node) (s s1 s2 s3 s4 : EmitterState) (x : Insn)
     → s1 ≡ with_insn_appended x s → s2 ≡ with_code u l.backwards n s1 → s3 ≡ with_insn_appended Goal s2 → s4 ≡ with_insn_at (length s.insns) (lookaround_insn l (length s3.insns)) s3
     → s4 ≡ with_code u d (lookaround l n) s
@@ -267,7 +268,7 @@ with_code-lookaround u d l n s s1 s2 s3 s4 x e1 e2 e3 e4 =
 
 -- ---- Loops
 
--- the length behind the resets, and behind the whole loop
+-- The resets of a loop add one instruction for each of its groups.
 length-resets_done : (g e : ℕ) (s s1 s2 s3 : EmitterState) (x : Insn) → s1 ≡ with_insn_appended x s → s2 ≡ with_loop s1 → s3 ≡ with_insns_appended (group_reset_insns g e) s2
     → length s3.insns ≡ length s.insns + 1 + (e - g)
 length-resets_done g e s s1 s2 s3 x e1 e2 e3 =
@@ -313,7 +314,7 @@ with_code-loop u d q g e n head s s1 s2 s3 s4 s5 s6 x is_head e1 e2 e3 e4 e5 e6 
     (omega (arith, ap (λ r. r.loops) e4, ap (λ r. r.loops) e5, ap (λ r. r.loops) e6))
     (ap (λ r. r.brackets) e6 ∙ ap (λ r. r.brackets) e5 ∙ ap (λ r. r.brackets) e4 ∙ ap (λ bs. bs ++ brackets_of n) brackets3)
 
--- ---- Room inside
+-- ---- Room for the indices of inner nodes
 
 pub loop_fits : (q : Quantifier) (g h : ℕ) (n : Node) (s s1 : EmitterState) (x : Insn) → HasIndexRoomForNode s (loop q g h n) → s1 ≡ with_insn_appended x s → s1.loops + 1 < 2 ^ 16
 unfolding loop_count

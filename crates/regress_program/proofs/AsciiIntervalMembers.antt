@@ -18,7 +18,7 @@ use Rattle.regex_meaning.specs.NumberListHelpers.{contains}
 use Rattle.regex_meaning.proofs.FirstByteOfCharacter.{in_range-below, in_range-true}
 use Rattle.regex_pattern_front.proofs.ByteSetMemberLemmas.{contains-bytes_where}
 
--- no interval that is empty or below 128 holds a number from 128 on
+-- An interval that is empty or below 128 contains no number from 128 on.
 not_inside : (first last b : ℕ) → 128 ≤ b → (nat_lt last 128 || nat_lt last first) ≡ true → is_in_range first last b ≡ false
 not_inside first last b h e =
     ⊎_elim (λ (below : nat_lt last 128 ≡ true). let lt : last < 128 = omega (arith, ltb-true last 128 below) in let past : last < b = omega arith in and_false (nat_le first b) (lt-leb b last past))
@@ -42,7 +42,7 @@ outside_ascii (i ∷ intervals) b h e =
     let later : in_intervals intervals b ≡ false = outside_ascii intervals b h (and-right (nat_lt i.1 128 || nat_lt i.1 i.0) (list_all (λ j. nat_lt j.1 128 || nat_lt j.1 j.0) intervals) e) in
     rw (here, later)
 
--- if each interval is empty or below 128, the members below 128 are all members
+-- If each interval is empty or below 128, the members below 128 are all members.
 pub ascii_bytes : (intervals : List (ℕ × ℕ)) → list_all (λ i. nat_lt i.1 128 || nat_lt i.1 i.0) intervals ≡ true
     → bytes_that_pass (λ b. nat_lt b 128 && in_intervals intervals b) ≡ bytes_that_pass (in_intervals intervals)
 ascii_bytes intervals e = bytes_where-same _ _ (λ b h. elim (cases_lt b 128) [
@@ -53,7 +53,7 @@ ascii_bytes intervals e = bytes_where-same _ _ (λ b h. elim (cases_lt b 128) [
 pub ascii_none : [] ≡ bytes_that_pass (λ b. nat_lt b 128 && in_intervals [] b)
 ascii_none = sym (bytes_where-none _ (λ b h. and_right (nat_lt b 128) false refl))
 
--- the members of one interval more
+-- One more interval adds its numbers below 128 to the members.
 pub ascii_more : {A : Type 0} (f : A → ℕ × ℕ) (items : List A) (i : ℕ) (d : A) (now next : List ℕ) → i < length items
     → now ≡ bytes_that_pass (λ b. nat_lt b 128 && in_intervals (take i (map f items)) b)
     → next ≡ bytes_that_pass (λ b. contains now b || (nat_lt b 128 && is_in_range (f (get_or items i d)).0 (f (get_or items i d)).1 b))
@@ -67,7 +67,7 @@ ascii_more f items i d now next h e g = g ∙ bytes_where-same _ _ (λ b k.
     spread true x y = refl
     spread false x y = refl
 
--- what no interval's end lets in
+-- A number below an interval is not one of its ASCII members.
 pub fails_below : (first last b : ℕ) → b < first → (nat_lt b 128 && is_in_range first last b) ≡ false
 fails_below first last b h = and_right (nat_lt b 128) _ (in_range-below first last b h)
 

@@ -6,11 +6,11 @@ use Rattle.std.proofs.Math.Seq.{drop-nil}
 use Rattle.regex_meaning.specs.NumberListHelpers.{numbers_from}
 use Rattle.std.proofs.lemmas.List.{length-map, get_or-reverse, drop-map, drop_all}
 use Rattle.std.proofs.lemmas.Option.{get_or_from_slice_get}
-use Rattle.regex_meaning.specs.CompilationRelation.{Insn, Alt, Jump, ByteSeq, ResetCaptureGroup, ordered, chunks, chunks_of}
+use Rattle.regex_meaning.specs.CompilationRelation.{Insn, Alt, Jump, ByteSeq, ResetCaptureGroup, reversed_if_in_lookbehind, chunks, first_chunks_of_bytes}
 use Rattle.regex_meaning.specs.Tree.{byte_sequence, string_set}
 use Rattle.regress_program.specs.CompilationOfTreesAsFunction.{group_reset_insns, string_code, strings_code, strings_size, code_of, loop_count, brackets_of}
 use Rattle.regress_program.specs.EmitterStateAndAppendedCode.{EmitterState, with_code, with_insn_appended, with_insns_appended, strings_as_code_points}
-use Rattle.regress_program.proofs.AppendedCodeLemmas.{same_state, length-string_code, length-ordered}
+use Rattle.regress_program.proofs.AppendedCodeLemmas.{same_state, length-string_code, length-reversed_if_in_lookbehind}
 
 -- ---- Chunks
 
@@ -22,26 +22,26 @@ drop_drop m zero xs = ap (λ (k : ℕ). drop k xs) (add-zero-back m)
 drop_drop m (suc n) [] = drop-nil m ∙ sym (drop-nil (m + suc n))
 drop_drop m (suc n) (x ∷ xs) = let e : m + suc n ≡ suc (m + n) = omega arith in drop_drop m n xs ∙ sym (ap (λ (k : ℕ). drop k (x ∷ xs)) e)
 
--- how many there are
-chunks_of-length : (count : ℕ) (bytes : List ℕ) → length bytes ≤ count
-    → (length bytes ≤ 16 * length (chunks_of count bytes)) × (16 * length (chunks_of count bytes) < length bytes + 16)
-chunks_of-length zero bytes h = (omega arith, omega arith)
-chunks_of-length (suc count) [] h = (omega arith, omega arith)
-chunks_of-length (suc count) (b ∷ bytes) h =
+-- The chunks have room for all bytes and for at most 15 more.
+first_chunks_of_bytes-length : (count : ℕ) (bytes : List ℕ) → length bytes ≤ count
+    → (length bytes ≤ 16 * length (first_chunks_of_bytes count bytes)) × (16 * length (first_chunks_of_bytes count bytes) < length bytes + 16)
+first_chunks_of_bytes-length zero bytes h = (omega arith, omega arith)
+first_chunks_of_bytes-length (suc count) [] h = (omega arith, omega arith)
+first_chunks_of_bytes-length (suc count) (b ∷ bytes) h =
     let less : length (drop 16 (b ∷ bytes)) ≡ length (b ∷ bytes) - 16 = length-drop 16 (b ∷ bytes) in
-    let rest = chunks_of-length count (drop 16 (b ∷ bytes)) (omega arith) in
+    let rest = first_chunks_of_bytes-length count (drop 16 (b ∷ bytes)) (omega arith) in
     (omega (arith, rest.0, rest.1), omega (arith, rest.0, rest.1))
 
 pub length-chunks : (bytes : List ℕ) → length (chunks bytes) ≡ length bytes / 16 + min 1 (length bytes % 16)
 length-chunks bytes =
-    let bounds = chunks_of-length (length bytes) bytes (omega arith) in
+    let bounds = first_chunks_of_bytes-length (length bytes) bytes (omega arith) in
     omega (arith, bounds.0, bounds.1)
 
 pub chunk_begins : (bytes : List ℕ) (k : ℕ) → k < length (chunks bytes) → k * 16 < length bytes
-chunk_begins bytes k h = let bounds = chunks_of-length (length bytes) bytes (omega arith) in omega (arith, bounds.1)
+chunk_begins bytes k h = let bounds = first_chunks_of_bytes-length (length bytes) bytes (omega arith) in omega (arith, bounds.1)
 
 chunk_of_at : (count : ℕ) (bytes : List ℕ) (k : ℕ) → length bytes ≤ count → k * 16 < length bytes
-    → slice_get (chunks_of count bytes) k ≡ Some (take 16 (drop (k * 16) bytes))
+    → slice_get (first_chunks_of_bytes count bytes) k ≡ Some (take 16 (drop (k * 16) bytes))
 chunk_of_at zero bytes k h g = absurd (omega arith)
 chunk_of_at (suc count) [] k h g = absurd (omega arith)
 chunk_of_at (suc count) (b ∷ bytes) zero h g = refl
@@ -54,24 +54,24 @@ chunk_of_at (suc count) (b ∷ bytes) (suc k) h g =
 pub chunk_at : (bytes : List ℕ) (k : ℕ) → k * 16 < length bytes → slice_get (chunks bytes) k ≡ Some (take 16 (drop (k * 16) bytes))
 chunk_at bytes k h = chunk_of_at (length bytes) bytes k (omega arith) h
 
--- ---- Parts in order, or the last one first
+-- ---- Parts in order or reversed
 
-get_or-ordered : {A : Type 0} → (d : Bool) (xs : List A) (at : ℕ) (x : A) → at < length xs
-    → get_or (ordered d xs) at x ≡ get_or xs (if d then length xs - 1 - at else at) x
-get_or-ordered true xs at x h = get_or-reverse xs at x h
-get_or-ordered false xs at x h = refl
+get_or-reversed_if_in_lookbehind : {A : Type 0} → (d : Bool) (xs : List A) (at : ℕ) (x : A) → at < length xs
+    → get_or (reversed_if_in_lookbehind d xs) at x ≡ get_or xs (if d then length xs - 1 - at else at) x
+get_or-reversed_if_in_lookbehind true xs at x h = get_or-reverse xs at x h
+get_or-reversed_if_in_lookbehind false xs at x h = refl
 
-pub ordered-next : {A : Type 0} → (d : Bool) (xs : List A) (at k : ℕ) (x : A) → at < length xs → k ≡ (if d then length xs - 1 - at else at)
-    → slice_get xs k ≡ Some x → drop at (ordered d xs) ≡ x ∷ drop (at + 1) (ordered d xs)
-ordered-next d xs at k x h e g =
-    let within : at < length (ordered d xs) = omega (arith, length-ordered d xs) in
-    let here : get_or (ordered d xs) at x ≡ x = get_or-ordered d xs at x h ∙ ap (λ n. get_or xs n x) (sym e) ∙ get_or_from_slice_get xs k x x g in
+pub reversed_if_in_lookbehind-next : {A : Type 0} → (d : Bool) (xs : List A) (at k : ℕ) (x : A) → at < length xs → k ≡ (if d then length xs - 1 - at else at)
+    → slice_get xs k ≡ Some x → drop at (reversed_if_in_lookbehind d xs) ≡ x ∷ drop (at + 1) (reversed_if_in_lookbehind d xs)
+reversed_if_in_lookbehind-next d xs at k x h e g =
+    let within : at < length (reversed_if_in_lookbehind d xs) = omega (arith, length-reversed_if_in_lookbehind d xs) in
+    let here : get_or (reversed_if_in_lookbehind d xs) at x ≡ x = get_or-reversed_if_in_lookbehind d xs at x h ∙ ap (λ n. get_or xs n x) (sym e) ∙ get_or_from_slice_get xs k x x g in
     let next : suc at ≡ at + 1 = omega arith in
-    drop-cons (ordered d xs) at x within ∙ ap (λ y. y ∷ drop (suc at) (ordered d xs)) here ∙ ap (λ (n : ℕ). x ∷ drop n (ordered d xs)) next
+    drop-cons (reversed_if_in_lookbehind d xs) at x within ∙ ap (λ y. y ∷ drop (suc at) (reversed_if_in_lookbehind d xs)) here ∙ ap (λ (n : ℕ). x ∷ drop n (reversed_if_in_lookbehind d xs)) next
 
 -- ---- Strings
 
--- the sizes of all but the first
+-- This is the size of strings of which each has a branch and a jump.
 unfoldable pub front_size : List (List ℕ) → ℕ
 front_size [] = 0
 front_size (s ∷ strings) = length s + 2 + front_size strings
@@ -106,14 +106,14 @@ parts_step f ys at y s t whole next e inv =
 pub with_insns-none : (s : EmitterState) → with_insns_appended [] s ≡ s
 with_insns-none s = same_state (with_insns_appended [] s) s (append-nil s.insns) refl refl
 
--- the parts are all there
+-- If no parts are left, the code is complete.
 pub parts_end : {A : Type 0} (f : A → Insn) (ys : List A) (at : ℕ) (s whole : EmitterState) → length ys ≤ at → with_insns_appended (map f (drop at ys)) s ≡ whole → s ≡ whole
 parts_end f ys at s whole h inv = sym (with_insns-none s) ∙ sym (ap (λ zs. with_insns_appended (map f zs) s) (drop_all at ys h)) ∙ inv
 
-pub with_code-byte_sequence : (u d : Bool) (bytes : List ℕ) (s : EmitterState) → with_code u d (byte_sequence bytes) s ≡ with_insns_appended (map ByteSeq (ordered d (chunks bytes))) s
+pub with_code-byte_sequence : (u d : Bool) (bytes : List ℕ) (s : EmitterState) → with_code u d (byte_sequence bytes) s ≡ with_insns_appended (map ByteSeq (reversed_if_in_lookbehind d (chunks bytes))) s
 unfolding code_of loop_count brackets_of
 with_code-byte_sequence u d bytes s =
-    same_state (with_code u d (byte_sequence bytes) s) (with_insns_appended (map ByteSeq (ordered d (chunks bytes))) s) refl (omega arith) (append-nil s.brackets)
+    same_state (with_code u d (byte_sequence bytes) s) (with_insns_appended (map ByteSeq (reversed_if_in_lookbehind d (chunks bytes))) s) refl (omega arith) (append-nil s.brackets)
 
 pub with_code-string_set : (u d icase : Bool) (strings : List (List ℕ)) (s : EmitterState) → with_code u d (string_set strings icase) s ≡ with_insns_appended (strings_code u icase d strings (length s.insns)) s
 unfolding code_of loop_count brackets_of
@@ -141,7 +141,7 @@ code_points-next {R = R} strings i s h e =
 pub length-code_points : {R : Type 0} → (strings : List (Vec ℕ R)) (i : ℕ) → length (drop i (strings_as_code_points strings)) ≡ length strings - i
 length-code_points strings i = length-drop i (strings_as_code_points strings) ∙ ap (λ n. n - i) (length-map strings _)
 
--- what the rest takes, from one that is not the last
+-- Before the last string, the size is that of one string, two instructions and the rest.
 pub size_from : {R : Type 0} → (strings : List (Vec ℕ R)) (i : ℕ) (s : Vec ℕ R) → i + 1 < length strings → s ≡ get_or strings i s
     → strings_size (drop i (strings_as_code_points strings)) ≡ length s.items + 2 + strings_size (drop (i + 1) (strings_as_code_points strings))
 size_from strings i s h e =
@@ -154,7 +154,7 @@ last_code {R = R} u icase d strings i at s h e =
     let none : drop (i + 1) (strings_as_code_points strings) ≡ [] = drop_all (i + 1) (strings_as_code_points strings) (omega (arith, length-map strings (λ (v : Vec ℕ R). v.items))) in
     ap (λ xs. strings_code u icase d xs at) (code_points-next strings i s (omega arith) e ∙ ap (λ xs. s.items ∷ xs) none)
 
--- a branch, a string and a jump
+-- A branch, a string and a jump emit one string of a set before the others.
 pub strings_step : (u icase d : Bool) (str : List ℕ) (rest : List (List ℕ)) (s s1 s2 s3 : EmitterState) (second target : ℕ) → 0 < length rest
     → second ≡ length s.insns + length str + 2 → target ≡ second + strings_size rest
     → s1 ≡ with_insn_appended (Alt second) s → s2 ≡ with_insns_appended (string_code u icase d str) s1 → s3 ≡ with_insn_appended (Jump target) s2

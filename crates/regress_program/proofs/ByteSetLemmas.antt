@@ -28,7 +28,7 @@ union-more old new rest byte e = bytes_where-same _ _ (λ b h.
     ap (λ t. t || contains rest b) (ap (λ s. contains s b) e ∙ contains-bytes_where (λ c. c == byte || contains old c) b h ∙ or-comm (b == byte) (contains old b))
     ∙ or_assoc (contains old b) (b == byte) (contains rest b))
 
--- a byte of a list, where the rest is to come
+-- A union with the next byte and then with those behind it is one with all of them.
 pub union-next : (old new bytes : List ℕ) (i : ℕ) → i < length bytes → new ≡ bytes_that_pass (λ b. b == get_or bytes i 0 || contains old b)
     → union_of_byte_sets new (drop (i + 1) bytes) ≡ union_of_byte_sets old (drop i bytes)
 union-next old new bytes i h e =
@@ -36,7 +36,7 @@ union-next old new bytes i h e =
     union-more old new (drop (i + 1) bytes) (get_or bytes i 0) e
     ∙ ap (union_of_byte_sets old) (sym (drop-cons bytes i 0 h ∙ ap (λ (k : ℕ). get_or bytes i 0 ∷ drop k bytes) next))
 
--- the first byte of a list alone
+-- The first byte of an empty list adds nothing to a set.
 pub union-no_first : (p : ℕ → Bool) (bytes : List ℕ) → slice_get bytes 0 ≡ None → bytes_that_pass p ≡ union_of_byte_sets (bytes_that_pass p) (first_byte_as_set bytes)
 union-no_first p [] h = sym (union-none p)
 union-no_first p (x ∷ xs) h = cc
@@ -51,7 +51,7 @@ union-first old new (x ∷ xs) byte h e =
 pub union-comm : (xs ys : List ℕ) → union_of_byte_sets xs ys ≡ union_of_byte_sets ys xs
 union-comm xs ys = bytes_where-same _ _ (λ b h. or-comm (contains xs b) (contains ys b))
 
--- one after the other, from the empty set on
+-- A union with two lists that starts from the empty set is the union of both lists.
 pub union-both : (xs ys : List ℕ) → union_of_byte_sets (union_of_byte_sets [] xs) ys ≡ union_of_byte_sets xs ys
 union-both xs ys = bytes_where-same _ _ (λ b h. ap (λ t. t || contains ys b) (contains-bytes_where (contains xs) b h))
 
@@ -65,7 +65,7 @@ or-twice : (s t : Bool) → (s || (s || t)) ≡ (s || t)
 or-twice true t = refl
 or-twice false t = refl
 
--- what is there already makes no difference
+-- A second union with the same set changes nothing.
 pub union-again : (xs ys : List ℕ) → union_of_byte_sets xs (union_of_byte_sets xs ys) ≡ union_of_byte_sets xs ys
 union-again xs ys = bytes_where-same _ _ (λ b h.
     ap (λ t. contains xs b || t) (contains-bytes_where (λ c. contains xs c || contains ys c) b h) ∙ or-twice (contains xs b) (contains ys b))
@@ -75,7 +75,7 @@ union-same xs ys = union-comm (union_of_byte_sets xs ys) ys ∙ ap (union_of_byt
 
 -- ---- First bytes
 
--- the set and the first bytes of these code points
+-- This is the set together with the first bytes of these code points.
 abbrev pub with_first_bytes : List ℕ → Intervals → List ℕ
 with_first_bytes set intervals = bytes_that_pass (λ b. contains set b || intersects (chars_with_first_byte b) intervals)
 
@@ -110,7 +110,7 @@ first_bytes-more old new i rest e = bytes_where-same _ _ (λ b h.
     ∙ or_assoc (contains old b) (intersects (chars_with_first_byte b) (i ∷ [])) (intersects (chars_with_first_byte b) rest)
     ∙ ap (λ t. contains old b || t) (sym (meet-cons (chars_with_first_byte b) i rest)))
 
--- an item of a list, where the rest is to come
+-- The first bytes of the next item and then of those behind it are those of all of them.
 pub first_bytes-next : {A : Type 0} (f : A → ℕ × ℕ) (old new : List ℕ) (items : List A) (i : ℕ) (d : A) → i < length items
     → new ≡ with_first_bytes old (f (get_or items i d) ∷ []) → with_first_bytes new (map f (drop (i + 1) items)) ≡ with_first_bytes old (map f (drop i items))
 first_bytes-next {A = A} f old new items i d h e =
@@ -118,12 +118,12 @@ first_bytes-next {A = A} f old new items i d h e =
     first_bytes-more old new (f (get_or items i d)) (map f (drop (i + 1) items)) e
     ∙ ap (λ (xs : List A). with_first_bytes old (map f xs)) (sym (drop-cons items i d h ∙ ap (λ (k : ℕ). get_or items i d ∷ drop k items) next))
 
--- no item is left
+-- If no item is left, no first bytes are added.
 pub first_bytes-end : {A : Type 0} (f : A → ℕ × ℕ) (p : ℕ → Bool) (items : List A) (i : ℕ) → length items ≤ i
     → bytes_that_pass p ≡ with_first_bytes (bytes_that_pass p) (map f (drop i items))
 first_bytes-end {A = A} f p items i h = sym (first_bytes-none p) ∙ ap (λ (xs : List A). with_first_bytes (bytes_that_pass p) (map f xs)) (sym (drop_all i items h))
 
--- ---- Members one after another
+-- ---- The list of members
 
 bytes_from-cons : (set : List ℕ) (n : ℕ) → n < 256 → set_bytes_from set n ≡ (if contains set n then n ∷ set_bytes_from set (n + 1) else set_bytes_from set (n + 1))
 unfolding set_bytes_from

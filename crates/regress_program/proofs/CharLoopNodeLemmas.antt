@@ -19,7 +19,7 @@ shaped-leaf narrow (loop q s e loopee) h = grind arith
 shaped-leaf narrow (loop_1_char_body q loopee) h = grind arith
 shaped-leaf narrow _ h = refl
 
--- where loops are left as they are, the node is
+-- If char loops are disabled, the node stays the same.
 pub shaped-plain : (n : Node) → node_with_char_loops_if_enabled false n ≡ n
 unfolding node_with_char_loops_if_enabled
 shaped-plain (cat first rest) = rw (shaped-plain first, shaped-plain rest) refl
@@ -30,7 +30,7 @@ shaped-plain (loop q s e loopee) = rw (shaped-plain loopee) refl
 shaped-plain (loop_1_char_body q loopee) = rw (shaped-plain loopee) refl
 shaped-plain _ = refl
 
--- where they are narrow, it is the optimized one
+-- If char loops are enabled, the node is the optimized one.
 pub shaped-narrow : (n : Node) → node_with_char_loops_if_enabled true n ≡ optimized n
 unfolding node_with_char_loops_if_enabled optimized
 shaped-narrow (cat first rest) = rw (shaped-narrow first, shaped-narrow rest) refl
@@ -50,7 +50,7 @@ shaped-narrow _ = refl
 abbrev stays : Node → Bool
 stays n = every_node_passes (λ m. not (becomes_char_loop m)) n
 
--- where no loop is to be optimized, the node is as it was
+-- A node in which no loop becomes a char loop is not changed by optimizing.
 pub optimized-same : (n : Node) → every_node_passes (λ m. not (becomes_char_loop m)) n ≡ true → optimized n ≡ n
 unfolding optimized
 optimized-same (cat first rest) h =
@@ -75,7 +75,7 @@ optimized-same (loop q s e loopee) h =
 optimized-same (loop_1_char_body q loopee) h = ap (loop_1_char_body q) (optimized-same loopee h)
 optimized-same _ h = refl
 
--- ---- Narrow loops take no more room
+-- ---- The size of a node with char loops
 
 pub size-shaped : (narrow : Bool) (n : Node) → node_insn_count (node_with_char_loops_if_enabled narrow n) ≤ node_insn_count n
 unfolding node_with_char_loops_if_enabled node_insn_count
@@ -107,7 +107,7 @@ loops-shaped narrow (loop q s e loopee) = go (narrow && reads_one_character loop
 loops-shaped narrow (loop_1_char_body q loopee) = loops-shaped narrow loopee
 loops-shaped narrow _ = le_refl _
 
--- ---- What stands beside the code stays
+-- ---- What optimizing leaves unchanged
 
 pub brackets-optimized : (n : Node) → brackets_of (optimized n) ≡ brackets_of n
 unfolding optimized brackets_of

@@ -10,7 +10,7 @@ use Rattle.regex_meaning.specs.StartPredicate.{bytes_that_pass}
 use Rattle.regex_meaning.specs.WellFormedTrees.{IsWellFormed}
 use Rattle.regex_meaning.specs.CompilationRelation.{Insn, JustFail, Char, MatchAny, MatchAnyExceptLineTerminator, BackRef, Alt, Jump, EnterLoop, LoopAgain, Goal}
 use Rattle.regex_meaning.specs.CompilationRelation.{BeginCaptureGroup, EndCaptureGroup, Loop1CharBody, AsciiBracket, Bracket, ByteSeq, Counters, Program, HasInsnsBetween}
-use Rattle.regex_meaning.specs.CompilationRelation.{IsStringCode, AreStringsCode, IsCode, IsByteProgramOfTree, lookaround_insn, ordered, is_uninverted_ascii_class}
+use Rattle.regex_meaning.specs.CompilationRelation.{IsStringCode, AreStringsCode, IsCode, IsByteProgramOfTree, lookaround_insn, reversed_if_in_lookbehind, is_uninverted_ascii_class}
 use Rattle.regex_meaning.specs.CompilationRelation.{char_set_insn}
 use Rattle.regex_meaning.specs.CompilationRelation.{byte_set_insn, anchor_insn, word_boundary_insn, chunks}
 use Rattle.regex_meaning.proofs.StartPredicateSoundness.{predicate-sound}
@@ -29,7 +29,7 @@ same_mark : (i i' l l' b b' : ℕ) → i ≡ i' → l ≡ l' → b ≡ b' → ma
 same_mark i i' l l' b b' ei el eb = ap (λ x. mark x l b) ei ∙ ap (λ x. mark i' x b) el ∙ ap (λ x. mark i' l' x) eb
 
 module _ (p : Program) where
-  -- instructions that stand somewhere have their marks
+  -- An instruction between others is found at its place.
   has_one : (pre post : List Insn) (x : Insn) (at : ℕ) → at ≡ length pre → p.insns ≡ pre ++ x ∷ post → slice_get p.insns at ≡ Some x
   has_one pre post x at a e = ap (λ is. slice_get is at) e ∙ ap (λ n. slice_get (pre ++ x ∷ post) n) a ∙ slice_get-seam pre x post
 
@@ -48,18 +48,18 @@ module _ (p : Program) where
       subst (λ x. IsStringCode p icase d s (mark at l b) x) (sym k)
       (has_all (string_code p.flags.unicode icase d s) pre post at l b (at + length s) a e (omega (arith, length-string_code p.flags.unicode icase d s)))
 
-  -- one instruction
+  -- A single instruction between others lies between its counters.
   single : (x : Insn) (pre post : List Insn) (at l b : ℕ) (n : Counters) → at ≡ length pre → p.insns ≡ pre ++ x ∷ post
       → n ≡ mark (at + 1) (l + 0) (b + 0) → HasInsnsBetween p (x ∷ []) (mark at l b) n
   single x pre post at l b n a e k =
       subst (λ m. HasInsnsBetween p (x ∷ []) (mark at l b) m) (sym (k ∙ same_mark (at + 1) (at + 1) (l + 0) l (b + 0) b refl (omega arith) (omega arith)))
       (has_all (x ∷ []) pre post at l b (at + 1) a e refl)
 
-  -- what stands behind a part
+  -- The second of two parts stands behind the code before it and the first part.
   behind : (pre xs ys post : List Insn) → p.insns ≡ pre ++ ((xs ++ ys) ++ post) → p.insns ≡ (pre ++ xs) ++ (ys ++ post)
   behind pre xs ys post e = e ∙ ap (λ is. pre ++ is) (append_assoc xs ys post) ∙ sym (append_assoc pre xs (ys ++ post))
 
-  -- the same of brackets
+  -- The brackets of the second of two parts stand behind those before it and of the first part.
   brackets_behind : (pre xs ys post : List BracketContents) → p.brackets ≡ pre ++ ((xs ++ ys) ++ post) → p.brackets ≡ (pre ++ xs) ++ (ys ++ post)
   brackets_behind pre xs ys post e = e ∙ ap (λ is. pre ++ is) (append_assoc xs ys post) ∙ sym (append_assoc pre xs (ys ++ post))
 
@@ -95,7 +95,7 @@ module _ (p : Program) where
             (k ∙ same_mark _ _ l l b b (omega arith) refl refl),
       )
 
-  -- a bracket, as its set is one of bytes or not
+  -- The code of a bracket is an ASCII bracket or refers to the bracket's contents.
   bracket_is_code : (ascii : Bool) (contents : BracketContents) (pre post : List Insn) (pre_b post_b : List BracketContents) (at l b : ℕ) (n : Counters) → at ≡ length pre
       → p.insns ≡ pre ++ (((if ascii then AsciiBracket (bytes_that_pass (in_intervals contents.intervals)) else Bracket b) ∷ []) ++ post)
       → b ≡ length pre_b → p.brackets ≡ pre_b ++ ((if ascii then [] else contents ∷ []) ++ post_b)
@@ -120,7 +120,7 @@ module _ (p : Program) where
   code_stands d (char_set members) pre post pre_b post_b at l b n a e ab eb k = single (char_set_insn members) pre post at l b n a e k
   code_stands d (byte_set members) pre post pre_b post_b at l b n a e ab eb k = single (byte_set_insn members) pre post at l b n a e k
   code_stands d (byte_sequence bytes) pre post pre_b post_b at l b n a e ab eb k =
-      let cs = map ByteSeq (ordered d (chunks bytes)) in
+      let cs = map ByteSeq (reversed_if_in_lookbehind d (chunks bytes)) in
       let len : length cs ≡ length (chunks bytes) = length-code_of p.flags.unicode d (byte_sequence bytes) at l b in
       subst (λ x. HasInsnsBetween p cs (mark at l b) x) (sym (k ∙ same_mark _ _ (l + 0) l (b + 0) b refl (omega arith) (omega arith)))
       (has_all cs pre post at l b (at + length (chunks bytes)) a e (omega arith))
@@ -247,12 +247,12 @@ module _ (p : Program) where
             (k ∙ same_mark _ _ _ _ _ _ (omega arith) refl refl),
       )
 
--- it has as many instructions as the tree is large
+-- The program has as many instructions as the tree needs.
 pub compiled-length : (t : Tree) → length (compiled t).insns ≡ node_insn_count t.root
 unfolding compiled
 compiled-length t = length-code_of t.flags.unicode false t.root 0 0 0
 
--- the program of a tree is its code
+-- The program compiled from a well-formed tree is a byte program of that tree.
 pub compiled-is_code : (t : Tree) → IsWellFormed t.root → IsByteProgramOfTree (compiled t) t
 unfolding compiled
 compiled-is_code t w =

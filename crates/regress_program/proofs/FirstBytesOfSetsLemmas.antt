@@ -14,9 +14,9 @@ use Rattle.regex_meaning.proofs.FirstByteOfCharacter.{in_range-true, true-in_ran
 use Rattle.regex_pattern_front.proofs.ByteSetMemberLemmas.{bytes_where-same}
 use Rattle.regex_meaning.proofs.BoolLemmas.{and-left, and-right, same-truth}
 
--- ---- Meeting
+-- ---- Sets that share a number
 
--- an element that passes
+-- An element of the list passes the test.
 record Passes {A : Type 0} (test : A → Bool) (xs : List A) : Type 0 where
   this : A
   passes : test this ≡ true
@@ -35,7 +35,7 @@ some test (x ∷ xs) h = by (test x) refl (λ k. some test xs k)
 abbrev touches : ℕ × ℕ → ℕ × ℕ → Bool
 touches x y = nat_le x.0 x.1 && nat_le y.0 y.1 && nat_le x.0 y.1 && nat_le y.0 x.1
 
--- two intervals touch exactly if they share a number
+-- Two intervals that share a number touch.
 share : (x y : ℕ × ℕ) (c : ℕ) → is_in_range x.0 x.1 c ≡ true → is_in_range y.0 y.1 c ≡ true → touches x y ≡ true
 share x y c h k =
     let in_x = true-in_range x.0 x.1 c h in
@@ -55,7 +55,7 @@ shared x y h =
     (leb-true x.0 y.1 (and-right _ _ (and-left _ _ h)))
     (leb-true y.0 x.1 (and-right _ _ h))
 
--- so do two sets
+-- Two sets that share a number intersect.
 meet_at : (xs ys : Intervals) (c : ℕ) → in_intervals xs c ≡ true → in_intervals ys c ≡ true → intersects xs ys ≡ true
 meet_at xs ys c h k =
     let x = some (λ i. is_in_range i.0 i.1 c) xs h in
@@ -151,7 +151,7 @@ in_without these (other ∷ others) c =
 a_code_point : (c : ℕ) → in_intervals ((0, 0x10_FFFF) ∷ []) c ≡ nat_le c 0x10_FFFF
 a_code_point c = grind (arith, nat_tests)
 
--- all code points but these, however they are given
+-- The first bytes of a complement are the same for all intervals that describe it.
 pub first_bytes-inverted : (these others : Intervals) → ((c : ℕ) → in_intervals others c ≡ (nat_le c 0x10_FFFF && not (in_intervals these c)))
     → first_bytes others ≡ first_bytes (intervals_minus ((0, 0x10_FFFF) ∷ []) these)
 first_bytes-inverted these others e =

@@ -8,7 +8,7 @@ use Rattle.regress_program.specs.TryFoldOverTreeNodes.{continued_by, in_sequence
 use Rattle.regress_program.specs.AtMostOneGoalNodeCheck.{visit_goal}
 use Rattle.regress_program.specs.declared.emit.well_formedness_check.SecondGoalNodeDetector.{SecondGoalNodeDetector}
 
--- what is known where so many were found
+-- This is the state of the walk after `n` goals, which stops at the second one.
 abbrev found_so_far : ℕ → Option SecondGoalNodeDetector
 found_so_far zero = Some (record { found = false })
 found_so_far (suc zero) = Some (record { found = true })
@@ -63,7 +63,7 @@ walked-goals (loop_1_char_body q loopee) =
 walked-goals goal = λ k. let next : suc k ≡ k + 1 = omega arith in one_more k ∙ ap found_so_far next
 walked-goals n = no_goal n (λ it. refl)
 
--- where the walk goes on to its end, exactly one was found or none
+-- A walk that goes on to its end says whether the tree has exactly one goal.
 found_one : (n : ℕ) (it : SecondGoalNodeDetector) → found_so_far n ≡ Some it → it.found ≡ (n == 1)
 found_one zero it e = cc
 found_one (suc zero) it e = cc

@@ -9,7 +9,7 @@ use Rattle.std.proofs.lemmas.List.{length-replicate}
 use Rattle.std.proofs.lemmas.List.Sums.{sum_by-cons}
 use Rattle.regex_meaning.specs.NumberListHelpers.{contains, numbers_from}
 use Rattle.regex_meaning.specs.Tree.{Node, cat, alt, capture_group, lookaround, loop, loop_1_char_body, group_ids, every_node_passes}
-use Rattle.regex_meaning.specs.WellFormedTrees.{encloses, each_id_stands_once, IsWellFormed, only_goal_node_is_last, has_exact_group_range, refers_to_a_group}
+use Rattle.regex_meaning.specs.WellFormedTrees.{range_is_ids_of_enclosed_groups, each_id_stands_once, IsWellFormed, only_goal_node_is_last, has_exact_group_range, refers_to_a_group}
 use Rattle.regex_meaning.specs.WellFormedTrees.{has_order_in_quantifier, has_one_character_body, has_text_in_sequence, set_sizes_and_characters_fit_instructions}
 use Rattle.regex_meaning.proofs.WellFormedTreesLemmas.{clauses, by_clauses}
 use Rattle.regex_meaning.proofs.StartPredicateLemmas.{all-contains}
@@ -18,7 +18,7 @@ use Rattle.regex_pattern_front.proofs.ByteSetMemberLemmas.{contains-numbers_from
 use Rattle.regress_program.specs.LeafNodesAndOptimizableLoops.{is_leaf}
 use Rattle.regress_program.specs.GroupIdSpans.{group_id_span_as_numbers}
 use Rattle.regress_program.specs.declared.emit.group_id_and_range_check.GroupIdCountAndBounds as spans
-use Rattle.regress_program.specs.GroupIdCheck.{is_outside_bitmap, is_group_id_seen, are_distinct_unseen, least_group_id, id_end}
+use Rattle.regress_program.specs.GroupIdCheck.{is_outside_bitmap, is_group_id_seen, are_distinct_unseen, least_group_id, end_of_group_ids}
 use Rattle.regress_program.specs.GroupIdCheck.{GroupIdCountAndSpanNumbers, count_and_span_of_group_ids, joined, has_exact_group_ids}
 use Rattle.regress_program.specs.GroupIdCheck.{is_well_formed_node}
 use Rattle.regex_meaning.proofs.BoolLemmas.{or-false-left, or-false-right, same-truth, and-left, and-right}
@@ -42,7 +42,7 @@ four false b c d = refl
 six : (a b c d e f : Bool) → (((a && b) && (c && d)) && (e && f)) ≡ (((a && c) && e) && ((b && d) && f))
 six a b c d e f = ap (λ t. t && (e && f)) (four a b c d) ∙ four (a && c) (b && d) e f
 
--- ---- The table
+-- ---- The bitmap of seen ids
 
 pub none-seen : (n k : ℕ) → is_group_id_seen (replicate n 0) k ≡ is_outside_bitmap n k
 none-seen n k = ap₂ (λ l b. is_outside_bitmap l k || b) (length-replicate n 0) (no-bits n k) ∙ or-false (is_outside_bitmap n k)
@@ -51,11 +51,11 @@ pub seen-set : (bits : List ℕ) (id k : ℕ) → id / 64 < length bits → is_g
 seen-set bits id k within =
     ap₂ (λ l b. is_outside_bitmap l k || b) (length-set bits (id / 64) _) (bit-set bits id k within) ∙ sym (or_assoc (is_outside_bitmap (length bits) k) (has_bit bits k) (k == id))
 
--- one past the words is seen already
+-- An id behind the words of the bitmap counts as seen.
 pub seen-past : (bits : List ℕ) (id : ℕ) → length bits ≤ id / 64 → id < 65536 → is_group_id_seen bits id ≡ true
-seen-past bits id id_end h =
+seen-past bits id end_of_group_ids h =
     let few : (length bits == 1024) ≡ false = ne_eqb (length bits) 1024 (λ e. absurd (omega arith)) in
-    or_left (is_outside_bitmap (length bits) id) _ (and_from (not (length bits == 1024)) (nat_le (length bits) (id / 64)) (ap not few) (le-leb (length bits) (id / 64) id_end))
+    or_left (is_outside_bitmap (length bits) id) _ (and_from (not (length bits == 1024)) (nat_le (length bits) (id / 64)) (ap not few) (le-leb (length bits) (id / 64) end_of_group_ids))
 
 pub seen-again : (f : ℕ → Bool) (id k : ℕ) → f id ≡ true → f k ≡ (f k || k == id)
 seen-again f id k h =
@@ -101,11 +101,11 @@ fresh-change (id ∷ ids) f g h u =
     (λ k c. or_from (g k) (k == id) (u k (or_right (nat_eq k id) (contains ids k) c)) (or-false-right (f k) (k == id) (fresh-unseen ids (λ j. f j || j == id) k rest c))) in
     rw (here, later)
 
--- where there is a bit for each id, and none is set, none is seen
+-- A bitmap of zeros for all ids checks a node as if no id were seen.
 pub none_stand : (n : Node) → has_exact_group_ids (is_group_id_seen (replicate 1024 0)) n ≡ has_exact_group_ids (λ k. false) n
 none_stand n = ap (λ b. b && every_node_passes has_exact_group_range n) (fresh-same (is_group_id_seen (replicate 1024 0)) (λ k. false) (group_ids n) (none-seen 1024))
 
--- ids that are fresh at all are where none is seen
+-- Ids that are distinct and unseen by any test are so if none is seen.
 pub unseen_stand : (n : Node) (f : ℕ → Bool) → true ≡ has_exact_group_ids f n → true ≡ has_exact_group_ids (λ k. false) n
 unseen_stand n f h =
     let fresh = fresh-change (group_ids n) f (λ k. false) (and-left (are_distinct_unseen f (group_ids n)) (every_node_passes has_exact_group_range n) (sym h)) (λ k c. refl) in
@@ -131,7 +131,7 @@ unfolding seen_count
 count-same f g zero e = refl
 count-same f g (suc n) e = rw (count-same f g n (λ k h. e k (omega arith)), e n (omega arith))
 
--- one that is past n, or seen before, is no new one
+-- An id that is not below `n` does not change how many below `n` are seen.
 count-past : (f : ℕ → Bool) (id n : ℕ) → n ≤ id → seen_count (λ k. f k || k == id) n ≡ seen_count f n
 count-past f id n h = count-same (λ k. f k || k == id) f n (λ k b. ap (λ t. f k || t) (ne_eqb k id (λ e. absurd (omega arith))) ∙ or-false (f k))
 
@@ -164,9 +164,9 @@ count-add f id n =
     by_seen true e h = omega (arith, count-again f id n (sym e))
     by_seen false e h = omega (arith, count-new f id n h (sym e))
 
--- fresh ids below n are as many as there is room for
-fresh-length : (ids : List ℕ) (f : ℕ → Bool) (n : ℕ) → are_distinct_unseen f ids ≡ true → id_end ids ≤ n → length ids + seen_count f n ≤ n
-unfolding are_distinct_unseen id_end
+-- Distinct unseen ids below `n` and the seen ones are together at most `n`.
+fresh-length : (ids : List ℕ) (f : ℕ → Bool) (n : ℕ) → are_distinct_unseen f ids ≡ true → end_of_group_ids ids ≤ n → length ids + seen_count f n ≤ n
+unfolding are_distinct_unseen end_of_group_ids
 fresh-length [] f n h p = omega (arith, count-le f n)
 fresh-length (id ∷ ids) f n h p =
     let new = not-true (f id) (and-left (not (f id)) (are_distinct_unseen (λ j. f j || j == id) ids) h) in
@@ -177,16 +177,16 @@ unfolding seen_count
 all_seen g zero e = omega arith
 all_seen g (suc m) e = let top : g m ≡ true = e m (omega arith) in rw top (omega (arith, all_seen g m (λ q h. e q (omega arith))))
 
--- where each number below n is seen or stands among the ids, there are at least n of them
+-- If each number below `n` is seen or among the ids, both are together at least `n`.
 covers : (ids : List ℕ) (f : ℕ → Bool) (n : ℕ) → ((q : ℕ) → q < n → (f q || contains ids q) ≡ true) → n ≤ seen_count f n + length ids
 covers [] f n c = omega (arith, all_seen f n (λ q h. sym (or-false (f q)) ∙ c q h))
 covers (id ∷ ids) f n c =
     omega (arith, covers ids (λ j. f j || j == id) n (λ q h. or_assoc (f q) (q == id) (contains ids q) ∙ c q h), count-add f id n)
 
--- if so and there are no more, none stands twice, and none is past them
+-- If both are together exactly `n`, the ids are distinct, unseen and below `n`.
 covers-fresh : (ids : List ℕ) (f : ℕ → Bool) (n : ℕ) → ((q : ℕ) → q < n → (f q || contains ids q) ≡ true) → seen_count f n + length ids ≡ n
-    → (are_distinct_unseen f ids ≡ true) × (id_end ids ≤ n)
-unfolding are_distinct_unseen id_end
+    → (are_distinct_unseen f ids ≡ true) × (end_of_group_ids ids ≤ n)
+unfolding are_distinct_unseen end_of_group_ids
 covers-fresh [] f n c e = (refl, omega arith)
 covers-fresh (id ∷ ids) f n c e =
     ⊎_elim (λ (h : id < n). by_seen (f id) refl h (λ m. covers-fresh ids (λ j. f j || j == id) n rest_is m))
@@ -199,8 +199,8 @@ covers-fresh (id ∷ ids) f n c e =
     rest_covers = covers ids (λ j. f j || j == id) n rest_is
 
     by_seen : (t : Bool) → t ≡ f id → id < n
-        → (seen_count (λ j. f j || j == id) n + length ids ≡ n → (are_distinct_unseen (λ j. f j || j == id) ids ≡ true) × (id_end ids ≤ n))
-        → ((not (f id) && are_distinct_unseen (λ j. f j || j == id) ids) ≡ true) × (max (id + 1) (id_end ids) ≤ n)
+        → (seen_count (λ j. f j || j == id) n + length ids ≡ n → (are_distinct_unseen (λ j. f j || j == id) ids ≡ true) × (end_of_group_ids ids ≤ n))
+        → ((not (f id) && are_distinct_unseen (λ j. f j || j == id) ids) ≡ true) × (max (id + 1) (end_of_group_ids ids) ≤ n)
     by_seen true s h go = absurd (omega (arith, rest_covers, count-again f id n (sym s)))
     by_seen false s h go =
         let later = go (omega (arith, count-new f id n h (sym s))) in
@@ -237,8 +237,8 @@ unfolding least_group_id
 least-append [] ys = omega (arith, least-most ys)
 least-append (x ∷ xs) ys = omega (arith, least-append xs ys)
 
-past-append : (xs ys : List ℕ) → id_end (xs ++ ys) ≡ max (id_end xs) (id_end ys)
-unfolding id_end
+past-append : (xs ys : List ℕ) → end_of_group_ids (xs ++ ys) ≡ max (end_of_group_ids xs) (end_of_group_ids ys)
+unfolding end_of_group_ids
 past-append [] ys = omega arith
 past-append (x ∷ xs) ys = omega (arith, past-append xs ys)
 
@@ -248,8 +248,8 @@ least-le [] k c = cc
 least-le (id ∷ ids) k c =
     ⊎_elim (λ (e : nat_eq k id ≡ true). omega (arith, eqb-true k id e)) (λ (e : contains ids k ≡ true). omega (arith, least-le ids k e)) (or_cases (nat_eq k id) (contains ids k) c)
 
-past-gt : (ids : List ℕ) (k : ℕ) → contains ids k ≡ true → k < id_end ids
-unfolding id_end
+past-gt : (ids : List ℕ) (k : ℕ) → contains ids k ≡ true → k < end_of_group_ids ids
+unfolding end_of_group_ids
 past-gt [] k c = cc
 past-gt (id ∷ ids) k c =
     ⊎_elim (λ (e : nat_eq k id ≡ true). omega (arith, eqb-true k id e)) (λ (e : contains ids k ≡ true). omega (arith, past-gt ids k e)) (or_cases (nat_eq k id) (contains ids k) c)
@@ -260,13 +260,13 @@ le-least [] s b h = b
 le-least (id ∷ ids) s b h =
     omega (arith, h id (or_left (nat_eq id id) (contains ids id) (nat_eq-refl id)), le-least ids s b (λ k c. h k (or_right (nat_eq k id) (contains ids k) c)))
 
-past-le : (ids : List ℕ) (e : ℕ) → ((k : ℕ) → contains ids k ≡ true → k < e) → id_end ids ≤ e
-unfolding id_end
+past-le : (ids : List ℕ) (e : ℕ) → ((k : ℕ) → contains ids k ≡ true → k < e) → end_of_group_ids ids ≤ e
+unfolding end_of_group_ids
 past-le [] e h = omega arith
 past-le (id ∷ ids) e h =
     omega (arith, h id (or_left (nat_eq id id) (contains ids id) (nat_eq-refl id)), past-le ids e (λ k c. h k (or_right (nat_eq k id) (contains ids k) c)))
 
--- ---- Numbers in a row
+-- ---- Successive numbers
 
 numbers-contain : (first count k : ℕ) → contains (numbers_from first count) k ≡ true → (first ≤ k) × (k < first + count)
 numbers-contain first zero k c = cc
@@ -277,9 +277,9 @@ numbers-contain first (suc count) k c =
 
 -- ---- Distinct ids of a span
 
--- where they are as many as the span is wide, each of it is there
-all_there : (ids : List ℕ) (f : ℕ → Bool) (s e q : ℕ) → are_distinct_unseen f ids ≡ true → s ≤ least_group_id ids → id_end ids ≤ e → e ≤ length ids + s → s ≤ q → q < e → contains ids q ≡ true
-unfolding are_distinct_unseen id_end
+-- If there are as many distinct ids as the span is wide, each number of the span is among them.
+all_there : (ids : List ℕ) (f : ℕ → Bool) (s e q : ℕ) → are_distinct_unseen f ids ≡ true → s ≤ least_group_id ids → end_of_group_ids ids ≤ e → e ≤ length ids + s → s ≤ q → q < e → contains ids q ≡ true
+unfolding are_distinct_unseen end_of_group_ids
 all_there ids f s e q fresh low high enough above below = by_test (contains ids q) refl
   where
     by_test : (t : Bool) → t ≡ contains ids q → t ≡ true
@@ -292,26 +292,26 @@ all_there ids f s e q fresh low high enough above below = by_test (contains ids 
         let whole : are_distinct_unseen seen (q ∷ ids) ≡ true = and_from (not (nat_lt q s)) (are_distinct_unseen (λ k. nat_lt k s || k == q) ids) (ap not (le-ltb q s above)) rest in
         absurd (omega (arith, fresh-length (q ∷ ids) seen e whole (omega arith), count-below s e))
 
-as_many : (ids : List ℕ) (f : ℕ → Bool) (s e : ℕ) → are_distinct_unseen f ids ≡ true → s ≤ e → ((k : ℕ) → contains ids k ≡ true → s ≤ k) → id_end ids ≤ e → length ids + s ≤ e
+as_many : (ids : List ℕ) (f : ℕ → Bool) (s e : ℕ) → are_distinct_unseen f ids ≡ true → s ≤ e → ((k : ℕ) → contains ids k ≡ true → s ≤ k) → end_of_group_ids ids ≤ e → length ids + s ≤ e
 as_many ids f s e fresh order low high =
     let seen = λ (k : ℕ). nat_lt k s in
     let again = fresh-change ids f seen fresh (λ k c. le-ltb k s (low k c)) in
     omega (arith, fresh-length ids seen e again high, count-below s e)
 
-pub encloses-fills : (contents : Node) (f : ℕ → Bool) (s e : ℕ) → s ≤ 2 ^ 16 → e ≤ 2 ^ 16 → are_distinct_unseen f (group_ids contents) ≡ true
-    → (nat_le s e && (min (length (group_ids contents)) (2 ^ 64 - 1) == (e - s)) && nat_le s (least_group_id (group_ids contents)) && nat_le (id_end (group_ids contents)) e) ≡ encloses s e contents
-encloses-fills contents f s e bs be fresh =
+pub range_is_ids_of_enclosed_groups-fills : (contents : Node) (f : ℕ → Bool) (s e : ℕ) → s ≤ 2 ^ 16 → e ≤ 2 ^ 16 → are_distinct_unseen f (group_ids contents) ≡ true
+    → (nat_le s e && (min (length (group_ids contents)) (2 ^ 64 - 1) == (e - s)) && nat_le s (least_group_id (group_ids contents)) && nat_le (end_of_group_ids (group_ids contents)) e) ≡ range_is_ids_of_enclosed_groups s e contents
+range_is_ids_of_enclosed_groups-fills contents f s e bs be fresh =
     let ids = group_ids contents in
     let named = numbers_from s (e - s) in
     let count = min (length ids) (2 ^ 64 - 1) == (e - s) in
-    same-truth (nat_le s e && count && nat_le s (least_group_id ids) && nat_le (id_end ids) e) (encloses s e contents)
+    same-truth (nat_le s e && count && nat_le s (least_group_id ids) && nat_le (end_of_group_ids ids) e) (range_is_ids_of_enclosed_groups s e contents)
     (λ h.
-    let h3 = and-left (nat_le s e && count && nat_le s (least_group_id ids)) (nat_le (id_end ids) e) h in
+    let h3 = and-left (nat_le s e && count && nat_le s (least_group_id ids)) (nat_le (end_of_group_ids ids) e) h in
     let h2 = and-left (nat_le s e && count) (nat_le s (least_group_id ids)) h3 in
     let order : s ≤ e = leb-true s e (and-left (nat_le s e) count h2) in
     let many : min (length ids) (2 ^ 64 - 1) ≡ e - s = eqb-true _ _ (and-right (nat_le s e) count h2) in
     let low : s ≤ least_group_id ids = leb-true s (least_group_id ids) (and-right (nat_le s e && count) (nat_le s (least_group_id ids)) h3) in
-    let high : id_end ids ≤ e = leb-true (id_end ids) e (and-right (nat_le s e && count && nat_le s (least_group_id ids)) (nat_le (id_end ids) e) h) in
+    let high : end_of_group_ids ids ≤ e = leb-true (end_of_group_ids ids) e (and-right (nat_le s e && count && nat_le s (least_group_id ids)) (nat_le (end_of_group_ids ids) e) h) in
     and_from (nat_le s e && list_all (contains named) ids) (list_all (contains ids) named)
     (and_from (nat_le s e) (list_all (contains named) ids) (le-leb s e order)
     (list_all-members (contains named) ids (λ k c. contains-numbers_from k s (e - s) (omega (arith, least-le ids k c)) (omega (arith, past-gt ids k c)))))
@@ -322,18 +322,18 @@ encloses-fills contents f s e bs be fresh =
     let inside = λ (k : ℕ) (c : contains ids k ≡ true). numbers-contain s (e - s) k (all-contains (contains named) ids k (and-right (nat_le s e) (list_all (contains named) ids) h2) c) in
     let there = λ (q : ℕ) (c : contains named q ≡ true). all-contains (contains ids) named q (and-right (nat_le s e && list_all (contains named) ids) (list_all (contains ids) named) h) c in
     let low : s ≤ least_group_id ids = le-least ids s bs (λ k c. (inside k c).0) in
-    let high : id_end ids ≤ e = past-le ids e (λ k c. omega (arith, (inside k c).1)) in
+    let high : end_of_group_ids ids ≤ e = past-le ids e (λ k c. omega (arith, (inside k c).1)) in
     let most : length ids + s ≤ e = as_many ids f s e fresh order (λ k c. (inside k c).0) high in
     let seen = λ (k : ℕ). nat_lt k s in
     let fewest : e ≤ seen_count seen e + length ids =
     covers ids seen e (λ q b. ⊎_elim (λ (g : q < s). or_left (nat_lt q s) (contains ids q) (lt-ltb q s g))
     (λ (g : s ≤ q). or_right (nat_lt q s) (contains ids q) (there q (contains-numbers_from q s (e - s) g (omega arith)))) (cases_lt q s)) in
     let many : min (length ids) (2 ^ 64 - 1) ≡ e - s = omega (arith, count-below s e) in
-    and_from (nat_le s e && count && nat_le s (least_group_id ids)) (nat_le (id_end ids) e)
+    and_from (nat_le s e && count && nat_le s (least_group_id ids)) (nat_le (end_of_group_ids ids) e)
     (and_from (nat_le s e && count) (nat_le s (least_group_id ids)) (and_from (nat_le s e) count (le-leb s e order) (eq-eqb _ _ many)) (le-leb s (least_group_id ids) low))
-    (le-leb (id_end ids) e high))
+    (le-leb (end_of_group_ids ids) e high))
 
--- ---- Each id once
+-- ---- Ids that occur once
 
 count-none : (q : ℕ) (ids : List ℕ) → contains ids q ≡ false → count_by (nat_eq q) ids ≡ 0
 count-none q [] h = refl
@@ -359,14 +359,14 @@ count-one q (id ∷ ids) f h c =
         let there : contains ids q ≡ true = ap (λ t. t || contains ids q) e ∙ c in
         count_by-first q id ids ∙ rw (← e) (omega (arith, go there))
 
-pub each_once : (root : Node) (f : ℕ → Bool) → are_distinct_unseen f (group_ids root) ≡ true → id_end (group_ids root) ≤ length (group_ids root) → each_id_stands_once root ≡ true
+pub each_once : (root : Node) (f : ℕ → Bool) → are_distinct_unseen f (group_ids root) ≡ true → end_of_group_ids (group_ids root) ≤ length (group_ids root) → each_id_stands_once root ≡ true
 each_once root f fresh high =
     let ids = group_ids root in
     list_all-members (λ id. count_by (nat_eq id) ids == 1) (numbers_from 0 (length ids))
     (λ q c. let within = numbers-contain 0 (length ids) q c in
     eq-eqb _ 1 (count-one q ids f fresh (all_there ids f 0 (length ids) q fresh (omega arith) high (omega arith) (omega arith) (omega (arith, within.1)))))
 
-pub once_each : (root : Node) → each_id_stands_once root ≡ true → (are_distinct_unseen (λ k. false) (group_ids root) ≡ true) × (id_end (group_ids root) ≤ length (group_ids root))
+pub once_each : (root : Node) → each_id_stands_once root ≡ true → (are_distinct_unseen (λ k. false) (group_ids root) ≡ true) × (end_of_group_ids (group_ids root) ≤ length (group_ids root))
 once_each root h =
     let ids = group_ids root in
     let none = λ (k : ℕ). false in
@@ -384,13 +384,13 @@ once_each root h =
     none_seen : (n : ℕ) → seen_count (λ k. false) n ≡ 0
     none_seen n = none_are_seen n
 
--- ---- Both spans
+-- ---- The span of two lists of ids
 
 pub span-append : (xs ys : List ℕ) → joined (count_and_span_of_group_ids xs) (count_and_span_of_group_ids ys) ≡ count_and_span_of_group_ids (xs ++ ys)
 span-append xs ys =
     same_span (joined (count_and_span_of_group_ids xs) (count_and_span_of_group_ids ys)) (count_and_span_of_group_ids (xs ++ ys)) (omega (arith, length-append xs ys)) (sym (least-append xs ys)) (sym (past-append xs ys))
 
--- ---- What is found of two parts
+-- ---- The check of two parts
 
 pub found_both : (f : ℕ → Bool) (xs ys : List ℕ) (p q : Bool)
     → ((are_distinct_unseen f xs && p) && (are_distinct_unseen (λ k. f k || contains xs k) ys && q)) ≡ (are_distinct_unseen f (xs ++ ys) && (p && q))
@@ -402,11 +402,11 @@ found_both f xs ys p q = shuffle (are_distinct_unseen f xs) p (are_distinct_unse
     shuffle true false false d = refl
     shuffle false b c d = refl
 
--- the first part decides, where it fails
+-- If the first part fails the check, both parts together fail it.
 pub first_fails : (f : ℕ → Bool) (xs ys : List ℕ) (p q : Bool) → false ≡ (are_distinct_unseen f xs && p) → false ≡ (are_distinct_unseen f (xs ++ ys) && (p && q))
 first_fails f xs ys p q h = ap (λ b. b && (are_distinct_unseen (λ k. f k || contains xs k) ys && q)) h ∙ found_both f xs ys p q
 
--- and else the second
+-- If the first part passes the check, the second part decides.
 pub second_decides : (f g : ℕ → Bool) (xs ys : List ℕ) (p q t : Bool) → true ≡ (are_distinct_unseen f xs && p) → ((k : ℕ) → g k ≡ (f k || contains xs k))
     → t ≡ (are_distinct_unseen g ys && q) → t ≡ (are_distinct_unseen f (xs ++ ys) && (p && q))
 second_decides f g xs ys p q t h same e =
@@ -426,18 +426,18 @@ joined_same a a' b b' e f = ap (λ x. joined x b) e ∙ ap (joined a') f
 pub joined-assoc : (a b c : GroupIdCountAndSpanNumbers) → joined (joined a b) c ≡ joined a (joined b c)
 joined-assoc a b c = same_span (joined (joined a b) c) (joined a (joined b c)) (omega arith) (omega arith) (omega arith)
 
--- what the first fields say of a test of the span
-pub fills-encloses : (contents : Node) (f : ℕ → Bool) (s e count low high : ℕ) (t p : Bool) → s < 2 ^ 16 → e < 2 ^ 16
-    → true ≡ (are_distinct_unseen f (group_ids contents) && p) → count ≡ min (length (group_ids contents)) (2 ^ 64 - 1) → low ≡ least_group_id (group_ids contents) → high ≡ id_end (group_ids contents)
-    → t ≡ (nat_le s e && (count == (e - s)) && nat_le s low && nat_le high e) → t ≡ (are_distinct_unseen f (group_ids contents) && (encloses s e contents && p))
-fills-encloses contents f s e count low high t p bs be found ec el eh et =
+-- The count and the bounds of the ids decide whether they fill the span.
+pub fills-range_is_ids_of_enclosed_groups : (contents : Node) (f : ℕ → Bool) (s e count low high : ℕ) (t p : Bool) → s < 2 ^ 16 → e < 2 ^ 16
+    → true ≡ (are_distinct_unseen f (group_ids contents) && p) → count ≡ min (length (group_ids contents)) (2 ^ 64 - 1) → low ≡ least_group_id (group_ids contents) → high ≡ end_of_group_ids (group_ids contents)
+    → t ≡ (nat_le s e && (count == (e - s)) && nat_le s low && nat_le high e) → t ≡ (are_distinct_unseen f (group_ids contents) && (range_is_ids_of_enclosed_groups s e contents && p))
+fills-range_is_ids_of_enclosed_groups contents f s e count low high t p bs be found ec el eh et =
     let fresh = and-left (are_distinct_unseen f (group_ids contents)) p (sym found) in
     let named = and-right (are_distinct_unseen f (group_ids contents)) p (sym found) in
-    let filled = encloses-fills contents f s e (omega arith) (omega arith) fresh in
+    let filled = range_is_ids_of_enclosed_groups-fills contents f s e (omega arith) (omega arith) fresh in
     et ∙ ap (λ n. nat_le s e && (n == (e - s)) && nat_le s low && nat_le high e) ec
     ∙ ap (λ n. nat_le s e && (min (length (group_ids contents)) (2 ^ 64 - 1) == (e - s)) && nat_le s n && nat_le high e) el
     ∙ ap (λ n. nat_le s e && (min (length (group_ids contents)) (2 ^ 64 - 1) == (e - s)) && nat_le s (least_group_id (group_ids contents)) && nat_le n e) eh
-    ∙ filled ∙ sym (rw (fresh, named) (and-true (encloses s e contents)))
+    ∙ filled ∙ sym (rw (fresh, named) (and-true (range_is_ids_of_enclosed_groups s e contents)))
 
 -- ---- Tests of each node
 
@@ -460,10 +460,10 @@ every-sound m n =
     (every-and (λ x. refers_to_a_group m x && has_order_in_quantifier x) has_one_character_body n
     ∙ ap (λ b. b && every_node_passes has_one_character_body n) (every-and (refers_to_a_group m) has_order_in_quantifier n)))
 
--- ---- The whole test
+-- ---- The check of the whole tree
 
 pub sound_is_well_formed : (root : Node) (f : ℕ → Bool) (count : ℕ) → only_goal_node_is_last root ≡ true → true ≡ (are_distinct_unseen f (group_ids root) && every_node_passes has_exact_group_range root)
-    → count ≡ length (group_ids root) → id_end (group_ids root) ≤ count → every_node_passes (is_well_formed_node count) root ≡ true → IsWellFormed root
+    → count ≡ length (group_ids root) → end_of_group_ids (group_ids root) ≤ count → every_node_passes (is_well_formed_node count) root ≡ true → IsWellFormed root
 sound_is_well_formed root f count last found many high sound =
     let fresh = and-left (are_distinct_unseen f (group_ids root)) (every_node_passes has_exact_group_range root) (sym found) in
     let named = and-right (are_distinct_unseen f (group_ids root)) (every_node_passes has_exact_group_range root) (sym found) in
@@ -503,11 +503,11 @@ well_formed_is_found root f none well_formed =
     let w = clauses root well_formed in
     and_from (are_distinct_unseen f (group_ids root)) (every_node_passes has_exact_group_range root) (fresh-same f (λ k. false) (group_ids root) none ∙ (once_each root w.ids).0) w.enclosed
 
-pub well_formed_has_room : (root : Node) → IsWellFormed root → id_end (group_ids root) ≤ length (group_ids root)
+pub well_formed_has_room : (root : Node) → IsWellFormed root → end_of_group_ids (group_ids root) ≤ length (group_ids root)
 well_formed_has_room root w = (once_each root (clauses root w).ids).1
 
--- so many ids can be counted
-pub few_ids : (root : Node) (f : ℕ → Bool) (p : Bool) → true ≡ (are_distinct_unseen f (group_ids root) && p) → id_end (group_ids root) ≤ 65536 → length (group_ids root) ≤ 65536
+-- Distinct ids below 65536 are at most 65536 in number.
+pub few_ids : (root : Node) (f : ℕ → Bool) (p : Bool) → true ≡ (are_distinct_unseen f (group_ids root) && p) → end_of_group_ids (group_ids root) ≤ 65536 → length (group_ids root) ≤ 65536
 few_ids root f p found high =
     omega (arith, fresh-length (group_ids root) f 65536 (and-left (are_distinct_unseen f (group_ids root)) p (sym found)) high)
 
@@ -515,7 +515,7 @@ pub joined-none : (ids : List ℕ) → joined (record { count = 0; low = 65536; 
 joined-none ids = same_span (joined (record { count = 0; low = 65536; high = 0 }) (count_and_span_of_group_ids ids)) (count_and_span_of_group_ids ids) (omega arith) (omega (arith, least-most ids)) (omega arith)
 
 pub joined-last : (s : GroupIdCountAndSpanNumbers) → s.count < 2 ^ 64 → s.low ≤ 65536 → joined s (count_and_span_of_group_ids []) ≡ s
-unfolding least_group_id id_end
+unfolding least_group_id end_of_group_ids
 joined-last s c l = same_span (joined s (count_and_span_of_group_ids [])) s (omega arith) (omega arith) (omega arith)
 
 pub seen_next : (f g h : ℕ → Bool) (xs ys all : List ℕ) → ((k : ℕ) → g k ≡ (f k || contains xs k)) → ((k : ℕ) → (f k || contains (xs ++ ys) k) ≡ (h k || contains all k))
@@ -523,10 +523,9 @@ pub seen_next : (f g h : ℕ → Bool) (xs ys all : List ℕ) → ((k : ℕ) →
 seen_next f g h xs ys all a b k =
     ap (λ t. t || contains ys k) (a k) ∙ or_assoc (f k) (contains xs k) (contains ys k) ∙ ap (λ t. f k || t) (sym (contains-append xs ys k)) ∙ b k
 
--- ---- A walk that sees ids
+-- ---- A walk that checks ids
 
--- What a walk over the rest of the ids comes to, from what is seen and their span so far, one over all of them comes to
--- from the start. Tests go along with the ids.
+-- The rest of the ids, with what is seen and spanned so far, gives what all ids give.
 pub record IsLeft (at_first : ℕ → Bool) (first : GroupIdCountAndSpanNumbers) (all : List ℕ) (named : Bool) (f : ℕ → Bool) (s : GroupIdCountAndSpanNumbers) (ids : List ℕ) (p : Bool) : Type 0 where
   pub found : (are_distinct_unseen f ids && p) ≡ (are_distinct_unseen at_first all && named)
   pub span : joined s (count_and_span_of_group_ids ids) ≡ joined first (count_and_span_of_group_ids all)
@@ -540,7 +539,7 @@ left-same at_first first all named f s n m e l = record {
   seen = λ k. sym (ap (λ x. f k || contains (group_ids x) k) e) ∙ l.seen k;
 }
 
--- the first ones have been seen
+-- If the first ids pass, the others are left, with the first ones seen and spanned.
 pub left-next : (at_first : ℕ → Bool) (first : GroupIdCountAndSpanNumbers) (all : List ℕ) (named : Bool) (f g : ℕ → Bool) (s t : GroupIdCountAndSpanNumbers) (xs ys : List ℕ) (p q : Bool)
     → IsLeft at_first first all named f s (xs ++ ys) (p && q) → true ≡ (are_distinct_unseen f xs && p) → t ≡ joined s (count_and_span_of_group_ids xs) → ((k : ℕ) → g k ≡ (f k || contains xs k))
     → IsLeft at_first first all named g t ys q
@@ -550,12 +549,12 @@ left-next at_first first all named f g s t xs ys p q l went span seen = record {
   seen = seen_next f g at_first xs ys all seen l.seen;
 }
 
--- one of the first ones is not as it has to be
+-- If the first ids do not pass, all ids together fail.
 pub left-fails : (at_first : ℕ → Bool) (first : GroupIdCountAndSpanNumbers) (all : List ℕ) (named : Bool) (f : ℕ → Bool) (s : GroupIdCountAndSpanNumbers) (xs ys : List ℕ) (p q : Bool)
     → IsLeft at_first first all named f s (xs ++ ys) (p && q) → false ≡ (are_distinct_unseen f xs && p) → false ≡ (are_distinct_unseen at_first all && named)
 left-fails at_first first all named f s xs ys p q l fails = first_fails f xs ys p q fails ∙ l.found
 
--- none is left
+-- If no ids are left, all ids pass.
 pub left-found : (at_first : ℕ → Bool) (first : GroupIdCountAndSpanNumbers) (all : List ℕ) (named : Bool) (f : ℕ → Bool) (s : GroupIdCountAndSpanNumbers) → IsLeft at_first first all named f s [] true → true ≡ (are_distinct_unseen at_first all && named)
 unfolding are_distinct_unseen
 left-found at_first first all named f s l = l.found
@@ -581,9 +580,9 @@ pub left-leaf : (at_first : ℕ → Bool) (first : GroupIdCountAndSpanNumbers) (
     → IsLeft at_first first all named f s (group_ids n) (every_node_passes has_exact_group_range n) → IsLeft at_first first all named f s [] true
 left-leaf at_first first all named f s n h l = let none = leaf-ids n h in rw (none.0, none.1) at l
 
--- what a walk from no id has seen is all
+-- A walk that begins without ids ends with the count and span of all ids.
 pub all_ids : (s none t : spans.GroupIdCountAndBounds) (n : Node) → s ≡ t → group_id_span_as_numbers none ≡ count_and_span_of_group_ids [] → group_id_span_as_numbers t ≡ joined (group_id_span_as_numbers none) (count_and_span_of_group_ids (group_ids n)) → group_id_span_as_numbers s ≡ count_and_span_of_group_ids (group_ids n)
-unfolding least_group_id id_end
+unfolding least_group_id end_of_group_ids
 all_ids s none t n e from_none h =
     ap group_id_span_as_numbers e ∙ h ∙ ap (λ x. joined x (count_and_span_of_group_ids (group_ids n))) from_none ∙ joined-none (group_ids n)
 

@@ -5,7 +5,7 @@ use mathlib.Core.Logic.{◌⊎◌}
 use Rattle.std.specs.Prelude.{min, max}
 use Rattle.std.specs.Int.{is_in_range}
 use Rattle.std.proofs.lemmas.Bool.{cases_eq, cases_lt, lt-ltb, le-ltb}
-use Rattle.regex_meaning.specs.CodeUnits.{Encoding, spelled_in}
+use Rattle.regex_meaning.specs.CodeUnits.{Encoding, code_units_of_character}
 use Rattle.regex_meaning.specs.Outcomes.{in_intervals, exclusive_or}
 use Rattle.regex_meaning.proofs.FirstByteOfCharacter.{in_range-below, in_range-above}
 use Rattle.regex_meaning.proofs.OptionLemmas.{some-same}
@@ -69,7 +69,7 @@ lead-more a c past more = elim (cases_lt c 0x800) [
   ]
 ]
 
--- a character that begins with a key beyond ASCII is beyond ASCII
+-- A character whose first unit has a key beyond ASCII is beyond ASCII.
 past-ascii : (wide : Bool) (c k : ℕ) → key_of_first wide c ≡ k → 128 ≤ k → 128 ≤ c
 past-ascii wide c k is past = elim (cases_lt c 128) [
   | inl low ↦ (let own = ascii-key wide c low in absurd (omega (arith, own, is, past, low)))
@@ -86,30 +86,30 @@ bytes-between i from first last begins f l e w c is low most k past at =
     let down : first_utf8_byte c ≤ first_utf8_byte i.last = lead-more c i.last beyond most in
     inr (omega (arith, f, up, same), omega (arith, l, down, below, same))
 
--- ---- The step at one key
+-- ---- The read length at one key
 
 pub step-asked : (wide : Bool) (test : ℕ → Bool) (k step : ℕ) → step ≡ 5 → IsReadLengthRightForKey wide test k step
 step-asked wide test k step asks e w c is first = rw asks refl
 
 step-alike : (wide : Bool) (f g : ℕ → Bool) (k step : ℕ) → ((c : ℕ) → f c ≡ g c) → IsReadLengthRightForKey wide f k step → IsReadLengthRightForKey wide g k step
 step-alike wide f g k step same h e w c is first =
-    subst (λ b. is_read_length_right step b (length (spelled_in e c)) ≡ true) (same c) (h e w c is first)
+    subst (λ b. is_read_length_right step b (length (code_units_of_character e c)) ≡ true) (same c) (h e w c is first)
 
 or-none : (a b : Bool) → b ≡ false → (a || b) ≡ a
 or-none true b none = refl
 or-none false b none = none
 
--- a step stays where no character of the key is in the interval
+-- A read length stays right if no character of its key is in the interval.
 step-stays : (wide inverted : Bool) (i : Interval) (k step : ℕ)
     → ((e : Encoding) → is_16_bit_encoding e ≡ wide → (c : ℕ) → is_character_in_encoding e c ≡ true → first_unit_key e (key wide) c ≡ Some k → is_in_range i.first i.last c ≡ false)
     → IsReadLengthWithInterval wide inverted i k step step
 step-stays wide inverted i k step none taken before e w c is first =
-    subst (λ b. is_read_length_right step (exclusive_or inverted b) (length (spelled_in e c)) ≡ true)
+    subst (λ b. is_read_length_right step (exclusive_or inverted b) (length (code_units_of_character e c)) ≡ true)
     (sym (or-none (taken c) (is_in_range i.first i.last c) (none e w c is first))) (before e w c is first)
 
 -- ---- All keys of an interval
 
--- pairs have to decide, and then the interval is added at its keys
+-- From 128 on, a length is right with the interval, whether or not its key is between the keys.
 pub interval-added : (wide inverted : Bool) (i : Interval) (first last k old left new : ℕ) → HasKeysBetween wide i first last → 128 ≤ k
     → IntervalKeepsLength wide i k old left → (first ≤ k → k ≤ last → (left ≡ 5) ⊎ LacksPairsOfKey wide i k → IsReadLengthWithInterval wide inverted i k left new)
     → ((k < first) ⊎ (last < k) → new ≡ left) → IsReadLengthWithInterval wide inverted i k old new
@@ -152,7 +152,7 @@ interval-added wide inverted i first last k old left new between past leaves the
     outside (inr stays) side same =
         subst New (sym (same ∙ stays.0)) (step-stays wide inverted i k old (not-there stays.1 side) taken before)
 
--- one more of its keys
+-- If the next key gets its length, all keys up to it have their lengths with the interval.
 pub key-added : (wide inverted : Bool) (i : Interval) (first key step : ℕ) (left steps : List ℕ) → length steps ≡ 256 → key < 256
     → get_or steps key 0 ≡ get_or left key 0
     → ((get_or steps key 0 ≡ 5) ⊎ LacksPairsOfKey wide i key → IsReadLengthWithInterval wide inverted i key (get_or steps key 0) step)
@@ -190,7 +190,7 @@ key-elsewhere first key step left steps past same k (inl low) =
 key-elsewhere first key step left steps past same k (inr high) =
     get_or-set_other steps key k step 0 (λ e. omega (arith, e, high)) ∙ same k (inr (omega (arith, high)))
 
--- where the loop over the keys ended, it is past each key that is not between them
+-- A key that is not between the first and the last is not between the first and the loop's key.
 pub past-keys : (first last key k : ℕ) → (first < key → key ≤ last + 1) → (k < first) ⊎ (last < k) → (k < first) ⊎ (key ≤ k)
 past-keys first last key k most (inl low) = inl low
 past-keys first last key k most (inr high) = elim (cases_lt first key) [

@@ -23,7 +23,7 @@ use Rattle.regress_program.specs.StartPredicates.{predicate_says_reads_nothing, 
 use Rattle.regress_program.specs.StartPredicates.{start_predicate_may_allocate}
 use Rattle.regress_program.proofs.ByteSetLemmas.{union-both, union-assoc, union-again, union-same}
 
--- ---- Shared fronts
+-- ---- Common prefixes
 
 shared_front-none : (xs : List ℕ) → common_prefix xs [] ≡ []
 shared_front-none [] = refl
@@ -46,7 +46,7 @@ no_front : (front bytes : List ℕ) → length front ≡ 0 → one_of bytes ≡ 
 no_front [] bytes h = refl
 no_front (x ∷ front) bytes h = absurd (omega arith)
 
--- nothing in common but that there is a first byte
+-- If two sequences have no common prefix, their join is the set of their first bytes.
 pub first_bytes_alone : (xs ys front one both : List ℕ) → front ≡ common_prefix xs ys → length front ≡ 0
     → one ≡ union_of_byte_sets [] (first_byte_as_set xs) → both ≡ union_of_byte_sets one (first_byte_as_set ys)
     → one_of both ≡ common_prefix_or_first_bytes (common_prefix xs ys) (union_of_byte_sets (first_byte_as_set xs) (first_byte_as_set ys))
@@ -54,7 +54,7 @@ first_bytes_alone xs ys front one both e none f g =
     no_front (common_prefix xs ys) both (sym (ap length e) ∙ none)
     ∙ ap (common_prefix_or_first_bytes (common_prefix xs ys)) (g ∙ ap (λ zs. union_of_byte_sets zs (first_byte_as_set ys)) f ∙ union-both (first_byte_as_set xs) (first_byte_as_set ys))
 
--- ---- Three in a row
+-- ---- Joins of three starts
 
 front-assoc : (xs ys zs : List ℕ) → common_prefix (common_prefix xs ys) zs ≡ common_prefix xs (common_prefix ys zs)
 front-assoc [] ys zs = refl
@@ -73,7 +73,7 @@ front-assoc (x ∷ xs) (y ∷ ys) (z ∷ zs) = by (x == y) (y == z) refl refl (f
     by false true e f rest = rw (e, f, e) refl
     by false false e f rest = rw (e, f) refl
 
--- a front that is not empty has the first byte of both
+-- A common prefix that is not empty has the first byte of both sequences.
 front-first : (xs ys : List ℕ) (b : ℕ) (bs : List ℕ) → b ∷ bs ≡ common_prefix xs ys → (first_byte_as_set xs ≡ b ∷ []) × (first_byte_as_set ys ≡ b ∷ [])
 front-first [] ys b bs e = cc
 front-first (x ∷ xs) [] b bs e = cc
@@ -129,7 +129,7 @@ join-one-sequence xs ys zs (b ∷ bs) e =
     let firsts = front-first ys zs b bs e in
     rw (firsts.0, firsts.1) (ap one_of (union-same xs (b ∷ [])))
 
--- it makes no difference which two are joined first
+-- Joining is associative.
 pub join-assoc : (a b c : AbstractStartPredicate) → join (join a b) c ≡ join a (join b c)
 join-assoc open_ended b c = refl
 join-assoc arbitrary b c = refl
@@ -154,7 +154,7 @@ join-assoc (one_of xs) (one_of ys) arbitrary = refl
 join-assoc (one_of xs) (one_of ys) (sequence zs) = ap one_of (union-assoc xs ys (first_byte_as_set zs))
 join-assoc (one_of xs) (one_of ys) (one_of zs) = ap one_of (union-assoc xs ys zs)
 
--- ---- What is shared so far
+-- ---- The join of the starts so far
 
 join-reads : (a b : AbstractStartPredicate) → predicate_says_reads_nothing (join a b) ≡ false
 join-reads open_ended b = refl
@@ -208,7 +208,7 @@ after_arm-anything arbitrary = refl
 after_arm-anything (sequence xs) = refl
 after_arm-anything (one_of xs) = refl
 
--- alternatives one after another
+-- Joining two alternatives one after the other is the same as joining both at once.
 pub arms-joined : (shared a b : AbstractStartPredicate) → join_starts_of_alternatives shared (join a b) ≡ join_starts_of_alternatives (join_starts_of_alternatives shared a) b
 arms-joined shared open_ended b = joined_to-arbitrary shared ∙ sym (after_arm-anything b)
 arms-joined shared arbitrary b =
@@ -230,7 +230,7 @@ arms-after shared left right =
     let reads = join-reads (abstract_start_predicate left) (abstract_start_predicate right) in
     sym (arms-joined shared (abstract_start_predicate left) (abstract_start_predicate right)) ∙ after_arm-reads shared both reads ∙ sym (after-reads shared both reads)
 
--- one arm more
+-- Once the left alternative is joined, the right one is left to be joined.
 pub arms-next : (before one all : AbstractStartPredicate) (left right : Node) → one ≡ join_starts_of_alternatives before (abstract_start_predicate left)
     → join_starts_of_alternatives before (abstract_start_predicate (alt left right)) ≡ all → join_starts_of_alternatives one (abstract_start_predicate right) ≡ all
 unfolding abstract_start_predicate
@@ -248,7 +248,7 @@ after-nothing (one_of xs) = refl
 pub leaf-after : (n : Node) (shared after_it b : AbstractStartPredicate) → is_leaf n ≡ true → b ≡ abstract_start_predicate n → after_it ≡ join_starts shared b → after_it ≡ join_nonempty_starts shared (abstract_start_predicate n)
 leaf-after n shared after_it b leaf e f = f ∙ ap (join_starts shared) e ∙ sym (after-reads shared (abstract_start_predicate n) (leaf-bare n leaf).reads)
 
--- ---- Memory
+-- ---- Starts that need no memory
 
 then-no_sequence : (a b : AbstractStartPredicate) (first rest : Bool) → (first || predicate_says_reads_nothing a && rest) ≡ false
     → (first ≡ false → predicate_is_byte_sequence a ≡ false) → (rest ≡ false → predicate_is_byte_sequence b ≡ false) → predicate_is_byte_sequence (first_not_open_ended a b) ≡ false
@@ -272,7 +272,7 @@ if-no_sequence : (test : Bool) (b : AbstractStartPredicate) (inside : Bool) → 
 if-no_sequence false b inside e f = refl
 if-no_sequence true b inside e f = f e
 
--- where no byte sequence is met, none comes out
+-- If making the start of a node cannot allocate, its start is not a byte sequence.
 pub no_sequence : (n : Node) → making_node_start_predicate_may_allocate n ≡ false → predicate_is_byte_sequence (abstract_start_predicate n) ≡ false
 unfolding making_node_start_predicate_may_allocate abstract_start_predicate
 no_sequence (byte_sequence bytes) h = cc
@@ -285,12 +285,12 @@ no_sequence (loop q start_group end_group loopee) h = if-no_sequence (nat_lt 0 q
 no_sequence (loop_1_char_body q loopee) h = if-no_sequence (nat_lt 0 q.min) (abstract_start_predicate loopee) (making_node_start_predicate_may_allocate loopee) h (no_sequence loopee)
 no_sequence _ h = refl
 
--- the arms but the first
+-- If making the start of an alternative cannot allocate, making that of its right arm cannot.
 pub quiet-arms : (left right : Node) → making_node_start_predicate_may_allocate (alt left right) ≡ false → making_node_start_predicate_may_allocate right ≡ false
 unfolding making_node_start_predicate_may_allocate
 quiet-arms left right h = (or_parts (making_node_start_predicate_may_allocate left) (making_node_start_predicate_may_allocate right) h).1
 
--- the first node of a row, and the rest where it is open
+-- If making the start of a node list cannot allocate, making that of its first node cannot.
 pub quiet-first : (first rest : Node) → making_node_start_predicate_may_allocate (cat first rest) ≡ false → making_node_start_predicate_may_allocate first ≡ false
 unfolding making_node_start_predicate_may_allocate
 quiet-first first rest h = (or_parts (making_node_start_predicate_may_allocate first) (predicate_says_reads_nothing (abstract_start_predicate first) && making_node_start_predicate_may_allocate rest) h).0
@@ -305,7 +305,7 @@ quiet-unless : (anchored grows : Bool) → anchored ≡ false → (not anchored 
 quiet-unless false grows e h = h
 quiet-unless true grows e h = cc
 
--- the predicate that comes of a root for which no memory is taken
+-- If making the start predicate cannot allocate, making the start of the root cannot.
 pub quiet-root : (tree : Tree) → (not tree.flags.multiline && is_anchored tree.root) ≡ false → start_predicate_may_allocate tree ≡ false → making_node_start_predicate_may_allocate tree.root ≡ false
 quiet-root tree = quiet-unless (not tree.flags.multiline && is_anchored tree.root) (making_node_start_predicate_may_allocate tree.root)
 
@@ -327,7 +327,7 @@ more_than_three set a b c d rest all e =
     let four : length set ≡ length (a ∷ b ∷ c ∷ d ∷ rest) = ap length (sym all ∙ e) in
     omega (arith, four)
 
--- the members behind one
+-- The members behind equal numbers are the same.
 pub members_behind : (set rest : List ℕ) (a n : ℕ) → n ≡ a → set_bytes_from set (n + 1) ≡ rest → set_bytes_from set (a + 1) ≡ rest
 members_behind set rest a n e h = ap (λ k. set_bytes_from set (k + 1)) (sym e) ∙ h
 
@@ -344,7 +344,7 @@ predicate-elsewhere tree h = rw h
 pub sound-as : (tree : Tree) (p : StartPredicate) → p ≡ start_predicate tree → IsWellFormed tree.root → IsSoundStartPredicateOf p tree.root
 sound-as tree p e w = rw e (predicate-sound tree w)
 
--- the predicate of what the root begins with
+-- The start predicate of a tree that is not anchored comes from the start of its root.
 pub predicate-begun : {E : Type 0} (r : Result declared.StartPredicate E) (b : AbstractStartPredicate) (tree : Tree) → (not tree.flags.multiline && is_anchored tree.root) ≡ false
     → b ≡ abstract_start_predicate tree.root → IfOk r (λ p. predicate_of p ≡ resolved_start_predicate b) → IfOk r (λ p. predicate_of p ≡ start_predicate tree)
 predicate-begun r b tree h e =

@@ -19,7 +19,7 @@ use Rattle.regex_meaning.specs.CompilationRelation.{StartOfLine, EndOfLine, Word
 use Rattle.regex_meaning.specs.CompilationRelation.{BeginCaptureGroup, EndCaptureGroup, BackRef, Lookahead, Lookbehind}
 use Rattle.regex_meaning.proofs.EachElementLemmas.{Each, Each-map, Each-image, Each-reverse}
 use Rattle.regex_meaning.proofs.CodeUnitOffsetsLemmas.{offset-place_at}
-use Rattle.regress_machine.specs.Machine.{State, running, Next, with_some, go_if, scan, act, act_on, test_of, next_insn_at_place, read_one, read_bytes, char_loop_states, has_bytes}
+use Rattle.regress_machine.specs.Machine.{State, running, Next, with_some, go_if, scan, act, act_on, test_of, next_insn_at_place, read_one, read_bytes, char_loop_states, occurs_beside_offset}
 use Rattle.regress_machine.specs.SearchFindsFirstOutcomeAtPlace.{TreeProgramCanSearchText, state_before_first_insn}
 use Rattle.regress_machine.proofs.CharLoopRepetitions.{numbers_between}
 use Rattle.regress_machine.specs.ThreadSimulation.{FindsNothing}
@@ -39,7 +39,7 @@ use Rattle.regress_program.specs.Leaps.{HasBarrierBetween, IsSoundLeap}
 use Rattle.regress_program.specs.LeapCertificates.{AcceptsOnlyPassedUnits, ReadsBytesOver, RepeatsLoop, LookaheadReachesGoal, InsnReachesGoal, CertifiesLeap}
 use Rattle.regress_program.proofs.LeapPassedUnits.{place-behind, char-over, run-to, bytes-over}
 
--- ---- One turn
+-- ---- One step
 
 module _ (e : Encoding) (program : Program) (text : Text) (has : HasUnitsForTables e text) (leap : LeapToGoal) (way : ℕ → Bool) where
   abbrev k : ℕ → ℕ
@@ -48,7 +48,7 @@ module _ (e : Encoding) (program : Program) (text : Text) (has : HasUnitsForTabl
   abbrev NoGoal : (from : ℕ) → Type 0
   NoGoal from = ReachesNoGoal leap e text from
 
-  -- no goal is reached behind units that may be read
+  -- If no goal is reached from an offset, none is reached behind units that may be read.
   no-goal-on : (from to : ℕ) → from ≤ to → ((at : ℕ) → from ≤ at → at < to → may_read_before_goal leap e text at ≡ true) → NoGoal from → NoGoal to
   no-goal-on from to le over none goal there =
       let ahead = there.ahead in
@@ -61,7 +61,7 @@ module _ (e : Encoding) (program : Program) (text : Text) (has : HasUnitsForTabl
         occurs = there.occurs;
       })
 
-  -- where the goal is required, and does not occur
+  -- A state that requires the goal at its offset finds nothing if no goal is reached from there.
   no-goal-stops : (s : State) → PrefixAt (is_16_bit_encoding e) program s.ip 1 (λ ahead. leap.goal) → NoGoal s.pos → FindsNothing program text rightwards (running s)
   no-goal-stops s prefix none = by (goal_occurs_at leap e text s.pos) refl
     where
@@ -75,7 +75,7 @@ module _ (e : Encoding) (program : Program) (text : Text) (has : HasUnitsForTabl
           (prefix e refl).excludes text has s refl 0 (omega arith)
           (as_unit (unit_key_at e k text (s.pos + 0)) ∙ ap (λ at. goal_occurs_at leap e text at) (let z : s.pos + 0 ≡ s.pos = omega arith in z) ∙ fails)
 
-  -- a state of a member that reaches no goal
+  -- A state is dead if it is a member of the certificate and reaches no goal.
   pub record IsDead (s : State) : Type 0 where
     pub member : way s.ip ≡ true
     pub none : NoGoal s.pos
@@ -87,7 +87,7 @@ module _ (e : Encoding) (program : Program) (text : Text) (has : HasUnitsForTabl
     abbrev NoNext : Next → Type 0
     NoNext x = NothingNext program text n rightwards x
 
-    -- ---- Where nothing is read
+    -- ---- Instructions that read nothing
 
     abbrev may : ℕ → Bool
     may i = not (way i)
@@ -119,14 +119,14 @@ module _ (e : Encoding) (program : Program) (text : Text) (has : HasUnitsForTabl
     look-excluded negate continuation (inr inside) =
         and_right (may continuation) (negate || may (s.ip + 1)) (or_from negate (may (s.ip + 1)) inside.0 (leads-excluded (s.ip + 1) inside.1))
 
-    -- ---- Where units are read
+    -- ---- Instructions that read units
 
     moves : (i : Option Insn) → slice_get program.insns s.ip ≡ i → NoNext (act_on program text rightwards i s) → Gone
     moves i is next =
         turn-nothing program text n rightwards s (act program text rightwards s) refl
         (subst (λ x. NoNext x) (sym (ap (λ i. act_on program text rightwards i s) is)) next)
 
-    -- a state behind units that may be read
+    -- A member behind units that may be read finds nothing in shorter searches.
     behind-units : (u : State) → way u.ip ≡ true → s.pos ≤ u.pos → ((at : ℕ) → s.pos ≤ at → at < u.pos → may_read_before_goal leap e text at ≡ true)
         → Drops program text n rightwards (running u)
     behind-units u leads le over = below u (record { member = leads; none = no-goal-on s.pos u.pos le over none })
@@ -158,9 +158,9 @@ module _ (e : Encoding) (program : Program) (text : Text) (has : HasUnitsForTabl
                 by false accepted = nothing-goes program text n rightwards
 
     bytes-read : (e' : Encoding) → e ≡ e' → (bytes : List ℕ) → ReadsBytesOver e k program leap.over way e' bytes s.ip → NoNext (read_bytes text bytes rightwards s)
-    bytes-read utf8 is bytes leads = by (has_bytes (encode_utf8_all text.characters) rightwards bytes s.pos) refl
+    bytes-read utf8 is bytes leads = by (occurs_beside_offset (encode_utf8_all text.characters) rightwards bytes s.pos) refl
       where
-        by : (b : Bool) → has_bytes (encode_utf8_all text.characters) rightwards bytes s.pos ≡ b → NoNext (go_if b (record s { ip = s.ip + 1; pos = s.pos + length bytes }))
+        by : (b : Bool) → occurs_beside_offset (encode_utf8_all text.characters) rightwards bytes s.pos ≡ b → NoNext (go_if b (record s { ip = s.ip + 1; pos = s.pos + length bytes }))
         by true here =
             nothing-go program text n rightwards (record s { ip = s.ip + 1; pos = s.pos + length bytes })
             (behind-units (record s { ip = s.ip + 1; pos = s.pos + length bytes }) leads.1 (omega arith)
@@ -171,7 +171,7 @@ module _ (e : Encoding) (program : Program) (text : Text) (has : HasUnitsForTabl
     bytes-read utf16 is bytes leads = absurd leads
     bytes-read ucs2 is bytes leads = absurd leads
 
-    -- ---- A loop over one character
+    -- ---- Char loops
 
     module _ (test : ℕ → Bool) (accepts : AcceptsOnlyPassedUnits e k program leap.over way (Some test)) (least most : ℕ) (leads : way (s.ip + 2) ≡ true)
         (p : ℕ) (here : place_at text s.pos ≡ Some p) where
@@ -260,7 +260,7 @@ module _ (e : Encoding) (program : Program) (text : Text) (has : HasUnitsForTabl
     leads-nowhere (Some (Lookbehind negate start_group end_group continuation)) is leads =
         stays (Some (Lookbehind negate start_group end_group continuation)) is (leads-excluded continuation leads)
 
-  -- ---- Every number of turns
+  -- ---- Any number of steps
 
   module _ (certifies : CertifiesLeap (is_16_bit_encoding e) program leap way) where
     dead-below : (n : ℕ) (s : State) → IsDead s → NothingBelow program text n rightwards 1 (running s ∷ [])
@@ -282,7 +282,7 @@ certified-sound wide program leap way certifies = record {
       (let P : Bool → Type 0 = λ wide. CertifiesLeap wide program leap way in subst P (sym w) certifies) s is none;
 }
 
--- ---- Where no match begins
+-- ---- Offsets at which no match begins
 
 module _ (e : Encoding) (program : Program) (tree : Tree) (text : Text) (leap : LeapToGoal) (can : TreeProgramCanSearchText program tree text)
     (has : HasUnitsForTables e text) (sound : IsSoundLeap (is_16_bit_encoding e) program leap) where

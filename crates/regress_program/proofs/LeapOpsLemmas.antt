@@ -7,7 +7,7 @@ use Rattle.std.specs.Char.{encode_utf8 as encode}
 use Rattle.std.specs.List.{list_all}
 use Rattle.std.proofs.lemmas.Bool.{cases_lt, lt-ltb, le-ltb, ltb-true, le-leb, eqb-true, and_from, or_right}
 use Rattle.std.proofs.lemmas.Option.{slice_get_within}
-use Rattle.regex_meaning.specs.CodeUnits.{Encoding, utf8, utf16, ucs2, spelled_in}
+use Rattle.regex_meaning.specs.CodeUnits.{Encoding, utf8, utf16, ucs2, code_units_of_character}
 use Rattle.regex_meaning.specs.CompilationRelation.{Program, Insn, LoopFields}
 use Rattle.regex_meaning.specs.CompilationRelation as layout
 use Rattle.regex_meaning.proofs.FirstByteOfCharacter.{scalar-below}
@@ -23,7 +23,7 @@ use Rattle.regress_program.specs.declared.ops.Op.{Op}
 use Rattle.regress_program.specs.declared.ops.Op.TheVariants as op
 use Rattle.regress_program.specs.declared.plan.Plan.{Plan}
 use Rattle.regress_program.specs.TableKeysOfUnits.{key, is_16_bit_encoding, is_read_length_right, read_length_at_key, unit_table_of_set}
-use Rattle.regress_program.specs.Plans.{IsClass, IsOpOf, reads_class_char, span_bytes, IsCharLoopOf, HasCountedLoop}
+use Rattle.regress_program.specs.Plans.{IsClassRightForProgram, IsOpOf, reads_class_char, plan_bytes_in_span, IsCharLoopOf, HasCountedLoop}
 use Rattle.regress_program.specs.PrefixesAndPrefilters.{PrefixAt}
 use Rattle.regress_program.specs.RequiredPrefixAnalysis.{allows_only_key, units_allowed_by_first_set, AreOpsOfProgram, FollowsFromSuccessors}
 use Rattle.regress_program.specs.LeapCertificates.{AcceptsOnlyPassedUnits, ReadsBytesOver, RepeatsLoop, InsnReachesGoal, CertifiesLeap}
@@ -34,7 +34,7 @@ use Rattle.regress_program.proofs.ClosedFirstSetsLemmas.{told-some}
 use Rattle.regress_program.proofs.AppendedEntryLemmas.{get-below}
 use Rattle.regress_program.proofs.RequiredPrefixLemmas.{insn-of, less-prefix, units-there}
 
--- what stands in a list is read with any default
+-- An element of a list is the same whatever the default.
 pub get-default : (xs : List ℕ) (i d e : ℕ) → i < length xs → get_or xs i d ≡ get_or xs i e
 get-default [] i d e h = absurd (omega (arith, h))
 get-default (x ∷ xs) zero d e h = refl
@@ -81,18 +81,18 @@ module _ (P : ℕ → Bool) where
   unfolding encode
   byte-low c h is = rw (lt-ltb c 0x80 h) (all-one c is)
 
-  in-utf8 : (c : ℕ) → list_all P (encode c) ≡ true → list_all P (spelled_in utf8 c) ≡ true
+  in-utf8 : (c : ℕ) → list_all P (encode c) ≡ true → list_all P (code_units_of_character utf8 c) ≡ true
   in-utf8 c h = ap (λ (l : List ℕ). list_all P l) (append-nil (encode c)) ∙ h
 
-  -- a character below 128 is its only unit
-  low-units : (e : Encoding) (c : ℕ) → c < 128 → P c ≡ true → list_all P (spelled_in e c) ≡ true
+  -- A property of a character below 128 holds of its units.
+  low-units : (e : Encoding) (c : ℕ) → c < 128 → P c ≡ true → list_all P (code_units_of_character e c) ≡ true
   low-units utf8 c low is = in-utf8 c (byte-low c low is)
   low-units utf16 c low is = rw (lt-ltb c 0x1_0000 (omega (arith, low))) (all-one c is)
   low-units ucs2 c low is = all-one c is
 
-  -- the units of another one are 128 or greater
+  -- A property of all units from 128 on holds of the units of a character from 128 on.
   high-units : (e : Encoding) (c : ℕ) → 128 ≤ c → is_character_in_encoding e c ≡ true
-      → ((u : ℕ) → 128 ≤ u → u < (if is_16_bit_encoding e then 0x1_0000 else 256) → P u ≡ true) → list_all P (spelled_in e c) ≡ true
+      → ((u : ℕ) → 128 ≤ u → u < (if is_16_bit_encoding e then 0x1_0000 else 256) → P u ≡ true) → list_all P (code_units_of_character e c) ≡ true
   high-units utf8 c high is each = in-utf8 c (bytes-high each c high (scalar-below c is))
   high-units utf16 c high is each = elim (cases_lt c 0x1_0000) [
     | inl one ↦ rw (lt-ltb c 0x1_0000 one) (all-one c (each c high one))
@@ -106,17 +106,17 @@ module _ (P : ℕ → Bool) where
 
 -- ---- The keys of units
 
--- a unit below 128 is its own key
+-- A unit below 128 is its own key.
 key-low-is : (wide : Bool) (u : ℕ) → u < 128 → u ≡ key wide u
 key-low-is false u low = refl
 key-low-is true u low = key-low u u low refl
 
--- the key of another one is 128 or greater
+-- The key of a unit from 128 on is at least 128 and below 256.
 high-key : (wide : Bool) (u : ℕ) → 128 ≤ u → u < (if wide then 0x1_0000 else 256) → (128 ≤ key wide u) × (key wide u < 256)
 high-key false u high below = (high, below)
 high-key true u high below = rw (le-ltb u 128 high) (omega arith, omega (arith, below))
 
--- the key of a character's first unit
+-- The key of the first unit of an ASCII character is the character.
 first-low : (wide : Bool) (c : ℕ) → c < 128 → key_of_first wide c ≡ c
 first-low false c low = rw (lt-ltb c 0x80 low) refl
 first-low true c low = rw (lt-ltb c 0x1_0000 (omega (arith, low))) (sym (key-low-is true c low))
@@ -134,16 +134,16 @@ first-high true c high = elim (cases_lt c 0x1_0000) [
   | inr two ↦ rw (le-ltb c 0x1_0000 two, le-ltb (0xD800 + (c - 0x1_0000) / 0x400) 128 (omega arith)) (omega arith)
 ]
 
--- ---- Characters that are passed
+-- ---- Characters that the leap passes
 
 module _ (leap : Leap) (alike : AreHighKeysAlike leap) where
-  -- a key from 128 on is passed as each of them is
+  -- If a key from 128 on is passed, each key from 128 on is.
   high-passed : (a k : ℕ) → 128 ≤ a → a < 256 → is_passed_key leap a ≡ true → 128 ≤ k → k < 256 → is_passed_key leap k ≡ true
   high-passed a k from below passed high small = alike k high small ∙ sym (alike a from below) ∙ passed
 
-  -- a character, if it is passed as one below 128, or as one from there on
+  -- All units of a character are passed if it is passed when it is cut at 128.
   cut-passed : (e : Encoding) (wide : Bool) → is_16_bit_encoding e ≡ wide → (c : ℕ) → is_character_in_encoding e c ≡ true → is_passed_key leap (min c 128) ≡ true
-      → list_all (λ u. is_passed_key leap (key wide u)) (spelled_in e c) ≡ true
+      → list_all (λ u. is_passed_key leap (key wide u)) (code_units_of_character e c) ≡ true
   cut-passed e wide w c is passed = elim (cases_lt c 128) [
     | inl low ↦
         low-units (λ u. is_passed_key leap (key wide u)) e c low
@@ -155,9 +155,9 @@ module _ (leap : Leap) (alike : AreHighKeysAlike leap) where
         high-passed 128 (key wide u) (omega arith) (omega arith) (subst (λ k. is_passed_key leap k ≡ true) one passed) k.0 k.1)
   ]
 
-  -- a character whose first unit is passed
+  -- If the first unit of a character is passed, all its units are.
   char-passed : (e : Encoding) (wide : Bool) → is_16_bit_encoding e ≡ wide → (c : ℕ) → is_character_in_encoding e c ≡ true
-      → is_passed_key leap (key_of_first wide c) ≡ true → list_all (λ u. is_passed_key leap (key wide u)) (spelled_in e c) ≡ true
+      → is_passed_key leap (key_of_first wide c) ≡ true → list_all (λ u. is_passed_key leap (key wide u)) (code_units_of_character e c) ≡ true
   char-passed e wide w c is passed = cut-passed e wide w c is (elim (cases_lt c 128) [
     | inl low ↦
         subst (λ k. is_passed_key leap k ≡ true) (let same : c ≡ min c 128 = omega (arith, low) in first-low wide c low ∙ same) passed
@@ -167,30 +167,30 @@ module _ (leap : Leap) (alike : AreHighKeysAlike leap) where
         (high-passed (key_of_first wide c) 128 (first-high wide c high) (first-key-below e wide w c is) passed (omega arith) (omega arith))
   ])
 
-  -- the characters of a class that is passed
-  class-passed : (e : Encoding) (wide : Bool) → is_16_bit_encoding e ≡ wide → (program : Program) (class : Class) (test : ℕ → Bool) → IsClass wide program class
+  -- If the leap passes the read lengths of a class, it passes the characters of that class.
+  class-passed : (e : Encoding) (wide : Bool) → is_16_bit_encoding e ≡ wide → (program : Program) (class : Class) (test : ℕ → Bool) → IsClassRightForProgram wide program class
       → test_of program (Some (insn_as_spec_insn class.insn)) ≡ Some test → PassesReadLengths leap class.steps → (c : ℕ) → is_character_in_encoding e c ≡ true
-      → test c ≡ true → list_all (λ u. is_passed_key leap (key wide u)) (spelled_in e c) ≡ true
+      → test c ≡ true → list_all (λ u. is_passed_key leap (key wide u)) (code_units_of_character e c) ≡ true
   class-passed e wide w program class test is tests passes c character accepted =
       char-passed e wide w c character (passes (key_of_first wide c) (first-key-below e wide w c character)
-      (told-some (slice_index_or class.steps (key_of_first wide c) 0) (length (spelled_in e c)) (test c) told accepted))
+      (told-some (slice_index_or class.steps (key_of_first wide c) 0) (length (code_units_of_character e c)) (test c) told accepted))
     where
-      told : is_read_length_right (slice_index_or class.steps (key_of_first wide c) 0) (test c) (length (spelled_in e c)) ≡ true
+      told : is_read_length_right (slice_index_or class.steps (key_of_first wide c) 0) (test c) (length (code_units_of_character e c)) ≡ true
       told =
-          ap (λ o. is_read_length_right (read_length_at_key class.steps o) (test c) (length (spelled_in e c))) (sym (first-key-at e wide w c character))
+          ap (λ o. is_read_length_right (read_length_at_key class.steps o) (test c) (length (code_units_of_character e c))) (sym (first-key-at e wide w c character))
           ∙ is.steps test tests e w c character
 
--- ---- What is read first
+-- ---- The first units of an operation
 
 module _ (plan : Plan) (leap : Leap) (ip : ℕ) where
-  -- one unit, which is the goal
+  -- An operation that begins with one unit arrives at the goal if this unit is a goal.
   pub arrives-by-unit : (k to : ℕ) → ((wide : Bool) (program : Program) → AreOpsOfProgram wide program plan → FollowsFromSuccessors wide program ip (ahead.OneUnit k to))
       → is_goal_key leap k ≡ true → ArrivesAtGoal plan leap ip
   arrives-by-unit k to says goal wide program ops =
       less-prefix wide program ip 1 1 (allows_only_key k) (λ ahead. (leap_to_goal leap).goal) (units-there wide program ip 1 (allows_only_key k) (Some to) (says wide program ops)) (omega arith)
       (λ ahead x less same. ap (λ b. b || nat_le 256 x) (ap (is_goal_key leap) (eqb-true x k same) ∙ goal))
 
-  -- units of a set, which are all the goal's
+  -- An operation that begins with units of a set arrives at the goal if all of them are goals.
   pub arrives-by-units : (set : FirstSet) (count : ℕ) (to : Option ℕ)
       → ((wide : Bool) (program : Program) → AreOpsOfProgram wide program plan → FollowsFromSuccessors wide program ip (ahead.Units set count to))
       → 0 < count → AreAllGoalKeys leap (unit_table_of_set set) → ArrivesAtGoal plan leap ip
@@ -221,8 +221,8 @@ module _ (e : Encoding) (wide : Bool) (is_wide : is_16_bit_encoding e ≡ wide) 
   to-same : (a b : ℕ) → a ≡ b → way a ≡ true → way b ≡ true
   to-same a b same h = subst (λ k. way k ≡ true) same h
 
-  -- the test of a class
-  accepts : (class : Class) (insn : Insn) → IsClass wide program class → insn ≡ insn_as_spec_insn class.insn → PassesReadLengths leap class.steps → (o : Option (ℕ → Bool))
+  -- If the read lengths of a class are passed, the test of its instruction accepts passed units.
+  accepts : (class : Class) (insn : Insn) → IsClassRightForProgram wide program class → insn ≡ insn_as_spec_insn class.insn → PassesReadLengths leap class.steps → (o : Option (ℕ → Bool))
       → test_of program (Some insn) ≡ o → Accepts o
   accepts class insn is same passes None t = tt
   accepts class insn is same passes (Some test) t =
@@ -267,7 +267,7 @@ module _ (e : Encoding) (wide : Bool) (is_wide : is_16_bit_encoding e ≡ wide) 
       (to-same (r.counted.begin + 1) (begin + 1) (ap (λ n. n + 1) r.is_row.1) both.0, to-same r.counted.exit f.exit r.is_row.2 (both.1 refl))
   repeats (Some _) begin number row h = tt
 
-  -- byte sequences are of programs for bytes
+  -- A byte sequence reads only passed units, and stands only in programs for bytes.
   bytes : (f : Encoding) → is_16_bit_encoding f ≡ wide → (bs : List ℕ) (ip : ℕ) → wide ≡ false → PassesUnits leap bs → way (ip + 1) ≡ true
       → ReadsBytesOver e (key wide) program over way f bs ip
   bytes utf8 w bs ip narrow passes h = (subst (λ b. list_all (λ unit. is_passed_key leap (key b unit)) bs ≡ true) (sym narrow) passes, h)
@@ -290,7 +290,7 @@ module _ (e : Encoding) (wide : Bool) (is_wide : is_16_bit_encoding e ≡ wide) 
   op-leads op.Fail ip insn is h = as_form insn layout.JustFail ip is tt
   op-leads (op.UnitChar c) ip insn is h = as_form insn (layout.Char c) ip is (char c ip h.0 h.1)
   op-leads (op.Char c) ip insn is h = as_form insn (layout.Char c) ip is (char c ip h.0 h.1)
-  op-leads (op.Bytes number) ip insn is h = as_form insn _ ip is.insn_is (bytes e is_wide (span_bytes plan is.part) ip h.0 (h.1 is.part is.is_there) h.2)
+  op-leads (op.Bytes number) ip insn is h = as_form insn _ ip is.insn_is (bytes e is_wide (plan_bytes_in_span plan is.part) ip h.0 (h.1 is.part is.is_there) h.2)
   op-leads (op.One number) ip insn is h =
       let c = is.0 in
       reads insn ip is.1 (accepts c.class insn (ops.classes number c.class c.is_there) c.is_class (h.0 c.class c.is_there) (test_of program (Some insn)) refl) h.1
@@ -315,7 +315,7 @@ module _ (e : Encoding) (wide : Bool) (is_wide : is_16_bit_encoding e ≡ wide) 
   op-leads (op.Look l) ip insn is h = as_form insn _ ip is.insn_is (looks l.forward l.negate is.start_group is.end_group l.past ip h)
   op-leads o ip insn is h = runs _ _ ip insn is h.0 h.1
 
--- what is checked certifies the leap
+-- If the operations on the way reach the goal, the way certifies the leap.
 pub certified : (wide : Bool) (program : Program) (plan : Plan) (leap : Leap) (way : ℕ → Bool) → AreOpsOfProgram wide program plan → AreHighKeysAlike leap
     → way 0 ≡ true → OpsOnWayReachGoal wide plan leap way → CertifiesLeap wide program (leap_to_goal leap) way
 certified wide program plan leap way ops alike first all = record { first = first; lead = λ ip member. by ip member (slice_get plan.ops.items ip) refl }

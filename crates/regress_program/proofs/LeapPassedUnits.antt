@@ -9,7 +9,7 @@ use Rattle.regex_meaning.specs.Text.{Text, rightwards, offsets_from}
 use Rattle.regex_meaning.specs.CodeUnitOffsets.{offset}
 use Rattle.regex_meaning.specs.OutcomesWithStepTicks.{nearest_first}
 use Rattle.regex_meaning.specs.Outcomes.{is_some_and}
-use Rattle.regex_meaning.specs.CodeUnits.{Encoding, utf8, spelled_in, text_units_in_encoding}
+use Rattle.regex_meaning.specs.CodeUnits.{Encoding, utf8, code_units_of_character, text_units_in_encoding}
 use Rattle.regex_meaning.proofs.BoolLemmas.{and-left, and-right}
 use Rattle.regress_machine.specs.FirstSetTables.{is_character_in_encoding, HasUnitsForTables, unit_key_at}
 use Rattle.regress_machine.proofs.ExcludedCharLoopExits.{one-of-run, slice_get-behind, inside-of}
@@ -25,7 +25,7 @@ get-front (x ∷ xs) ys (suc i) less = get-front xs ys i (omega (arith, less))
 -- ---- Characters and their units
 
 module _ (units : ℕ → List ℕ) (some : (c : ℕ) → 0 < length (units c)) where
-  -- from the offset of a character on stand its units
+  -- From the offset of a character on stand its units.
   units-of : (cs : List ℕ) (at n p c i : ℕ) → slice_get cs p ≡ Some c → get_or (offsets_from at (widths units some cs)) p 0 ≡ at + n → i < length (units c)
       → slice_get (flat_map units cs) (n + i) ≡ slice_get (units c) i
   units-of [] at n p c i there e less = cc
@@ -44,42 +44,42 @@ module _ (units : ℕ → List ℕ) (some : (c : ℕ) → 0 < length (units c)) 
       ∙ units-of cs (at + length (units d)) (n - length (units d)) p c i there (e ∙ (let f : at + n ≡ at + length (units d) + (n - length (units d)) = omega (arith, least, e) in f)) less
 
 module _ (e : Encoding) (key : ℕ → ℕ) (text : Text) (has : HasUnitsForTables e text) (over : ℕ → Bool) where
-  -- whether the unit at an offset has a key of the set
+  -- This says whether the unit at an offset has a key of the set.
   abbrev pub over_at : ℕ → Bool
   over_at at = is_some_and (unit_key_at e key text at) over
 
-  -- the place behind a character
-  pub place-behind : (p c : ℕ) → slice_get text.characters p ≡ Some c → offset text (p + 1) ≡ offset text p + length (spelled_in e c)
+  -- The place behind a character is as many units on as the character has.
+  pub place-behind : (p c : ℕ) → slice_get text.characters p ≡ Some c → offset text (p + 1) ≡ offset text p + length (code_units_of_character e c)
   place-behind p c there =
       ap (offset text) (let n : p + 1 ≡ suc p = omega arith in n)
       ∙ ap (λ (os : List ℕ). get_or os (suc p) 0) has.spelled.offsets
-      ∙ offset-behind (spelled_in e) (some-units e) text.characters 0 p c there
-      ∙ ap (λ (os : List ℕ). get_or os p 0 + length (spelled_in e c)) (sym has.spelled.offsets)
+      ∙ offset-behind (code_units_of_character e) (some-units e) text.characters 0 p c there
+      ∙ ap (λ (os : List ℕ). get_or os p 0 + length (code_units_of_character e c)) (sym has.spelled.offsets)
 
-  unit-there : (p c i : ℕ) → slice_get text.characters p ≡ Some c → i < length (spelled_in e c)
-      → slice_get (text_units_in_encoding e text) (offset text p + i) ≡ slice_get (spelled_in e c) i
+  unit-there : (p c i : ℕ) → slice_get text.characters p ≡ Some c → i < length (code_units_of_character e c)
+      → slice_get (text_units_in_encoding e text) (offset text p + i) ≡ slice_get (code_units_of_character e c) i
   unit-there p c i there less =
-      units-of (spelled_in e) (some-units e) text.characters 0 (offset text p) p c i there
+      units-of (code_units_of_character e) (some-units e) text.characters 0 (offset text p) p c i there
       (ap (λ (os : List ℕ). get_or os p 0) (sym has.spelled.offsets) ∙ (let z : offset text p ≡ 0 + offset text p = omega arith in z)) less
 
-  -- if all units of a character are of the set, each one that stands there is
-  pub char-over : (p c : ℕ) → slice_get text.characters p ≡ Some c → list_all (λ unit. over (key unit)) (spelled_in e c) ≡ true
+  -- If all units of a character are in the set, each unit at its offsets is.
+  pub char-over : (p c : ℕ) → slice_get text.characters p ≡ Some c → list_all (λ unit. over (key unit)) (code_units_of_character e c) ≡ true
       → (at : ℕ) → offset text p ≤ at → at < offset text (p + 1) → over_at at ≡ true
   char-over p c there all at le less =
       let i = at - offset text p in
       let end = place-behind p c there in
-      let inside : at - offset text p < length (spelled_in e c) = omega (arith, le, less, end) in
-      let one = slice_get-get_or (spelled_in e c) (at - offset text p) 0 inside in
+      let inside : at - offset text p < length (code_units_of_character e c) = omega (arith, le, less, end) in
+      let one = slice_get-get_or (code_units_of_character e c) (at - offset text p) 0 inside in
       ap (λ o. is_some_and (option_map key o) over)
       (ap (slice_get (text_units_in_encoding e text)) (let z : at ≡ offset text p + (at - offset text p) = omega (arith, le) in z)
       ∙ unit-there p c (at - offset text p) there inside ∙ one)
-      ∙ passes-one (λ unit. over (key unit)) (spelled_in e c) (at - offset text p) (get_or (spelled_in e c) (at - offset text p) 0) all one
+      ∙ passes-one (λ unit. over (key unit)) (code_units_of_character e c) (at - offset text p) (get_or (code_units_of_character e c) (at - offset text p) 0) all one
 
-  -- ---- A run of characters
+  -- ---- Successive characters
 
-  module _ (test : ℕ → Bool) (accepts : (c : ℕ) → is_character_in_encoding e c ≡ true → test c ≡ true → list_all (λ unit. over (key unit)) (spelled_in e c) ≡ true)
+  module _ (test : ℕ → Bool) (accepts : (c : ℕ) → is_character_in_encoding e c ≡ true → test c ≡ true → list_all (λ unit. over (key unit)) (code_units_of_character e c) ≡ true)
       (p : ℕ) where
-    -- the offset behind so many accepted characters
+    -- All units from a place to the place `n` characters on are in the set.
     pub record IsRunTo (n : ℕ) : Type 0 where
       pub after : offset text p ≤ offset text (p + n)
       pub each_over : (at : ℕ) → offset text p ≤ at → at < offset text (p + n) → over_at at ≡ true
@@ -112,7 +112,7 @@ started (b ∷ bytes) [] i h less = cc
 started (b ∷ bytes) (d ∷ ds) zero h less = let same : b ≡ d = eqb-true b d (and-left (nat_eq b d) (starts_with nat_eq ds bytes) h) in ap Some (sym same)
 started (b ∷ bytes) (d ∷ ds) (suc i) h less = started bytes ds i (and-right (nat_eq b d) (starts_with nat_eq ds bytes) h) (omega (arith, less))
 
--- if all bytes are of the set, each one that stands there is
+-- If all bytes are in the set, each byte at their offsets is.
 pub bytes-over : (key : ℕ → ℕ) (text : Text) (over : ℕ → Bool) (from : ℕ) (bytes : List ℕ) → starts_with nat_eq (drop from (encode_utf8_all text.characters)) bytes ≡ true
     → list_all (λ unit. over (key unit)) bytes ≡ true → (at : ℕ) → from ≤ at → at < from + length bytes → is_some_and (unit_key_at utf8 key text at) over ≡ true
 bytes-over key text over from bytes here all at le less =

@@ -6,7 +6,7 @@ use Rattle.regress_program.specs.GroupLoopInsnCountsPerNode.{count_node}
 use Rattle.regress_program.specs.declared.emit.program_size.ProgramSize.{ProgramSize}
 use Rattle.regress_program.proofs.TreeWalkLemmas.{all_along}
 
--- the node and those inside it are counted, too
+-- The groups, loops and instructions of the node and its descendants are added to the counts.
 pub record IsTallied (root : Node) (before after : ProgramSize) : Type 0 where
   pub groups : min after.groups (2 ^ 64 - 1) ≡ min (before.groups + length (group_ids root)) (2 ^ 64 - 1)
   pub loops : min after.loops (2 ^ 64 - 1) ≡ min (before.loops + loop_count root) (2 ^ 64 - 1)

@@ -8,14 +8,14 @@ use Rattle.regex_meaning.specs.Outcomes.{max_iterations}
 use Rattle.regex_meaning.specs.WellFormedTrees.{set_sizes_and_characters_fit_instructions}
 use Rattle.regex_meaning.specs.CompilationRelation.{Insn, Alt, EnterLoop, Jump, Goal, LoopAgain, lookaround_insn}
 use Rattle.regress_program.specs.declared.instructions.LoopFields.{LoopFields}
-use Rattle.regex_pattern_front.specs.AstToSpecTree.{node_of}
+use Rattle.regex_pattern_front.specs.AstToSpecTree.{spec_node_of}
 use Rattle.regex_pattern_front.specs.declared.ir.Node as ir
 use Rattle.regress_program.specs.InnerNodeCountMeasure.{inner_node_count}
 use Rattle.regress_program.specs.CompilationOfTreesAsFunction.{group_reset_insns}
 use Rattle.regress_program.specs.EmitterStateAndAppendedCode.{EmitterState, HasIndexRoomForNode, node_with_char_loops_if_enabled, with_code, with_insn_appended}
 use Rattle.regress_program.specs.EmitterStateAndAppendedCode.{with_insns_appended}
 use Rattle.regress_program.specs.EmitterStateAndAppendedCode.{with_insn_at, with_loop}
-use Rattle.regress_program.specs.LeafNodesAndOptimizableLoops.{cat_of, is_leaf}
+use Rattle.regress_program.specs.LeafNodesAndOptimizableLoops.{spec_cat_of_children, is_leaf}
 use Rattle.regress_program.specs.PendingEmission.{EmitWork, FitsIndexWidths, CanEmitPendingPart, ExpandsPending, with_arm_end, with_jump}
 use Rattle.regress_program.specs.PendingEmission.{with_alternatives_emitted, with_lookaround_end, with_loop_end}
 use Rattle.regress_program.specs.PendingEmission.{with_pending, with_all_pending, is_emittable, are_emittable, node_measure, pending_measure, total_measure}
@@ -26,7 +26,7 @@ use Rattle.regress_program.proofs.AppendedCodeLemmas.{with_code-end_of_cat, room
 use Rattle.regress_program.proofs.CharLoopNodeLemmas.{shaped-leaf}
 use Rattle.regex_meaning.proofs.BoolLemmas.{and-left, and-right}
 
--- ---- The last one first
+-- ---- The last part first
 
 pub all-last : (rest : List UnemittedCodePart) (r : UnemittedCodePart) (s : EmitterState) → with_all_pending (rest ++ r ∷ []) s ≡ with_all_pending rest (with_pending r s)
 all-last [] r s = refl
@@ -58,7 +58,7 @@ unfolding is_emittable
 ready-more m n (Node mode node) h k = k
 ready-more m n (Row mode nodes) h k = k
 ready-more m n (Others mode branch others) h k =
-    let fits = every_node_passes set_sizes_and_characters_fit_instructions (node_of others.now) in
+    let fits = every_node_passes set_sizes_and_characters_fit_instructions (spec_node_of others.now) in
     and_from (nat_lt branch n) fits (below-more branch m n h (and-left (nat_lt branch m) fits k)) (and-right (nat_lt branch m) fits k)
 ready-more m n (JumpLeft place) h k = below-more place m n h k
 ready-more m n (GroupEnd id) h k = k
@@ -71,7 +71,7 @@ are_ready-more m n (r ∷ rest) h k =
     and_from (is_emittable n r) (are_emittable n rest) (ready-more m n r h (and-left (is_emittable m r) (are_emittable m rest) k))
     (are_ready-more m n rest h (and-right (is_emittable m r) (are_emittable m rest) k))
 
--- ---- Nothing gets shorter
+-- ---- States that grow
 
 pub record Grows (s t : EmitterState) : Type 0 where
   pub insns : length s.insns ≤ length t.insns
@@ -104,9 +104,9 @@ grows-others u d branch n s =
 
 pub grows-left : (r : UnemittedCodePart) (s : EmitterState) → Grows s (with_pending r s)
 unfolding with_pending
-grows-left (Node mode node) s = grows-code mode.unicode mode.behind (node_with_char_loops_if_enabled mode.narrow (node_of node.now)) s
-grows-left (Row mode nodes) s = grows-code mode.unicode mode.behind (node_with_char_loops_if_enabled mode.narrow (cat_of nodes.now)) s
-grows-left (Others mode branch others) s = grows-others mode.unicode mode.behind branch (node_with_char_loops_if_enabled mode.narrow (node_of others.now)) s
+grows-left (Node mode node) s = grows-code mode.unicode mode.behind (node_with_char_loops_if_enabled mode.narrow (spec_node_of node.now)) s
+grows-left (Row mode nodes) s = grows-code mode.unicode mode.behind (node_with_char_loops_if_enabled mode.narrow (spec_cat_of_children nodes.now)) s
+grows-left (Others mode branch others) s = grows-others mode.unicode mode.behind branch (node_with_char_loops_if_enabled mode.narrow (spec_node_of others.now)) s
 grows-left (JumpLeft place) s = grows-insn_at place _ s
 grows-left (GroupEnd id) s = grows-insn _ s
 grows-left (LookaroundEnd look head) s = grows-written head _ _ s
@@ -119,7 +119,7 @@ grows-all (r ∷ rest) s = grows-then s (with_all_pending rest s) (with_pending 
 pub fits-before : (s t : EmitterState) → Grows s t → FitsIndexWidths t → FitsIndexWidths s
 fits-before s t g f = record { insns = omega (arith, g.insns, f.insns); loops = omega (arith, g.loops, f.loops) }
 
--- ---- Room
+-- ---- Room for indices
 
 pub room-of : (u d : Bool) (n : TreeNode) (s : EmitterState) → FitsIndexWidths (with_code u d n s) → HasIndexRoomForNode s n
 room-of u d n s f = record { insns = omega (arith, f.insns, length-with_code u d n s); loops = omega (arith, f.loops) }
@@ -127,7 +127,7 @@ room-of u d n s f = record { insns = omega (arith, f.insns, length-with_code u d
 pub fits-of : (u d : Bool) (n : TreeNode) (s : EmitterState) → HasIndexRoomForNode s n → FitsIndexWidths (with_code u d n s)
 fits-of u d n s r = record { insns = omega (arith, r.insns, length-with_code u d n s); loops = omega (arith, r.loops) }
 
--- ---- The loop over what is left
+-- ---- The loop over the pending parts
 
 pub next-can : (rest left : List UnemittedCodePart) (r : UnemittedCodePart) (s end : EmitterState) → rest ≡ left ++ r ∷ [] → with_all_pending rest s ≡ end → FitsIndexWidths end
     → are_emittable (length s.insns) rest ≡ true → CanEmitPendingPart r s
@@ -154,7 +154,7 @@ pub next-less : (rest left more : List UnemittedCodePart) (r : UnemittedCodePart
     → ExpandsPending (with_pending r) (pending_measure r) (record { state = s; rest = left }) (record { state = t; rest = more }) → total_measure more < total_measure rest
 next-less rest left more r s t is begun = omega (arith, begun.less, ap total_measure is, load-last left r)
 
--- ---- What was begun
+-- ---- Parts that were begun
 
 pub begun-whole : (effect : EmitterState → EmitterState) (cost : ℕ) (rest : List UnemittedCodePart) (s t : EmitterState) → t ≡ effect s → Grows s t → 1 ≤ cost
     → ExpandsPending effect cost (record { state = s; rest = rest }) (record { state = t; rest = rest })
@@ -193,7 +193,7 @@ begun-two effect cost rest mid left a b s t first second put g ready_a ready_b l
 pub begun-cheap : (effect : EmitterState → EmitterState) (low high : ℕ) (before after : EmitWork) → ExpandsPending effect low before after → low ≤ high → ExpandsPending effect high before after
 begun-cheap effect low high before after b h = record { code = b.code; ready = b.ready; less = omega (arith, b.less, h) }
 
--- ---- What they come to
+-- ---- The code of begun parts
 
 pub put-alternatives : (u d : Bool) (a b : TreeNode) (branch : ℕ) (s t : EmitterState) → t ≡ with_insn_appended (Alt 0) s → branch ≡ length s.insns
     → with_alternatives_emitted u d branch b (with_code u d a t) ≡ with_code u d (alt a b) s
@@ -205,7 +205,7 @@ put-alternatives u d a b branch s t is place =
     with_code-alt u d a b s t s2 s3 s4 s5 (with_insn_at (length s2.insns) (Jump (length s5.insns)) s5) (Alt 0) (Jump 0) is refl refl
     (ap (λ n. with_insn_at n (Alt (length s3.insns)) s3) place) refl refl
 
--- the last steps of what has just begun
+-- ---- The last steps of begun parts
 
 pub grows-put : (x : Insn) (s t : EmitterState) → t ≡ with_insn_appended x s → Grows s t
 grows-put x s t is = rw is (grows-insn x s)
@@ -266,61 +266,61 @@ place-arm branch jump s t is at =
     lt-ltb jump (length t.insns)
     (omega (arith, at, ap (λ w. length w.insns) is, length-set s1.insns branch (Alt (length s1.insns)), length-append s.insns (Jump 0 ∷ [])))
 
--- ---- Rows
+-- ---- Node lists
 
-pub row-ended : (u d narrow : Bool) (nodes : List ir.Node) (s : EmitterState) → length nodes ≡ 0 → s ≡ with_code u d (node_with_char_loops_if_enabled narrow (cat_of nodes)) s
+pub row-ended : (u d narrow : Bool) (nodes : List ir.Node) (s : EmitterState) → length nodes ≡ 0 → s ≡ with_code u d (node_with_char_loops_if_enabled narrow (spec_cat_of_children nodes)) s
 unfolding node_with_char_loops_if_enabled
 row-ended u d narrow [] s h = sym (with_code-end_of_cat u d s)
 row-ended u d narrow (n ∷ nodes) s h = absurd (omega (arith, h))
 
 pub put-row : (u d narrow : Bool) (first : ir.Node) (others nodes : List ir.Node) (s : EmitterState) → nodes ≡ first ∷ others
-    → with_code u d (node_with_char_loops_if_enabled narrow (cat_of others)) (with_code u d (node_with_char_loops_if_enabled narrow (node_of first)) s) ≡ with_code u d (node_with_char_loops_if_enabled narrow (cat_of nodes)) s
+    → with_code u d (node_with_char_loops_if_enabled narrow (spec_cat_of_children others)) (with_code u d (node_with_char_loops_if_enabled narrow (spec_node_of first)) s) ≡ with_code u d (node_with_char_loops_if_enabled narrow (spec_cat_of_children nodes)) s
 unfolding node_with_char_loops_if_enabled
 put-row u d narrow first others nodes s is =
-    sym (with_code-cat u d (node_with_char_loops_if_enabled narrow (node_of first)) (node_with_char_loops_if_enabled narrow (cat_of others)) s) ∙ ap (λ x. with_code u d (node_with_char_loops_if_enabled narrow (cat_of x)) s) (sym is)
+    sym (with_code-cat u d (node_with_char_loops_if_enabled narrow (spec_node_of first)) (node_with_char_loops_if_enabled narrow (spec_cat_of_children others)) s) ∙ ap (λ x. with_code u d (node_with_char_loops_if_enabled narrow (spec_cat_of_children x)) s) (sym is)
 
 pub row-less : (narrow : Bool) (first : ir.Node) (others nodes : List ir.Node) → nodes ≡ first ∷ others
-    → (5 * inner_node_count (node_with_char_loops_if_enabled narrow (cat_of others)) + 1) + node_measure (node_with_char_loops_if_enabled narrow (node_of first)) < 5 * inner_node_count (node_with_char_loops_if_enabled narrow (cat_of nodes)) + 1
+    → (5 * inner_node_count (node_with_char_loops_if_enabled narrow (spec_cat_of_children others)) + 1) + node_measure (node_with_char_loops_if_enabled narrow (spec_node_of first)) < 5 * inner_node_count (node_with_char_loops_if_enabled narrow (spec_cat_of_children nodes)) + 1
 unfolding node_with_char_loops_if_enabled inner_node_count
 row-less narrow first others nodes is =
-    let same : inner_node_count (node_with_char_loops_if_enabled narrow (cat_of nodes)) ≡ inner_node_count (node_with_char_loops_if_enabled narrow (node_of first)) + inner_node_count (node_with_char_loops_if_enabled narrow (cat_of others)) + 1 = ap (λ x. inner_node_count (node_with_char_loops_if_enabled narrow (cat_of x))) is in
+    let same : inner_node_count (node_with_char_loops_if_enabled narrow (spec_cat_of_children nodes)) ≡ inner_node_count (node_with_char_loops_if_enabled narrow (spec_node_of first)) + inner_node_count (node_with_char_loops_if_enabled narrow (spec_cat_of_children others)) + 1 = ap (λ x. inner_node_count (node_with_char_loops_if_enabled narrow (spec_cat_of_children x))) is in
     omega (arith, same)
 
-pub row-sets : (first : ir.Node) (others nodes : List ir.Node) → nodes ≡ first ∷ others → every_node_passes set_sizes_and_characters_fit_instructions (cat_of nodes) ≡ true
-    → (every_node_passes set_sizes_and_characters_fit_instructions (node_of first) ≡ true) × (every_node_passes set_sizes_and_characters_fit_instructions (cat_of others) ≡ true)
+pub row-sets : (first : ir.Node) (others nodes : List ir.Node) → nodes ≡ first ∷ others → every_node_passes set_sizes_and_characters_fit_instructions (spec_cat_of_children nodes) ≡ true
+    → (every_node_passes set_sizes_and_characters_fit_instructions (spec_node_of first) ≡ true) × (every_node_passes set_sizes_and_characters_fit_instructions (spec_cat_of_children others) ≡ true)
 row-sets first others nodes is sets =
-    let both : (every_node_passes set_sizes_and_characters_fit_instructions (node_of first) && every_node_passes set_sizes_and_characters_fit_instructions (cat_of others)) ≡ true = ap (λ x. every_node_passes set_sizes_and_characters_fit_instructions (cat_of x)) (sym is) ∙ sets in
+    let both : (every_node_passes set_sizes_and_characters_fit_instructions (spec_node_of first) && every_node_passes set_sizes_and_characters_fit_instructions (spec_cat_of_children others)) ≡ true = ap (λ x. every_node_passes set_sizes_and_characters_fit_instructions (spec_cat_of_children x)) (sym is) ∙ sets in
     (and-left _ _ both, and-right _ _ both)
 
--- a leaf at its beginning
+-- ---- A leaf at the beginning of a node list
 
-pub row-room-first : (narrow : Bool) (first : ir.Node) (others nodes : List ir.Node) (s : EmitterState) → nodes ≡ first ∷ others → is_leaf (node_of first) ≡ true
-    → HasIndexRoomForNode s (node_with_char_loops_if_enabled narrow (cat_of nodes)) → HasIndexRoomForNode s (node_of first)
+pub row-room-first : (narrow : Bool) (first : ir.Node) (others nodes : List ir.Node) (s : EmitterState) → nodes ≡ first ∷ others → is_leaf (spec_node_of first) ≡ true
+    → HasIndexRoomForNode s (node_with_char_loops_if_enabled narrow (spec_cat_of_children nodes)) → HasIndexRoomForNode s (spec_node_of first)
 unfolding node_with_char_loops_if_enabled
 row-room-first narrow first others nodes s is leaf room =
-    rw (shaped-leaf narrow (node_of first) leaf) at (room-first s (node_with_char_loops_if_enabled narrow (node_of first)) (node_with_char_loops_if_enabled narrow (cat_of others)) (rw is at room))
+    rw (shaped-leaf narrow (spec_node_of first) leaf) at (room-first s (node_with_char_loops_if_enabled narrow (spec_node_of first)) (node_with_char_loops_if_enabled narrow (spec_cat_of_children others)) (rw is at room))
 
-pub row-room-rest : (u d narrow : Bool) (first : ir.Node) (others nodes : List ir.Node) (s t : EmitterState) → nodes ≡ first ∷ others → is_leaf (node_of first) ≡ true
-    → HasIndexRoomForNode s (node_with_char_loops_if_enabled narrow (cat_of nodes)) → t ≡ with_code u d (node_of first) s → HasIndexRoomForNode t (node_with_char_loops_if_enabled narrow (cat_of others))
+pub row-room-rest : (u d narrow : Bool) (first : ir.Node) (others nodes : List ir.Node) (s t : EmitterState) → nodes ≡ first ∷ others → is_leaf (spec_node_of first) ≡ true
+    → HasIndexRoomForNode s (node_with_char_loops_if_enabled narrow (spec_cat_of_children nodes)) → t ≡ with_code u d (spec_node_of first) s → HasIndexRoomForNode t (node_with_char_loops_if_enabled narrow (spec_cat_of_children others))
 unfolding node_with_char_loops_if_enabled
 row-room-rest u d narrow first others nodes s t is leaf room e =
-    room-rest u d s t (node_with_char_loops_if_enabled narrow (node_of first)) (node_with_char_loops_if_enabled narrow (cat_of others)) (rw is at room)
-    (e ∙ ap (λ n. with_code u d n s) (sym (shaped-leaf narrow (node_of first) leaf)))
+    room-rest u d s t (node_with_char_loops_if_enabled narrow (spec_node_of first)) (node_with_char_loops_if_enabled narrow (spec_cat_of_children others)) (rw is at room)
+    (e ∙ ap (λ n. with_code u d n s) (sym (shaped-leaf narrow (spec_node_of first) leaf)))
 
-pub row-code : (u d narrow : Bool) (first : ir.Node) (others nodes : List ir.Node) (s t end : EmitterState) → nodes ≡ first ∷ others → is_leaf (node_of first) ≡ true
-    → t ≡ with_code u d (node_of first) s → with_code u d (node_with_char_loops_if_enabled narrow (cat_of nodes)) s ≡ end → with_code u d (node_with_char_loops_if_enabled narrow (cat_of others)) t ≡ end
+pub row-code : (u d narrow : Bool) (first : ir.Node) (others nodes : List ir.Node) (s t end : EmitterState) → nodes ≡ first ∷ others → is_leaf (spec_node_of first) ≡ true
+    → t ≡ with_code u d (spec_node_of first) s → with_code u d (node_with_char_loops_if_enabled narrow (spec_cat_of_children nodes)) s ≡ end → with_code u d (node_with_char_loops_if_enabled narrow (spec_cat_of_children others)) t ≡ end
 row-code u d narrow first others nodes s t end is leaf e code =
-    ap (with_code u d (node_with_char_loops_if_enabled narrow (cat_of others))) (e ∙ ap (λ n. with_code u d n s) (sym (shaped-leaf narrow (node_of first) leaf)))
+    ap (with_code u d (node_with_char_loops_if_enabled narrow (spec_cat_of_children others))) (e ∙ ap (λ n. with_code u d n s) (sym (shaped-leaf narrow (spec_node_of first) leaf)))
     ∙ put-row u d narrow first others nodes s is ∙ code
 
 pub row-light : (narrow : Bool) (first : ir.Node) (others nodes : List ir.Node) (most : ℕ) → nodes ≡ first ∷ others
-    → inner_node_count (node_with_char_loops_if_enabled narrow (cat_of nodes)) ≤ most → inner_node_count (node_with_char_loops_if_enabled narrow (cat_of others)) ≤ most
+    → inner_node_count (node_with_char_loops_if_enabled narrow (spec_cat_of_children nodes)) ≤ most → inner_node_count (node_with_char_loops_if_enabled narrow (spec_cat_of_children others)) ≤ most
 unfolding node_with_char_loops_if_enabled inner_node_count
 row-light narrow first others nodes most is light =
-    let same : inner_node_count (node_with_char_loops_if_enabled narrow (cat_of nodes)) ≡ inner_node_count (node_with_char_loops_if_enabled narrow (node_of first)) + inner_node_count (node_with_char_loops_if_enabled narrow (cat_of others)) + 1 = ap (λ x. inner_node_count (node_with_char_loops_if_enabled narrow (cat_of x))) is in
+    let same : inner_node_count (node_with_char_loops_if_enabled narrow (spec_cat_of_children nodes)) ≡ inner_node_count (node_with_char_loops_if_enabled narrow (spec_node_of first)) + inner_node_count (node_with_char_loops_if_enabled narrow (spec_cat_of_children others)) + 1 = ap (λ x. inner_node_count (node_with_char_loops_if_enabled narrow (spec_cat_of_children x))) is in
     omega (arith, same, light)
 
--- ---- What comes as a whole
+-- ---- Parts that are emitted at once
 
 pub put-whole : (r : UnemittedCodePart) (rest : List UnemittedCodePart) (s t : EmitterState) → t ≡ with_pending r s → 1 ≤ pending_measure r
     → ExpandsPending (with_pending r) (pending_measure r) (record { state = s; rest = rest }) (record { state = t; rest = rest })

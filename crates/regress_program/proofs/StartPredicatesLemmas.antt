@@ -7,16 +7,16 @@ use Rattle.regex_meaning.specs.StartPredicate.{AbstractStartPredicate, open_ende
 use Rattle.regex_meaning.specs.StartPredicate.{start_anchored, start_predicate}
 use Rattle.regex_pattern_front.specs.declared.ir.Regex.{Regex}
 use Rattle.regress_program.specs.CompilationOfTreesAsFunction.{compiled}
-use Rattle.regress_program.specs.StartPredicates.{IsCopyOfPredicate, IsStartOf, is_anchored_predicate, is_anchored_tree}
+use Rattle.regress_program.specs.StartPredicates.{IsCopyOfPredicate, IsStartPredicateOfTree, is_anchored_predicate, is_anchored_tree}
 use Rattle.regress_program.specs.declared.insn.start_predicate_type.StartPredicate.{StartPredicate}
 use Rattle.regress_program.specs.declared.insn.start_predicate_type.StartPredicate.TheVariants.{Arbitrary, ByteSet1, ByteSet2, ByteSet3, ByteSeq, ByteBracket}
 use Rattle.regress_program.specs.declared.insn.start_predicate_type.StartPredicate.TheVariants.{StartAnchored}
 
-again : (p copy : StartPredicate) (re : Regex) → copy ≡ p → IsStartOf p re → IsStartOf copy re
-again p copy re same is = let P : StartPredicate → Type 0 = λ s. IsStartOf s re in subst P (sym same) is
+again : (p copy : StartPredicate) (re : Regex) → copy ≡ p → IsStartPredicateOfTree p re → IsStartPredicateOfTree copy re
+again p copy re same is = let P : StartPredicate → Type 0 = λ s. IsStartPredicateOfTree s re in subst P (sym same) is
 
--- a copy is the start predicate of the same tree
-pub copy-start : (p copy : StartPredicate) (re : Regex) → IsCopyOfPredicate p copy → IsStartOf p re → IsStartOf copy re
+-- A copy of a start predicate is one of the same tree.
+pub copy-start : (p copy : StartPredicate) (re : Regex) → IsCopyOfPredicate p copy → IsStartPredicateOfTree p re → IsStartPredicateOfTree copy re
 copy-start (ByteSeq bytes) (ByteSeq copy) re same is = record { predicate = ap (λ (l : List ℕ). predicate.start_byte_sequence l) same ∙ is.predicate; short = tt }
 copy-start (ByteSeq bytes) Arbitrary re same is = again (ByteSeq bytes) Arbitrary re same is
 copy-start (ByteSeq bytes) (ByteSet1 set) re same is = again (ByteSeq bytes) (ByteSet1 set) re same is
@@ -42,7 +42,7 @@ unanchored (sequence (b ∷ c ∷ bs)) = refl
 unanchored (one_of []) = refl
 unanchored (one_of (b ∷ bs)) = refl
 
--- the start predicate of a tree says whether the tree is anchored
+-- The start predicate of a tree is anchored exactly if the tree is.
 pub anchored-predicate : (tree : Tree) → is_anchored_predicate (start_predicate tree) ≡ is_anchored_tree tree
 unfolding start_predicate
 anchored-predicate tree = by (is_anchored_tree tree)

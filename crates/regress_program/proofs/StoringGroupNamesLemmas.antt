@@ -13,9 +13,9 @@ use Rattle.regex_meaning.specs.WellFormedTrees.{each_id_stands_once}
 use Rattle.regex_meaning.proofs.StartPredicateLemmas.{all-contains}
 use Rattle.regex_meaning.proofs.SubtreeInvariantsLemmas.{contains-numbers_from}
 use Rattle.regex_meaning.proofs.GroupNamesOfTreeLemmas.{ids_of, named_ids-ids, at-number}
-use Rattle.regex_pattern_front.specs.AstToSpecTree.{node_of}
+use Rattle.regex_pattern_front.specs.AstToSpecTree.{spec_node_of}
 use Rattle.regex_pattern_front.specs.declared.ir.Node as ir
-use Rattle.regress_program.specs.LeafNodesAndOptimizableLoops.{cat_of, is_leaf}
+use Rattle.regress_program.specs.LeafNodesAndOptimizableLoops.{spec_cat_of_children, is_leaf}
 use Rattle.regress_program.specs.InnerNodeCountMeasure.{inner_node_count}
 use Rattle.regress_program.specs.StoringGroupNamesById.{StoresNamesOrPushesNodes, with_names_stored_by_id, pending_names_stored, tree_has_no_named_groups, naming_measure_of_node}
 use Rattle.regress_program.specs.StoringGroupNamesById.{naming_measure_of_part, total_naming_measure, naming_measure_of_nodes, names_in_pending_part}
@@ -25,7 +25,7 @@ use Rattle.regress_program.proofs.GroupIdCheckLemmas.{false_is_true, count_by-fi
 use Rattle.regex_meaning.proofs.BoolLemmas.{same-truth}
 use Rattle.regex_meaning.proofs.ListLemmas.{length-numbers_from}
 
--- ---- Two lots of names
+-- ---- Two lists of names
 
 pub filed-append : (named others : List (ℕ × List ℕ)) (names : List (List ℕ)) → with_names_stored_by_id (named ++ others) names ≡ with_names_stored_by_id others (with_names_stored_by_id named names)
 filed-append [] others names = refl
@@ -35,7 +35,7 @@ pub length-filed : (named : List (ℕ × List ℕ)) (names : List (List ℕ)) �
 length-filed [] names = refl
 length-filed (n ∷ named) names = length-filed named (set names n.0 n.1) ∙ length-set names n.0 n.1
 
--- ---- What is still to be filed
+-- ---- Names that are still to be stored
 
 filed-last : (rest : List NodeOrListWithUnstoredNames) (next : NodeOrListWithUnstoredNames) (names : List (List ℕ)) → pending_names_stored (rest ++ next ∷ []) names ≡ pending_names_stored rest (with_names_stored_by_id (names_in_pending_part next) names)
 filed-last [] next names = refl
@@ -77,7 +77,7 @@ files-two named cost names rest mid left a b first second both light = record {
   less = omega (arith, light, ap total_naming_measure second, load-last mid b, ap total_naming_measure first, load-last rest a);
 }
 
--- what stands inside a node without a name
+-- A node without a name has the names of the node inside it, which is pushed.
 pub files-inside : (whole inner : Node) (names : List (List ℕ)) (rest left : List NodeOrListWithUnstoredNames) (a : NodeOrListWithUnstoredNames) → left ≡ rest ++ a ∷ []
     → names_in_pending_part a ≡ capturing_group_ids_and_names inner → naming_measure_of_part a ≡ naming_measure_of_node inner → capturing_group_ids_and_names whole ≡ capturing_group_ids_and_names inner → inner_node_count whole ≡ inner_node_count inner + 1
     → StoresNamesOrPushesNodes (capturing_group_ids_and_names whole) (naming_measure_of_node whole) names names rest left
@@ -102,47 +102,47 @@ files-group whole inner a id name old new before after is_a all more h = record 
   less = omega (arith, h.less, more, ap inner_node_count is_a);
 }
 
--- ---- Rows
+-- ---- Node lists
 
 pub files-cheap : (named : List (ℕ × List ℕ)) (low high : ℕ) (old new : List (List ℕ)) (before after : List NodeOrListWithUnstoredNames) → StoresNamesOrPushesNodes named low old new before after → low ≤ high
     → StoresNamesOrPushesNodes named high old new before after
 files-cheap named low high old new before after h more = record { names = h.names; less = omega (arith, h.less, more) }
 
-pub row-none : (nodes : List ir.Node) → length nodes ≡ 0 → capturing_group_ids_and_names (cat_of nodes) ≡ []
+pub row-none : (nodes : List ir.Node) → length nodes ≡ 0 → capturing_group_ids_and_names (spec_cat_of_children nodes) ≡ []
 row-none [] e = refl
 row-none (n ∷ nodes) e = absurd (omega (arith, e))
 
-pub row-names : (first : ir.Node) (others nodes : List ir.Node) → nodes ≡ first ∷ others → capturing_group_ids_and_names (cat_of nodes) ≡ capturing_group_ids_and_names (node_of first) ++ capturing_group_ids_and_names (cat_of others)
-row-names first others nodes e = ap (λ x. capturing_group_ids_and_names (cat_of x)) e
+pub row-names : (first : ir.Node) (others nodes : List ir.Node) → nodes ≡ first ∷ others → capturing_group_ids_and_names (spec_cat_of_children nodes) ≡ capturing_group_ids_and_names (spec_node_of first) ++ capturing_group_ids_and_names (spec_cat_of_children others)
+row-names first others nodes e = ap (λ x. capturing_group_ids_and_names (spec_cat_of_children x)) e
 
--- one that holds no others has no name
-pub row-skips : (first : ir.Node) (others nodes : List ir.Node) → nodes ≡ first ∷ others → is_leaf (node_of first) ≡ true → capturing_group_ids_and_names (cat_of others) ≡ capturing_group_ids_and_names (cat_of nodes)
-row-skips first others nodes e leaf = sym (row-names first others nodes e ∙ ap (λ x. x ++ capturing_group_ids_and_names (cat_of others)) (leaf-bare (node_of first) leaf).named)
+-- A leaf at the beginning of a node list adds no name.
+pub row-skips : (first : ir.Node) (others nodes : List ir.Node) → nodes ≡ first ∷ others → is_leaf (spec_node_of first) ≡ true → capturing_group_ids_and_names (spec_cat_of_children others) ≡ capturing_group_ids_and_names (spec_cat_of_children nodes)
+row-skips first others nodes e leaf = sym (row-names first others nodes e ∙ ap (λ x. x ++ capturing_group_ids_and_names (spec_cat_of_children others)) (leaf-bare (spec_node_of first) leaf).named)
 
-pub row-load : (first : ir.Node) (others nodes : List ir.Node) → nodes ≡ first ∷ others → naming_measure_of_nodes others + (3 * inner_node_count (node_of first) + 2) < naming_measure_of_nodes nodes
+pub row-load : (first : ir.Node) (others nodes : List ir.Node) → nodes ≡ first ∷ others → naming_measure_of_nodes others + (3 * inner_node_count (spec_node_of first) + 2) < naming_measure_of_nodes nodes
 unfolding inner_node_count
 row-load first others nodes e =
-    let same : inner_node_count (cat_of nodes) ≡ inner_node_count (node_of first) + inner_node_count (cat_of others) + 1 = ap (λ x. inner_node_count (cat_of x)) e in
+    let same : inner_node_count (spec_cat_of_children nodes) ≡ inner_node_count (spec_node_of first) + inner_node_count (spec_cat_of_children others) + 1 = ap (λ x. inner_node_count (spec_cat_of_children x)) e in
     omega (arith, same)
 
--- ---- One name
+-- ---- Storing one name
 
--- there is no such place
+-- If the id is behind the end of the names, nothing is stored.
 pub put_past : {S : Type 0} (f : S → List ℕ) (names : List S) (id : ℕ) (name : List ℕ) → length names ≤ id → map f names ≡ set (map f names) id name
 put_past f names id name h = sym (set_past (map f names) id name (omega (arith, h, length-map names f)))
 
 pub put_there : {S : Type 0} (f : S → List ℕ) (names : List S) (id : ℕ) (name : S) → map f (set names id name) ≡ set (map f names) id (f name)
 put_there f names id name = map-set f names id name
 
--- ---- Names that are written over others
+-- ---- Names that replace older ones
 
--- none of the old ones is left
+-- If there are as many names as `n`, none of the old ones is left.
 pub written_over : {S : Type 0} (names old : List S) (n : ℕ) → n ≡ length names → take n (names ++ drop (length names) old) ≡ names
 written_over names old n h = take-append-le n names (drop (length names) old) (omega (arith, h)) ∙ take_all n names (omega (arith, h))
 
 -- ---- Copies
 
--- texts that are those of others, one by one
+-- Copies that equal the names one by one are the same list of texts.
 pub same_texts : {S : Type 0} (f : S → List ℕ) (names copies : List S) → AllZip (λ x y. f y ≡ f x) names copies → map f copies ≡ map f names
 same_texts f [] [] h = refl
 same_texts f [] (y ∷ copies) h = absurd h
@@ -151,7 +151,7 @@ same_texts f (x ∷ names) (y ∷ copies) h = ap (λ z. z ∷ map f copies) h.0 
 
 -- ---- The name at an id
 
--- the last name of an id, or another
+-- This is the last name stored for an id, or another text if there is none.
 last_name : List (ℕ × List ℕ) → ℕ → List ℕ → List ℕ
 last_name [] id other = other
 last_name (n ∷ named) id other = last_name named id (if n.0 == id then n.1 else other)

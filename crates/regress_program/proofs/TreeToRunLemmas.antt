@@ -17,7 +17,7 @@ use Rattle.regress_program.proofs.CompiledTreeLemmas.{compiled-length}
 use Rattle.regress_program.specs.OptimizedTreeUnlessNoOpt.{optimized_tree_unless_no_opt, planned_tree}
 use Rattle.regress_program.proofs.CharLoopNodeLemmas.{brackets-optimized, shaped-narrow, size-shaped}
 
--- what optimizing leaves of a tree
+-- The planned tree has what optimizing leaves unchanged.
 pub planned-same : {A : Type 0} (f : Node → A) (wide : Bool) (t : Tree) → f (optimized t.root) ≡ f t.root → f (planned_tree wide t).root ≡ f t.root
 planned-same f false t same = refl
 planned-same f true t same = go t.flags.no_opt
@@ -49,11 +49,11 @@ pub brackets-planned : (wide : Bool) (t : Tree) → (compiled (planned_tree wide
 unfolding compiled
 brackets-planned wide t = planned-same brackets_of wide t (brackets-optimized t.root)
 
--- where nothing is to be optimized, it is that tree
+-- If the flags turn optimizing off, the tree to run is the given tree.
 pub to_run-plain : (t : Tree) → t.flags.no_opt ≡ true → optimized_tree_unless_no_opt t ≡ t
 to_run-plain t h = rw h refl
 
--- else it is optimized
+-- If the flags leave optimizing on, the tree to run has the optimized root.
 pub to_run-optimized : (t : Tree) → t.flags.no_opt ≡ false → (optimized_tree_unless_no_opt t).root ≡ optimized t.root
 to_run-optimized t h = rw h refl
 
@@ -64,7 +64,7 @@ to_run-same t same = go t.flags.no_opt
     go true = refl
     go false = ap (λ (n : Node). record { root = n; flags = t.flags }) same
 
--- the tree with narrow loops is that which is run, unless the flags say that there is none
+-- If the flags leave optimizing on, the tree with char loops is the tree to run.
 pub to_run-shaped : (t : Tree) → t.flags.no_opt ≡ false → tree_with_char_loops true t ≡ optimized_tree_unless_no_opt t
 to_run-shaped t h = ap (λ (n : Node). record { root = n; flags = t.flags }) (shaped-narrow t.root ∙ sym (to_run-optimized t h))
 
@@ -79,7 +79,7 @@ pub names-planned : (wide : Bool) (t : Tree) → (compiled (planned_tree wide t)
 unfolding compiled
 names-planned wide t = planned-same group_names_by_id wide t (names_by_id-optimized t.root)
 
--- what the program of the tree that is run has of the program of the tree
+-- The program of the tree to run has the groups of the program of the given tree.
 pub run-groups : (t u : Tree) → u ≡ optimized_tree_unless_no_opt t → (compiled t).groups ≡ (compiled u).groups
 run-groups t u is = sym (ap (λ x. (compiled x).groups) is ∙ groups-planned true t)
 
@@ -93,7 +93,7 @@ run-flags t u is = sym (ap (λ (x : Tree). x.flags) is)
 pub run-well_formed : (t u : Tree) → u ≡ optimized_tree_unless_no_opt t → IsTrue (is_well_formed t.root) → IsTrue (is_well_formed u.root)
 run-well_formed t u is h = subst (λ (x : Tree). IsTrue (is_well_formed x.root)) (sym is) (well_formed-planned true t h)
 
--- the code of the tree that is run has numbers of 32 bits where the tree's has
+-- If the tree needs fewer than 2^32 instructions, the code of the tree to run does, too.
 pub run-fits : (t : Tree) (code : EmittedCode) → IsCodeOfTree (optimized_tree_unless_no_opt t) code → node_insn_count t.root < 2 ^ 32 → length code.insns.items < 2 ^ 32
 run-fits t code is fits =
     omega (arith, fits, size-to_run t, ap (λ (l : List Insn). length l) is.insns, length-map code.insns.items insn_as_spec_insn, compiled-length (optimized_tree_unless_no_opt t))

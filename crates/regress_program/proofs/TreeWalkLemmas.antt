@@ -3,14 +3,14 @@ use Rattle.std.proofs.Common.{◌≡◌, Bool, true, false, List, [], ◌∷◌,
 use Rattle.std.specs.Prelude.{is_some, IsTrue, not, ◌&&◌, ◌||◌}
 use Rattle.regex_meaning.specs.Tree.{Node, cat, end_of_cat, alt, capture_group, lookaround, loop, loop_1_char_body, fold_nodes, every_node_passes}
 use Rattle.regex_pattern_front.specs.declared.ir.Node as declared
-use Rattle.regress_program.specs.LeafNodesAndOptimizableLoops.{cat_of}
+use Rattle.regress_program.specs.LeafNodesAndOptimizableLoops.{spec_cat_of_children}
 use Rattle.regress_program.specs.TryFoldOverTreeNodes.{continued_by, in_sequence, try_fold_tree_nodes, step_of_test}
 
 none-of : {S : Type 0} (o : Option S) → false ≡ is_some o → o ≡ None
 none-of None h = refl
 none-of (Some s) h = cc
 
--- ---- A step that stops
+-- ---- A step that stops the walk
 
 stops-there : {S : Type 0} (step : Node → S → Option S) (n : Node) (s : S) → step n s ≡ None → try_fold_tree_nodes step n s ≡ None
 stops-there step (cat first rest) s e = ap (λ o. continued_by (try_fold_tree_nodes step rest) (continued_by (try_fold_tree_nodes step first) o)) e
@@ -24,19 +24,19 @@ stops-there step _ s e = e
 pub walk-stops : {S : Type 0} (step : Node → S → Option S) (n : Node) (s : S) → false ≡ is_some (step n s) → false ≡ is_some (try_fold_tree_nodes step n s)
 walk-stops step n s h = ap is_some (sym (stops-there step n s (none-of (step n s) h)))
 
--- ---- Rows
+-- ---- Node lists
 
--- a row is nothing but its nodes
+-- A step that goes on at each node of a list goes on at the list.
 pub row-goes : {S : Type 0} (step : Node → S → Option S) (rows : (first rest : Node) (s : S) → step (cat first rest) s ≡ Some s) (ends : (s : S) → step end_of_cat s ≡ Some s)
-    (nodes : List declared.Node) (n : Node) (s : S) → n ≡ cat_of nodes → step n s ≡ Some s
+    (nodes : List declared.Node) (n : Node) (s : S) → n ≡ spec_cat_of_children nodes → step n s ≡ Some s
 row-goes step rows ends nodes n s e = ap (λ m. step m s) e ∙ of_nodes nodes
   where
-    of_nodes : (ns : List declared.Node) → step (cat_of ns) s ≡ Some s
+    of_nodes : (ns : List declared.Node) → step (spec_cat_of_children ns) s ≡ Some s
     of_nodes [] = ends s
-    of_nodes (m ∷ ms) = rows _ (cat_of ms) s
+    of_nodes (m ∷ ms) = rows _ (spec_cat_of_children ms) s
 
 pub row-same : {S : Type 0} (step : Node → S → Option S) (rows : (first rest : Node) (s : S) → step (cat first rest) s ≡ Some s) (ends : (s : S) → step end_of_cat s ≡ Some s)
-    (nodes : List declared.Node) (n : Node) (s t : S) → n ≡ cat_of nodes → step n s ≡ Some t → t ≡ s
+    (nodes : List declared.Node) (n : Node) (s t : S) → n ≡ spec_cat_of_children nodes → step n s ≡ Some t → t ≡ s
 row-same step rows ends nodes n s t e h =
     let goes : step n s ≡ Some s = row-goes step rows ends nodes n s e in
     cc
@@ -50,7 +50,7 @@ both_pass first next s true b e f = ap (continued_by next) e ∙ f
 abbrev pub tested : {S : Type 0} → (test : S → Node → Bool) → Node → S → Option S
 tested test n s = step_of_test (test s n) s
 
--- where each step is a test, the walk is that of every node
+-- A walk with a test is the step of the test of every node.
 pub walked-passes : {S : Type 0} (test : S → Node → Bool) (root : Node) (s : S) → try_fold_tree_nodes (tested test) root s ≡ step_of_test (every_node_passes (test s) root) s
 walked-passes test (cat first rest) s =
     both_pass (in_sequence (tested test (cat first rest)) (try_fold_tree_nodes (tested test) first)) (try_fold_tree_nodes (tested test) rest) s (test s (cat first rest) && every_node_passes (test s) first) (every_node_passes (test s) rest)
@@ -70,11 +70,11 @@ went-on : {S : Type 0} (b : Bool) (s : S) → is_some (step_of_test b s) ≡ b
 went-on false s = refl
 went-on true s = refl
 
--- so the walk goes on to its end where the test holds of every node
+-- The walk goes on to its end exactly if each node passes the test.
 pub every-passes : {S : Type 0} (test : S → Node → Bool) (root : Node) (s : S) (went : Bool) → went ≡ is_some (try_fold_tree_nodes (tested test) root s) → went ≡ every_node_passes (test s) root
 every-passes test root s went e = e ∙ ap is_some (walked-passes test root s) ∙ went-on (every_node_passes (test s) root) s
 
--- what is gathered, put through a function that keeps what is joined
+-- A function that preserves joining maps what is gathered to what is gathered from its values.
 pub gathered-through : {A B : Type 0} (through : A → B) (join : A → A → A) (joined : B → B → B) (own : Node → A)
     → ((x y : A) → through (join x y) ≡ joined (through x) (through y)) → (root : Node) → through (fold_nodes join own root) ≡ fold_nodes joined (λ n. through (own n)) root
 gathered-through through join joined own keeps (cat first rest) =
@@ -99,7 +99,7 @@ not-or : (a b : Bool) → not (a || b) ≡ (not a && not b)
 not-or false b = refl
 not-or true b = refl
 
--- no node passes the test where every one fails it
+-- Some node passes the test exactly if not all nodes fail it.
 pub none-passes : (test : Node → Bool) (root : Node) (went : Bool) → went ≡ every_node_passes (λ n. not (test n)) root → not went ≡ fold_nodes ◌||◌ test root
 none-passes test root went e = ap not (e ∙ sym (gathered-through not ◌||◌ ◌&&◌ test not-or root)) ∙ twice (fold_nodes ◌||◌ test root)
   where
@@ -136,7 +136,7 @@ walked-always change (loop_1_char_body q loopee) =
     in_turn-both (always change (loop_1_char_body q loopee)) (try_fold_tree_nodes (always change) loopee) (change (loop_1_char_body q loopee)) (all_along change loopee) (λ s. refl) (walked-always change loopee)
 walked-always change _ = λ s. refl
 
--- so the walk goes on to its end
+-- A walk that never stops ends with the state after all changes.
 pub always-went : {S : Type 0} (change : Node → S → S) (root : Node) (s t : S) (went : Bool) → went ≡ is_some (try_fold_tree_nodes (always change) root s)
     → (IsTrue went → try_fold_tree_nodes (always change) root s ≡ Some t) → t ≡ all_along change root s
 always-went change root s t went e f =

@@ -2,7 +2,7 @@
 use Rattle.std.proofs.Common.{◌≡◌, ℕ, zero, suc, ◌+◌, ◌-◌, ◌<◌, List, [], ◌∷◌, length, refl, sym, ap, arith}
 use Rattle.std.specs.Str.{chars, chars_after, continuation_len, lead_bits}
 
--- so many more characters, where so many bytes of one are still to come
+-- This counts the characters that begin in the bytes, behind `n` more bytes of the one before.
 unfoldable pub left_count : ℕ → List ℕ → ℕ
 left_count zero [] = 1
 left_count zero (b ∷ bytes) = suc (left_count (continuation_len b) bytes)

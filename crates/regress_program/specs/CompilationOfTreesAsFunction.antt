@@ -10,7 +10,7 @@ use Rattle.regex_meaning.specs.StartPredicate.{start_predicate, bytes_that_pass}
 use Rattle.regex_meaning.specs.MatchGroupsByNumberAndName.{group_names_by_id}
 use Rattle.regex_meaning.specs.CompilationRelation.{Insn, Goal, JustFail, Char, ByteSeq, AsciiBracket, Bracket, MatchAny, MatchAnyExceptLineTerminator, Alt, Jump}
 use Rattle.regex_meaning.specs.CompilationRelation.{EnterLoop, LoopAgain, ResetCaptureGroup, Loop1CharBody, BeginCaptureGroup, EndCaptureGroup, BackRef, Program}
-use Rattle.regex_meaning.specs.CompilationRelation.{char_set_insn, byte_set_insn, case_variants_insn, anchor_insn, word_boundary_insn, lookaround_insn, ordered}
+use Rattle.regex_meaning.specs.CompilationRelation.{char_set_insn, byte_set_insn, case_variants_insn, anchor_insn, word_boundary_insn, lookaround_insn, reversed_if_in_lookbehind}
 use Rattle.regex_meaning.specs.CompilationRelation.{is_uninverted_ascii_class, chunks}
 
 -- ---- Counts
@@ -37,17 +37,17 @@ node_insn_count (loop_1_char_body q loopee) = node_insn_count loopee + 1
 node_insn_count _ = 1
 
 -- The number of instructions of a node without those of its children.
-abbrev pub own_size : Node → ℕ
-own_size empty = 0
-own_size end_of_cat = 0
-own_size (cat first rest) = 0
-own_size (byte_sequence bytes) = length (chunks bytes)
-own_size (alt left right) = 2
-own_size (string_set strings icase) = strings_size strings
-own_size (capture_group id name contents) = 2
-own_size (lookaround l contents) = 2
-own_size (loop q start_group end_group loopee) = (end_group - start_group) + 2
-own_size _ = 1
+abbrev pub insn_count_without_children : Node → ℕ
+insn_count_without_children empty = 0
+insn_count_without_children end_of_cat = 0
+insn_count_without_children (cat first rest) = 0
+insn_count_without_children (byte_sequence bytes) = length (chunks bytes)
+insn_count_without_children (alt left right) = 2
+insn_count_without_children (string_set strings icase) = strings_size strings
+insn_count_without_children (capture_group id name contents) = 2
+insn_count_without_children (lookaround l contents) = 2
+insn_count_without_children (loop q start_group end_group loopee) = (end_group - start_group) + 2
+insn_count_without_children _ = 1
 
 -- The number of loops of a node that are not char loops.
 unfoldable pub loop_count : Node → ℕ
@@ -75,7 +75,7 @@ brackets_of _ = []
 -- The code of a string: one instruction for each code point, with its case variants.
 abbrev pub string_code : (unicode icase behind : Bool) → List ℕ → List Insn
 string_code unicode icase behind string =
-    map (λ c. case_variants_insn (expand_code_point c icase unicode)) (ordered behind string)
+    map (λ c. case_variants_insn (expand_code_point c icase unicode)) (reversed_if_in_lookbehind behind string)
 
 -- The code of a set of strings whose first instruction is at index `at`.
 abbrev pub strings_code : (unicode icase behind : Bool) → List (List ℕ) → (at : ℕ) → List Insn
@@ -98,7 +98,8 @@ code_of unicode behind goal at loops brackets = Goal ∷ []
 code_of unicode behind (char c) at loops brackets = Char c ∷ []
 code_of unicode behind (char_set members) at loops brackets = char_set_insn members ∷ []
 code_of unicode behind (byte_set members) at loops brackets = byte_set_insn members ∷ []
-code_of unicode behind (byte_sequence bytes) at loops brackets = map ByteSeq (ordered behind (chunks bytes))
+code_of unicode behind (byte_sequence bytes) at loops brackets =
+    map ByteSeq (reversed_if_in_lookbehind behind (chunks bytes))
 code_of unicode behind end_of_cat at loops brackets = []
 code_of unicode behind (cat first rest) at loops brackets =
     code_of unicode behind first at loops brackets

@@ -3,7 +3,7 @@ use Rattle.std.specs.Prelude.{◌≡◌, ℕ, ◌+◌, ◌<◌, ◌^◌, Bool, �
 use Rattle.regex_meaning.specs.Tree.{BracketContents, Lookaround, Node, cat, alt, capture_group, lookaround, loop, loop_1_char_body, Tree}
 use Rattle.regex_meaning.specs.CompilationRelation.{Insn}
 use Rattle.regex_pattern_front.specs.OptimizedTrees.{reads_one_character}
-use Rattle.regex_pattern_front.specs.AstToSpecTree.{class_as_spec, node_of}
+use Rattle.regex_pattern_front.specs.AstToSpecTree.{class_as_spec, spec_node_of}
 use Rattle.regress_program.specs.InsnsAsSpec.{insn_as_spec_insn}
 use Rattle.regress_program.specs.CompilationOfTreesAsFunction.{node_insn_count, loop_count, brackets_of, code_of}
 use Rattle.regress_program.specs.declared.emit.emitter.Emitter.{Emitter}
@@ -93,7 +93,7 @@ node_with_char_loops_if_enabled narrow node = node
 
 -- The node whose code is emitted for a declared node, in a mode.
 abbrev pub node_to_emit_in_mode : EmitMode → ir.Node → Node
-node_to_emit_in_mode mode node = node_with_char_loops_if_enabled mode.narrow (node_of node)
+node_to_emit_in_mode mode node = node_with_char_loops_if_enabled mode.narrow (spec_node_of node)
 
 -- The tree whose code is emitted.
 abbrev pub tree_with_char_loops : (narrow : Bool) → Tree → Tree

@@ -4,7 +4,7 @@ use Rattle.std.specs.Prelude.{slice_index}
 use Rattle.std.specs.Int.{bit_at}
 use Rattle.regex_meaning.specs.NumberListHelpers.{contains}
 use Rattle.regex_meaning.specs.Tree.{Node, group_ids, every_node_passes}
-use Rattle.regex_meaning.specs.WellFormedTrees.{has_exact_group_range, encloses, refers_to_a_group, has_order_in_quantifier, has_one_character_body}
+use Rattle.regex_meaning.specs.WellFormedTrees.{has_exact_group_range, range_is_ids_of_enclosed_groups, refers_to_a_group, has_order_in_quantifier, has_one_character_body}
 use Rattle.regex_meaning.specs.WellFormedTrees.{has_text_in_sequence, set_sizes_and_characters_fit_instructions}
 
 -- The bitmap has no bit for the id. A bitmap of 1,024 words has a bit for each possible id.
@@ -31,9 +31,9 @@ least_group_id [] = 2 ^ 16
 least_group_id (id ∷ ids) = min id (least_group_id ids)
 
 -- One more than the greatest id, or 0 if there is none.
-unfoldable pub id_end : List ℕ → ℕ
-id_end [] = 0
-id_end (id ∷ ids) = max (id + 1) (id_end ids)
+unfoldable pub end_of_group_ids : List ℕ → ℕ
+end_of_group_ids [] = 0
+end_of_group_ids (id ∷ ids) = max (id + 1) (end_of_group_ids ids)
 
 -- Each id inside the node is unseen and occurs once, and the ranges of loops and lookarounds
 -- contain exactly the groups inside them.
@@ -45,7 +45,7 @@ has_exact_group_ids seen node =
 -- `end`, exclusive.
 abbrev pub node_fills_id_range : (seen : ℕ → Bool) (start end : ℕ) → Node → Bool
 node_fills_id_range seen start end node = are_distinct_unseen seen
-    (group_ids node) && (encloses start end node && every_node_passes has_exact_group_range node)
+    (group_ids node) && (range_is_ids_of_enclosed_groups start end node && every_node_passes has_exact_group_range node)
 
 -- The number of ids, the least of them, and one more than the greatest.
 pub record GroupIdCountAndSpanNumbers : Type 0 where
@@ -56,7 +56,7 @@ pub record GroupIdCountAndSpanNumbers : Type 0 where
 -- The number of ids, limited to 2^64 - 1, the least of them, and one more than the greatest.
 abbrev pub count_and_span_of_group_ids : List ℕ → GroupIdCountAndSpanNumbers
 count_and_span_of_group_ids ids =
-    record { count = min (length ids) (2 ^ 64 - 1); low = least_group_id ids; high = id_end ids }
+    record { count = min (length ids) (2 ^ 64 - 1); low = least_group_id ids; high = end_of_group_ids ids }
 
 -- The span of the ids of both spans.
 abbrev pub joined : GroupIdCountAndSpanNumbers → GroupIdCountAndSpanNumbers → GroupIdCountAndSpanNumbers

@@ -1,7 +1,7 @@
 -- What a node adds to the size of a program: groups, loops and instructions.
 use Rattle.std.specs.Prelude.{ℕ, ◌+◌, ◌-◌, ◌^◌, min}
 use Rattle.regex_meaning.specs.Tree.{Node, cat, end_of_cat, capture_group, loop}
-use Rattle.regress_program.specs.CompilationOfTreesAsFunction.{own_size}
+use Rattle.regress_program.specs.CompilationOfTreesAsFunction.{insn_count_without_children}
 use Rattle.regress_program.specs.declared.emit.program_size.ProgramSize.{ProgramSize}
 
 -- A sum that saturates at 2^64 - 1.
@@ -17,13 +17,14 @@ count_node (capture_group id name contents) it =
       groups = saturating_sum it.groups 1;
       loops = it.loops;
       insns = saturating_sum it.insns
-          (own_size (capture_group id name contents));
+          (insn_count_without_children (capture_group id name contents));
     }
 count_node (loop q start_group end_group loopee) it =
     record {
       groups = it.groups;
       loops = saturating_sum it.loops 1;
       insns = saturating_sum it.insns
-          (own_size (loop q start_group end_group loopee));
+          (insn_count_without_children (loop q start_group end_group loopee));
     }
-count_node n it = record { groups = it.groups; loops = it.loops; insns = saturating_sum it.insns (own_size n) }
+count_node n it =
+    record { groups = it.groups; loops = it.loops; insns = saturating_sum it.insns (insn_count_without_children n) }

@@ -1,5 +1,5 @@
 -- Lists of nodes, leaves, and loops that become char loops.
-pub use Rattle.regex_pattern_front.specs.AstToSpecTree.{cat_of}
+pub use Rattle.regex_pattern_front.specs.AstToSpecTree.{spec_cat_of_children}
 use Rattle.std.specs.Prelude.{Bool, true, false}
 use Rattle.regex_meaning.specs.Tree as tree
 use Rattle.regex_pattern_front.specs.OptimizedTrees.{reads_one_character}

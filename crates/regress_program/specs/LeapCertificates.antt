@@ -1,7 +1,7 @@
 -- Certificates of leaps: a set of instructions (`way`) from which every path leads to the goal.
 use Rattle.std.specs.Prelude.{◌≡◌, ◌⊎◌, ℕ, ◌+◌, Bool, true, false, List, Option, Some, None, slice_get}
 use Rattle.std.specs.List.{list_all}
-use Rattle.regex_meaning.specs.CodeUnits.{Encoding, utf8, spelled_in}
+use Rattle.regex_meaning.specs.CodeUnits.{Encoding, utf8, code_units_of_character}
 use Rattle.regex_meaning.specs.CompilationRelation.{Program, LoopFields, Insn, Goal, JustFail, Char, CharSet, ByteSet, ByteSeq, AsciiBracket, Bracket, MatchAny}
 use Rattle.regex_meaning.specs.CompilationRelation.{MatchAnyExceptLineTerminator, Alt, Jump, EnterLoop, LoopAgain, Loop1CharBody, BackRef, Lookahead}
 use Rattle.regex_meaning.specs.CompilationRelation.{Lookbehind}
@@ -20,7 +20,7 @@ module _ (e : Encoding) (key : ℕ → ℕ) (program : Program) (over way : ℕ 
   abbrev pub AcceptsOnlyPassedUnits : Option (ℕ → Bool) → Type 0
   AcceptsOnlyPassedUnits None = Unit {0}
   AcceptsOnlyPassedUnits (Some test) = (c : ℕ) → is_character_in_encoding e c ≡ true → test c ≡ true
-      → are_over (spelled_in e c) ≡ true
+      → are_over (code_units_of_character e c) ≡ true
 
   -- An instruction that reads one character, and continues at the next one.
   pub record ReadsOver (insn : Insn) (ip : ℕ) : Type 0 where

@@ -14,7 +14,7 @@ use Rattle.regress_program.specs.declared.ops.Op.TheVariants.{LoopEnd, OpenGroup
 use Rattle.regress_program.specs.declared.plan.Plan.{Plan}
 use Rattle.regress_program.specs.Leaps.{is_goal_key, is_passed_key, leap_to_goal}
 use Rattle.regress_program.specs.PrefixesAndPrefilters.{PrefixAt}
-use Rattle.regress_program.specs.Plans.{op_as_char_loop, span_bytes}
+use Rattle.regress_program.specs.Plans.{op_as_char_loop, plan_bytes_in_span}
 use Rattle.regress_program.specs.RequiredPrefixAnalysis.{AreOpsOfProgram}
 
 -- Each key of the table is a key of the goal.
@@ -37,7 +37,7 @@ PassesClass plan leap number = (class : Class) → slice_get plan.classes.items 
 -- A match may read each byte of the byte sequence with this number before the goal.
 abbrev pub PassesByteSeq : Plan → Leap → (number : ℕ) → Type 0
 PassesByteSeq plan leap number = (part : SpanOfPlanBytes) → slice_get plan.parts.items number ≡ Some part
-    → PassesUnits leap (span_bytes plan part)
+    → PassesUnits leap (plan_bytes_in_span plan part)
 
 -- Whether an operation is on the way, according to a list with an entry for each operation.
 abbrev pub is_on_way : List Bool → (ip : ℕ) → Bool

@@ -81,7 +81,7 @@ pub record AreGoalsFewAscii (leap : Leap) : Type 0 where
   pub low : (k : ℕ) → k < leap.len → slice_index_or leap.units k 0 < 128
 
 -- The leap of a plan is sound for the program, and has the form that searches rely on.
-pub record IsLeap (wide : Bool) (program : Program) (leap : Leap) : Type 0 where
+pub record IsLeapRightForProgram (wide : Bool) (program : Program) (leap : Leap) : Type 0 where
   pub alike : AreHighKeysAlike leap
   pub ascii : AreGoalsFewAscii leap
   pub sound : IsSoundLeap wide program (leap_to_goal leap)

@@ -4,10 +4,10 @@ use Rattle.std.specs.List.{list_all}
 use Rattle.regex_meaning.specs.Tree.{Lookaround, Node as TreeNode, every_node_passes}
 use Rattle.regex_meaning.specs.CompilationRelation.{Alt, EnterLoop, EndCaptureGroup, Goal, Jump, LoopAgain, lookaround_insn}
 use Rattle.regex_meaning.specs.WellFormedTrees.{set_sizes_and_characters_fit_instructions}
-use Rattle.regex_pattern_front.specs.AstToSpecTree.{node_of}
+use Rattle.regex_pattern_front.specs.AstToSpecTree.{spec_node_of}
 use Rattle.regex_pattern_front.specs.declared.ir.Node as ir
 use Rattle.regress_program.specs.declared.instructions.LoopFields.{LoopFields}
-use Rattle.regress_program.specs.LeafNodesAndOptimizableLoops.{cat_of}
+use Rattle.regress_program.specs.LeafNodesAndOptimizableLoops.{spec_cat_of_children}
 use Rattle.regress_program.specs.InnerNodeCountMeasure.{inner_node_count}
 use Rattle.regress_program.specs.EmitterStateAndAppendedCode.{EmitterState, emitter_state, with_code, with_insn_appended, with_insn_at, node_with_char_loops_if_enabled}
 use Rattle.regress_program.specs.EmitterStateAndAppendedCode.{lookaround_as_spec}
@@ -58,11 +58,11 @@ with_loop_end f begin s =
 -- The state after a pending part was emitted.
 unfoldable pub with_pending : UnemittedCodePart → EmitterState → EmitterState
 with_pending (Node mode node) s =
-    with_code mode.unicode mode.behind (node_with_char_loops_if_enabled mode.narrow (node_of node.now)) s
+    with_code mode.unicode mode.behind (node_with_char_loops_if_enabled mode.narrow (spec_node_of node.now)) s
 with_pending (Row mode nodes) s =
-    with_code mode.unicode mode.behind (node_with_char_loops_if_enabled mode.narrow (cat_of nodes.now)) s
+    with_code mode.unicode mode.behind (node_with_char_loops_if_enabled mode.narrow (spec_cat_of_children nodes.now)) s
 with_pending (Others mode branch others) s = with_alternatives_emitted mode.unicode mode.behind branch
-    (node_with_char_loops_if_enabled mode.narrow (node_of others.now)) s
+    (node_with_char_loops_if_enabled mode.narrow (spec_node_of others.now)) s
 with_pending (JumpLeft place) s = with_jump place s
 with_pending (GroupEnd id) s = with_insn_appended (EndCaptureGroup id) s
 with_pending (LookaroundEnd look head) s = with_lookaround_end (lookaround_as_spec look) head s
@@ -77,10 +77,11 @@ with_all_pending (r ∷ rest) s = with_pending r (with_all_pending rest s)
 
 -- The sets in the part's nodes fit instructions, and its indices are less than `end`.
 unfoldable pub is_emittable : (end : ℕ) → UnemittedCodePart → Bool
-is_emittable end (Node mode node) = every_node_passes set_sizes_and_characters_fit_instructions (node_of node.now)
-is_emittable end (Row mode nodes) = every_node_passes set_sizes_and_characters_fit_instructions (cat_of nodes.now)
+is_emittable end (Node mode node) = every_node_passes set_sizes_and_characters_fit_instructions (spec_node_of node.now)
+is_emittable end (Row mode nodes) =
+    every_node_passes set_sizes_and_characters_fit_instructions (spec_cat_of_children nodes.now)
 is_emittable end (Others mode branch others) =
-    nat_lt branch end && every_node_passes set_sizes_and_characters_fit_instructions (node_of others.now)
+    nat_lt branch end && every_node_passes set_sizes_and_characters_fit_instructions (spec_node_of others.now)
 is_emittable end (JumpLeft place) = nat_lt place end
 is_emittable end (GroupEnd id) = true
 is_emittable end (LookaroundEnd look head) = nat_lt head end
@@ -108,11 +109,11 @@ node_measure node = 5 * inner_node_count node + 2
 
 -- The measure of a pending part.
 unfoldable pub pending_measure : UnemittedCodePart → ℕ
-pending_measure (Node mode node) = node_measure (node_with_char_loops_if_enabled mode.narrow (node_of node.now))
+pending_measure (Node mode node) = node_measure (node_with_char_loops_if_enabled mode.narrow (spec_node_of node.now))
 pending_measure (Row mode nodes) =
-    5 * inner_node_count (node_with_char_loops_if_enabled mode.narrow (cat_of nodes.now)) + 1
+    5 * inner_node_count (node_with_char_loops_if_enabled mode.narrow (spec_cat_of_children nodes.now)) + 1
 pending_measure (Others mode branch others) =
-    node_measure (node_with_char_loops_if_enabled mode.narrow (node_of others.now)) + 2
+    node_measure (node_with_char_loops_if_enabled mode.narrow (spec_node_of others.now)) + 2
 pending_measure _ = 1
 
 -- The sum of the measures of the pending parts.
@@ -153,7 +154,7 @@ BeginsEmittingAlternatives mode branch others before after =
 -- The emission of a list of nodes began.
 abbrev pub BeginsEmittingNodeList : EmitMode → List ir.Node → (before after : EmitWork) → Type 0
 BeginsEmittingNodeList mode nodes before after =
-    let row = node_with_char_loops_if_enabled mode.narrow (cat_of nodes) in
+    let row = node_with_char_loops_if_enabled mode.narrow (spec_cat_of_children nodes) in
     ExpandsPending (with_code mode.unicode mode.behind row) (5 * inner_node_count row + 1) before after
 
 -- The state of an emitter, and its pending parts.

@@ -23,7 +23,8 @@ abbrev pub PrefixAt : (wide : Bool) → Program → (ip len : ℕ) → AllowedUn
 PrefixAt wide program ip len allowed = (e : Encoding) → is_16_bit_encoding e ≡ wide
     → IsRequiredPrefix e (key wide) program ip len allowed
 
--- The prefix is a required prefix at `ip`.
+-- The prefix is a required prefix at `ip`: a thread there finds nothing unless each of the next
+-- units is allowed.
 abbrev pub IsRequiredPrefixFromInsn : (wide : Bool) → Program → (ip : ℕ) → Prefix → Type 0
 IsRequiredPrefixFromInsn wide program ip prefix = PrefixAt wide program ip prefix.len (units_allowed_by_prefix prefix)
 

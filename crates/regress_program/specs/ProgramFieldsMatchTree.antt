@@ -10,7 +10,7 @@ use Rattle.regress_program.specs.declared.plan.Plan.{Plan}
 use Rattle.regress_program.specs.Plans.{IsPlanOf}
 use Rattle.regress_program.specs.InsnsAsSpec.{insn_as_spec_insn}
 use Rattle.regress_program.specs.declared.insn.start_predicate_type.StartPredicate.{StartPredicate}
-use Rattle.regress_program.specs.StartPredicates.{IsStartOf, is_anchored_tree}
+use Rattle.regress_program.specs.StartPredicates.{IsStartPredicateOfTree, is_anchored_tree}
 use Rattle.regress_program.specs.CompilationOfTreesAsFunction.{compiled}
 use Rattle.regress_program.specs.OptimizedTreeUnlessNoOpt.{planned_tree, optimized_tree_unless_no_opt}
 use Rattle.regress_program.specs.declared.insn.emitted_code.EmittedCode.{EmittedCode}
@@ -43,7 +43,7 @@ IsPlanOfSamePrograms plan other = (wide : Bool) (program : Program) → IsPlanOf
 
 -- What a program for bytes contains in addition.
 pub record IsByteProgram (re : Regex) (start : StartPredicate) (plan : Plan) : Type 0 where
-  pub starts : IsStartOf start re
+  pub starts : IsStartPredicateOfTree start re
   pub planned : IsPlanForUnitWidth false re plan
 
 -- The plan and the code are those of the tree to run for 16-bit code units.

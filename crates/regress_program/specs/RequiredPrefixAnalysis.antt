@@ -14,7 +14,7 @@ use Rattle.regress_program.specs.declared.ops.CharLoop as run
 use Rattle.regress_program.specs.declared.plan.Plan.{Plan}
 use Rattle.regress_program.specs.PrefixesAndPrefilters.{units_allowed_by_prefix, PrefixAt}
 use Rattle.regress_program.specs.TableKeysOfUnits.{unit_table_of_set}
-use Rattle.regress_program.specs.Plans.{IsOpOf, IsClass, IsCharLoopOf}
+use Rattle.regress_program.specs.Plans.{IsOpOf, IsClassRightForProgram, IsCharLoopOf}
 
 -- ---- Masks
 
@@ -24,8 +24,9 @@ joined_masks first count behind = bit_or (bit_and first (2 ^ count - 1)) (behind
 
 -- Allows what `first` allows for the first `count` units, and what `after` allows for the units
 -- after them.
-abbrev pub then_allowed : (count : ℕ) → AllowedUnitsAhead → AllowedUnitsAhead → AllowedUnitsAhead
-then_allowed count first after ahead k = if nat_lt ahead count then first ahead k else after (ahead - count) k
+abbrev pub allowed_first_then_after : (count : ℕ) → AllowedUnitsAhead → AllowedUnitsAhead → AllowedUnitsAhead
+allowed_first_then_after count first after ahead k = if nat_lt ahead count then first ahead k
+    else after (ahead - count) k
 
 -- Only units with this key are allowed.
 abbrev pub allows_only_key : (key : ℕ) → AllowedUnitsAhead
@@ -39,7 +40,8 @@ units_allowed_by_first_set set ahead k = (unit_table_of_set set).keys k
 -- off after 15 units.
 pub record ExtendsPrefix (before : Prefix) (more : ℕ) (allowed : AllowedUnitsAhead) (prefix : Prefix) : Type 0 where
   pub len : prefix.len ≡ min (before.len + more) 15
-  pub within : (ahead k : ℕ) → ahead < prefix.len → then_allowed before.len (units_allowed_by_prefix before) allowed
+  pub within : (ahead k : ℕ) → ahead < prefix.len → allowed_first_then_after before.len (units_allowed_by_prefix before)
+      allowed
       ahead k ≡ true → units_allowed_by_prefix prefix ahead k ≡ true
 
 -- The prefix allows what either of two prefixes allows.
@@ -59,7 +61,7 @@ pub record AreOpsOfProgram (wide : Bool) (program : Program) (plan : Plan) : Typ
   pub each : (ip : ℕ) (op : Op) (insn : Insn) → slice_get plan.ops.items ip ≡ Some op
       → slice_get program.insns ip ≡ Some insn → IsOpOf program plan op ip insn
   pub classes : (number : ℕ) (class : Class) → slice_get plan.classes.items number ≡ Some class
-      → IsClass wide program class
+      → IsClassRightForProgram wide program class
 
 -- The prefix is required at an instruction. If there is no instruction, the prefix is empty.
 abbrev pub PrefixAfter : (wide : Bool) → Program → Option ℕ → (len : ℕ) → AllowedUnitsAhead → Type 0
@@ -71,7 +73,7 @@ abbrev pub PrefixBeginsWith : (wide : Bool) → Program → (ip : ℕ) → (unit
     → Type 0
 PrefixBeginsWith wide program ip units count to =
     (len : ℕ) (allowed : AllowedUnitsAhead) → PrefixAfter wide program to len allowed
-    → PrefixAt wide program ip (count + len) (then_allowed count units allowed)
+    → PrefixAt wide program ip (count + len) (allowed_first_then_after count units allowed)
 
 -- The required prefix at `ip` is computed in this way from those of its successors.
 abbrev pub FollowsFromSuccessors : (wide : Bool) → Program → (ip : ℕ) → OpPrefixContribution → Type 0
@@ -90,7 +92,8 @@ FollowsFromSuccessors wide program ip (Units set count to) =
 pub record IsPrefixSoFar (wide : Bool) (program : Program) (from : ℕ) (prefix : Prefix) (ip : ℕ) : Type 0 where
   pub so_far : PrefixAt wide program from prefix.len (units_allowed_by_prefix prefix)
   pub on : prefix.len < 15 → (len : ℕ) (allowed : AllowedUnitsAhead) → PrefixAt wide program ip len allowed
-      → PrefixAt wide program from (prefix.len + len) (then_allowed prefix.len (units_allowed_by_prefix prefix) allowed)
+      → PrefixAt wide program from (prefix.len + len)
+      (allowed_first_then_after prefix.len (units_allowed_by_prefix prefix) allowed)
 
 -- Whether the operation reads nothing, and either continues at the next one or fails.
 abbrev pub falls_through : Op → Bool
@@ -101,7 +104,8 @@ falls_through (op.CloseGroup slot) = true
 falls_through (op.ResetGroup slot) = true
 falls_through _ = false
 
--- What the operation of the plan contributes to the required prefix, if it is at `ip`.
+-- What the operation of the plan contributes to the required prefix, if it is at `ip` (see
+-- `FollowsFromSuccessors`).
 abbrev pub IsOpPrefixContributionOf : Plan → Op → (ip : ℕ) → OpPrefixContribution → Type 0
 IsOpPrefixContributionOf plan op ip ahead =
     (wide : Bool) (program : Program) → AreOpsOfProgram wide program plan → slice_get plan.ops.items ip ≡ Some op

@@ -11,7 +11,7 @@ use Rattle.regress_program.specs.CompilationOfTreesAsFunction.{compiled}
 use Rattle.regress_program.specs.declared.insn.start_predicate_type.StartPredicate.{StartPredicate}
 use Rattle.regress_program.specs.declared.insn.start_predicate_type.StartPredicate.TheVariants.{ByteSeq, ByteBracket}
 
--- A set of bytes that is stored as a bitmap has more than three members.
+-- A set of bytes that is stored as a bitmap has more than three members. Smaller sets are arrays.
 abbrev pub HasOverThreeBytes : StartPredicate → Type 0
 HasOverThreeBytes (ByteBracket set) = 3 < length (member_bytes_of_byte_bitmap set)
 HasOverThreeBytes _ = ⊤
@@ -22,7 +22,7 @@ IsCopyOfPredicate (ByteSeq bytes) (ByteSeq copy) = copy.items ≡ bytes.items
 IsCopyOfPredicate p copy = copy ≡ p
 
 -- The value is the start predicate of the tree.
-pub record IsStartOf (p : StartPredicate) (tree : Regex) : Type 0 where
+pub record IsStartPredicateOfTree (p : StartPredicate) (tree : Regex) : Type 0 where
   pub predicate : start_predicate_as_spec p ≡ (compiled (tree_of tree)).start_pred
   pub short : HasOverThreeBytes p
 

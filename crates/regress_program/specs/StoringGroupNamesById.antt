@@ -2,17 +2,17 @@
 use Rattle.std.specs.Prelude.{◌≡◌, ℕ, ◌+◌, ◌*◌, ◌<◌, Bool, List, [], ◌∷◌, ◌++◌, length, map, set, ◌==◌, String, string_bytes}
 use Rattle.std.specs.List.{list_all}
 use Rattle.regex_meaning.specs.Tree.{Node as TreeNode}
-use Rattle.regex_meaning.specs.MatchGroupsByNumberAndName.{own_name, capturing_group_ids_and_names}
-use Rattle.regex_pattern_front.specs.AstToSpecTree.{node_of}
+use Rattle.regex_meaning.specs.MatchGroupsByNumberAndName.{id_and_name_if_capture_group, capturing_group_ids_and_names}
+use Rattle.regex_pattern_front.specs.AstToSpecTree.{spec_node_of}
 use Rattle.regex_pattern_front.specs.declared.ir.Node as ir
-use Rattle.regress_program.specs.LeafNodesAndOptimizableLoops.{cat_of}
+use Rattle.regress_program.specs.LeafNodesAndOptimizableLoops.{spec_cat_of_children}
 use Rattle.regress_program.specs.InnerNodeCountMeasure.{inner_node_count}
 use Rattle.regress_program.specs.declared.emit.storing_group_names_by_id.NodeOrListWithUnstoredNames.{NodeOrListWithUnstoredNames}
 use Rattle.regress_program.specs.declared.emit.storing_group_names_by_id.NodeOrListWithUnstoredNames.TheVariants.{Node, Row}
 
 -- The node is not a group with a name.
 abbrev pub is_nameless : TreeNode → Bool
-is_nameless node = list_all (λ p. length p.1 == 0) (own_name node)
+is_nameless node = list_all (λ p. length p.1 == 0) (id_and_name_if_capture_group node)
 
 -- No group of the tree has a name.
 abbrev pub tree_has_no_named_groups : TreeNode → Bool
@@ -31,8 +31,8 @@ IsNameListAfterStoringNames named old new = map string_bytes new ≡ with_names_
 
 -- The names in a pending part, with their ids.
 unfoldable pub names_in_pending_part : NodeOrListWithUnstoredNames → List (ℕ × List ℕ)
-names_in_pending_part (Node node) = capturing_group_ids_and_names (node_of node.now)
-names_in_pending_part (Row nodes) = capturing_group_ids_and_names (cat_of nodes.now)
+names_in_pending_part (Node node) = capturing_group_ids_and_names (spec_node_of node.now)
+names_in_pending_part (Row nodes) = capturing_group_ids_and_names (spec_cat_of_children nodes.now)
 
 -- The names after all pending parts were stored, beginning with the last one.
 abbrev pub pending_names_stored : List NodeOrListWithUnstoredNames → (names : List (List ℕ)) → List (List ℕ)
@@ -46,11 +46,11 @@ naming_measure_of_node node = 3 * inner_node_count node + 2
 
 -- The measure of a list of nodes.
 abbrev pub naming_measure_of_nodes : List ir.Node → ℕ
-naming_measure_of_nodes nodes = 3 * inner_node_count (cat_of nodes) + 1
+naming_measure_of_nodes nodes = 3 * inner_node_count (spec_cat_of_children nodes) + 1
 
 -- The measure of a pending part.
 unfoldable pub naming_measure_of_part : NodeOrListWithUnstoredNames → ℕ
-naming_measure_of_part (Node node) = naming_measure_of_node (node_of node.now)
+naming_measure_of_part (Node node) = naming_measure_of_node (spec_node_of node.now)
 naming_measure_of_part (Row nodes) = naming_measure_of_nodes nodes.now
 
 -- The sum of the measures of the pending parts.
@@ -74,13 +74,15 @@ StoresOrPushesNodes named cost old new before after =
 -- The nodes of a list were put before the rest, except for leading nodes that contain no names.
 abbrev pub PushesNamedNodes : List ir.Node → (before after : List NodeOrListWithUnstoredNames) → Type 0
 PushesNamedNodes nodes before after = (names : List (List ℕ))
-    → StoresNamesOrPushesNodes (capturing_group_ids_and_names (cat_of nodes)) (naming_measure_of_nodes nodes) names names
+    → StoresNamesOrPushesNodes (capturing_group_ids_and_names (spec_cat_of_children nodes))
+    (naming_measure_of_nodes nodes) names names
     before after
 
 -- Two nodes were put before the rest.
 abbrev pub PushesTwoNodes : (first others : ir.Node) → (before after : List NodeOrListWithUnstoredNames) → Type 0
 PushesTwoNodes first others before after =
-    let cost = naming_measure_of_node (node_of first) + naming_measure_of_node (node_of others) + 1 in
+    let cost = naming_measure_of_node (spec_node_of first) + naming_measure_of_node (spec_node_of others) + 1 in
     (names : List (List ℕ)) → StoresNamesOrPushesNodes
-    (capturing_group_ids_and_names (node_of first) ++ capturing_group_ids_and_names (node_of others)) cost names
+    (capturing_group_ids_and_names (spec_node_of first) ++ capturing_group_ids_and_names (spec_node_of others)) cost
+    names
     names before after

@@ -191,14 +191,14 @@ fn code_to_run(
     requires same { program.now ≡ re.now }
     ensures { IfOk result (λ code. IsCodeOfTree (optimized_tree_unless_no_opt (tree_of re.now)) (arc_value code)) }
 {
-    if is_run_itself(re) {
+    if is_tree_to_run_unchanged(re) {
         return program.code();
     }
     emit_code(alloc, re, true, program.insns().len())
 }
 
 // Checks whether the tree to run is the tree itself, because optimizing changes nothing or is off.
-fn is_run_itself(re: &ir::Regex) -> bool
+fn is_tree_to_run_unchanged(re: &ir::Regex) -> bool
     ensures itself { result ≡ true → optimized_tree_unless_no_opt (tree_of re.now) ≡ tree_of re.now }
     ensures optimized { result ≡ false → re.now.flags.no_opt ≡ false }
 {

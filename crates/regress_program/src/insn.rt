@@ -1,4 +1,5 @@
-//! Instructions, and programs made of them.
+//! Programs: instructions with a tree, a plan and names. The instructions themselves are in
+//! `instructions`.
 
 mod byte_and_unit_programs;
 mod common_program_part;

@@ -8,7 +8,7 @@ ghost use Rattle.std.specs.Prelude.{◌≡◌, ◌≢◌, ◌<◌, ◌+◌, ◌^
 ghost use Rattle.regex_meaning.specs.CompilationRelation.{Program};
 ghost use Rattle.regress_program.specs.RequiredPrefixAnalysis.{AreOpsOfProgram};
 ghost use Rattle.regress_program.specs.TableKeysOfUnits.{is_16_bit_width, unit_table_of_set};
-ghost use Rattle.regress_program.specs.Leaps.{is_goal_key, is_passed_key, AreHighKeysAlike, AreGoalsFewAscii, IsLeap};
+ghost use Rattle.regress_program.specs.Leaps.{is_goal_key, is_passed_key, AreHighKeysAlike, AreGoalsFewAscii, IsLeapRightForProgram};
 ghost use Rattle.regress_program.specs.LeapCertificatesOfPlans.{is_on_way, AreAllGoalKeys, PassesUnits, PassesReadLengths, ArrivesAtGoal, PassesByteSeq};
 ghost use Rattle.regress_program.specs.LeapCertificatesOfPlans.{PassesClass, LoopStaysOnWay, LookaroundStaysOnWay, OpReachesGoal, OpOnWayReachesGoal, OpsOnWayReachGoal};
 
@@ -214,6 +214,7 @@ impl LeapCheck<'_> {
 
     // Checks whether each operation at which a loop continues is on the way: its body and, unless
     // it has to iterate, the operation after it.
+    // A loop has to iterate if `entered` is set and its minimum is not 0.
     fn loop_leads(self, number: u32, entered: bool) -> bool
         ensures { result ≡ true
             → LoopStaysOnWay self.entry.plan.now (is_on_way self.entry.on_way.now) number
@@ -299,7 +300,7 @@ impl LeapCheck<'_> {
     // Checks whether each match reaches the goal.
     fn is_leap(self) -> bool
         ensures { let wide = is_16_bit_width self.entry.units in result ≡ true → (program : Program)
-            → AreOpsOfProgram wide program self.entry.plan.now → IsLeap wide program self.entry.leap.now }
+            → AreOpsOfProgram wide program self.entry.plan.now → IsLeapRightForProgram wide program self.entry.leap.now }
     {
         if !self.has(0) {
             return false;
@@ -320,11 +321,11 @@ impl LeapCheck<'_> {
 const MOST_STEPS: usize = 512;
 
 /// The maximum frequency of a unit of the goal, in a thousand.
-const RARE: u8 = 16;
+const MAX_GOAL_UNIT_FREQUENCY: u8 = 16;
 
 // Checks whether a unit with this key may be the goal.
 fn is_rare(key: usize) -> bool {
-    key < 128 && frequency(key as u8) <= RARE
+    key < 128 && frequency(key as u8) <= MAX_GOAL_UNIT_FREQUENCY
 }
 
 /// A walk over all operations to which the first one leads. It stops at each one that reads only a
@@ -393,7 +394,7 @@ impl<'p> Walk<'p> {
 
     // Makes a character part of the goal, or else allows it before the goal. Returns whether it is
     // part of the goal.
-    fn arrives_by_char(&mut self, c: u32) -> bool {
+    fn add_char_to_goal_or_pass(&mut self, c: u32) -> bool {
         let key = c.min(128) as usize;
         if is_rare(key) && self.add_to_goal(key as u8) {
             return true;
@@ -404,7 +405,7 @@ impl<'p> Walk<'p> {
 
     // Makes the characters of a class part of the goal if they may be, or else allows them before
     // the goal. Returns whether they are part of the goal.
-    fn arrives_by_class(&mut self, number: u32, may_be_goal: bool) -> bool {
+    fn add_class_to_goal_or_pass(&mut self, number: u32, may_be_goal: bool) -> bool {
         let Some(class) = self.plan.classes.get(number as usize) else {
             return false;
         };
@@ -437,7 +438,7 @@ impl<'p> Walk<'p> {
             Some(bounds) => bounds.min > 0,
             None => false,
         };
-        if self.arrives_by_class(run.class, reads) {
+        if self.add_class_to_goal_or_pass(run.class, reads) {
             Ok(())
         } else {
             self.reach(ip.saturating_add(2))
@@ -480,12 +481,12 @@ impl<'p> Walk<'p> {
         match op {
             Op::Goal | Op::MatchBackref(_) => return Ok(false),
             Op::UnitChar(c) | Op::Char(c) => {
-                if !self.arrives_by_char(c) {
+                if !self.add_char_to_goal_or_pass(c) {
                     self.reach(ip.saturating_add(1))?;
                 }
             }
             Op::One(number) => {
-                if !self.arrives_by_class(number, true) {
+                if !self.add_class_to_goal_or_pass(number, true) {
                     self.reach(ip.saturating_add(1))?;
                 }
             }
@@ -549,10 +550,7 @@ fn frequency_of(units: &[u8; 3], len: usize) -> u32 {
 fn is_start_fast(start: &CandidateStarts) -> bool {
     match start {
         CandidateStarts::FewUnits { .. } => true,
-        CandidateStarts::Prefix { prefilter, .. } => match prefilter {
-            RequiredPrefixPrefilter::Absent => false,
-            _ => true,
-        },
+        CandidateStarts::Prefix { prefilter, .. } => !prefilter.is_absent(),
         _ => false,
     }
 }
@@ -593,7 +591,7 @@ fn leap_of_walk(
     into_lookaheads: bool,
 ) -> Result<Option<Leap>, AllocError>
     ensures { let wide = is_16_bit_width units in IfOk result (λ found. IfSome found (λ leap.
-        (program : Program) → AreOpsOfProgram wide program plan.now → IsLeap wide program leap)) }
+        (program : Program) → AreOpsOfProgram wide program plan.now → IsLeapRightForProgram wide program leap)) }
 {
     let mut walk = Walk::new(alloc, plan, into_lookaheads)?;
     if !walk.walk()? {
@@ -628,7 +626,7 @@ pub(crate) fn leap_of(
     units: UnitWidth,
 ) -> Result<Option<Leap>, AllocError>
     ensures { let wide = is_16_bit_width units in IfOk result (λ found. IfSome found (λ leap.
-        (program : Program) → AreOpsOfProgram wide program plan.now → IsLeap wide program leap)) }
+        (program : Program) → AreOpsOfProgram wide program plan.now → IsLeapRightForProgram wide program leap)) }
 {
     if is_start_fast(&plan.start) {
         return Ok(None);

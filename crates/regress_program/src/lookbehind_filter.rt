@@ -26,6 +26,7 @@ pub struct PrecedingCharFilter {
 impl PrecedingCharFilter {
     // Returns the filter for characters that begin with keys of this set. `None` if it has more
     // than three keys, or one with which no character begins.
+    // The filter has all keys of the set and this `edge`.
     fn of(set: &FirstSet, edge: bool, units: UnitWidth) -> Option<PrecedingCharFilter>
         ensures { IfSome result (FilterIncludesAllKeysOfSet (is_16_bit_width units) set.now edge) }
     {

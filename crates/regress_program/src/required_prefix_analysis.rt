@@ -161,6 +161,9 @@ fn all_but(from: usize, count: usize) -> u16
 }
 
 /// Returns the required prefix of the program of this plan.
+///
+/// A search from the first instruction finds nothing unless the prefix allows each of the next
+/// units.
 pub(crate) fn compute_required_prefix(plan: &Plan) -> Prefix
     ensures { (wide : Bool) (program : Program)
         → AreOpsOfProgram wide program plan.now → IsRequiredPrefixFromInsn wide program 0 result }
@@ -233,8 +236,8 @@ fn prefix_step_of_op(plan: &Plan, op: Op, ip: usize) -> OpPrefixContribution
         return prefix_step_of_run(plan, run, ip);
     }
     match op {
-        Op::UnitChar(c) => said_of_unit(c, ip),
-        Op::One(number) => said_of_class(plan, number, ip),
+        Op::UnitChar(c) => prefix_contribution_of_unit(c, ip),
+        Op::One(number) => prefix_contribution_of_class(plan, number, ip),
         Op::Goto(to) => OpPrefixContribution::SameAs(to as usize),
         Op::Look(look) => OpPrefixContribution::SameAs(look.past as usize),
         Op::Either(other) => OpPrefixContribution::UnionOf(ip + 1, other as usize),
@@ -258,7 +261,8 @@ fn falls_through_silently(op: Op) -> bool
 }
 
 // Returns the contribution of a one-unit character.
-fn said_of_unit(c: u32, ip: usize) -> OpPrefixContribution
+// The contribution is right if the plan has this character at `ip`.
+fn prefix_contribution_of_unit(c: u32, ip: usize) -> OpPrefixContribution
     requires { ip + 1 < 2 ^ 64 }
     ensures { (plan : Plan) → IsOpPrefixContributionOf plan (UnitChar c) ip result }
 {
@@ -272,7 +276,7 @@ fn said_of_unit(c: u32, ip: usize) -> OpPrefixContribution
 }
 
 // Returns the contribution of a class.
-fn said_of_class(plan: &Plan, number: u32, ip: usize) -> OpPrefixContribution
+fn prefix_contribution_of_class(plan: &Plan, number: u32, ip: usize) -> OpPrefixContribution
     requires { ip + 1 < 2 ^ 64 }
     ensures { IsOpPrefixContributionOf plan.now (One number) ip result }
 {

@@ -1,6 +1,6 @@
 //! Prefilters: what is searched for before the units of a required prefix are checked.
 
-ghost use Rattle.std.specs.Prelude.{◌≡◌, ◌<◌, ◌≤◌, ℕ, true, IfSome};
+ghost use Rattle.std.specs.Prelude.{◌≡◌, ◌<◌, ◌≤◌, ◌↔◌, ℕ, true, IsTrue, IfSome};
 ghost use Rattle.regress_program.specs.PrefixesAndPrefilters.{units_allowed_by_prefix, unit_passes_probe as has_bits, IsOnlyUnitAllowedAtPosition};
 ghost use Rattle.regress_program.specs.PrefixesAndPrefilters.{IsLiteralForcedByPrefix, ProbePassesPrefix, ProbesPassPrefix, IsPrefilterOfPrefix};
 ghost use Rattle.regress_program.specs.TableKeysOfUnits.{is_16_bit_width};
@@ -49,6 +49,19 @@ pub enum RequiredPrefixPrefilter {
     Probes([MaskedUnitProbe; 4]),
 }
 
+impl RequiredPrefixPrefilter {
+    /// Checks whether nothing is searched for.
+    pub fn is_absent(&self) -> bool
+        ensures { IsTrue result ↔ self.now ≡ RequiredPrefixPrefilter.Absent }
+    {
+        match self {
+            RequiredPrefixPrefilter::Absent => true,
+            RequiredPrefixPrefilter::ByLiteral(_) => false,
+            RequiredPrefixPrefilter::Probes(_) => false,
+        }
+    }
+}
+
 /// A unit at least as frequent as this, in a thousand, is not searched for alone.
 const OFTEN: u32 = 15;
 
@@ -68,6 +81,7 @@ struct CommonBitsOfUnits {
     often: u32,
 }
 
+/// The common bits of no units.
 const NO_UNIT: CommonBitsOfUnits = CommonBitsOfUnits {
     all: 0xFF,
     some: 0,

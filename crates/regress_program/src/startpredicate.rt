@@ -1,11 +1,11 @@
 //! Computes the start predicate of a tree.
-#![tactic(auto, unfolding(regex_pattern_front::specs::AstToSpecTree::node_of, crate::specs::InnerNodeCountMeasure::inner_node_count))]
+#![tactic(auto, unfolding(regex_pattern_front::specs::AstToSpecTree::spec_node_of, crate::specs::InnerNodeCountMeasure::inner_node_count))]
 
 ghost use Rattle.std.specs.Prelude.{◌≡◌, ◌&&◌, not, false, IfOk, IsOk};
 ghost use Rattle.regex_meaning.specs.StartPredicate.{IsSoundStartPredicateOf, is_anchored, start_predicate, resolved_start_predicate as predicate_of, sequence, one_of};
 ghost use Rattle.regex_meaning.specs.WellFormedTrees.{IsWellFormed};
 ghost use Rattle.regex_pattern_front.specs.ByteSetMembers.{member_bytes_of_byte_bitmap};
-ghost use Rattle.regex_pattern_front.specs.AstToSpecTree.{node_of, tree_of};
+ghost use Rattle.regex_pattern_front.specs.AstToSpecTree.{spec_node_of, tree_of};
 ghost use Rattle.regress_program.specs.{JoinedStarts.{abstract_start_as_spec}, InsnsAsSpec.{start_predicate_as_spec}};
 ghost use Rattle.regress_program.specs.StartPredicates.{HasOverThreeBytes, is_anchored_tree, predicate_is_byte_sequence};
 ghost use Rattle.regress_program.specs.StartPredicates.{start_predicate_may_allocate};
@@ -39,7 +39,7 @@ pub fn predicate_for_re(alloc: Global, re: &ir::Regex) -> Result<StartPredicate,
     ensures predicate { IfOk result (λ p. start_predicate_as_spec p ≡ start_predicate (tree_of re.now)) }
     ensures sound { IsWellFormed (tree_of re.now).root
         → IfOk result (λ p. IsSoundStartPredicateOf (start_predicate_as_spec p) (tree_of re.now).root) }
-    ensures short { IfOk result HasOverThreeBytes }
+    ensures over_three { IfOk result HasOverThreeBytes }
     ensures no_memory { start_predicate_may_allocate (tree_of re.now) ≡ false → IsOk result }
 {
     if matches_at_left_end(re) {
@@ -49,13 +49,14 @@ pub fn predicate_for_re(alloc: Global, re: &ir::Regex) -> Result<StartPredicate,
     beginning_predicate(alloc, beginning)
 }
 
+// Returns the start predicate of an abstract one. A small set is stored as an array.
 fn beginning_predicate(
     alloc: Global,
     beginning: AbstractStartPredicate<'_>,
 ) -> Result<StartPredicate, AllocError>
     ensures predicate { IfOk result (λ p. start_predicate_as_spec p ≡ predicate_of
         (abstract_start_as_spec beginning.entry)) }
-    ensures short { IfOk result HasOverThreeBytes }
+    ensures over_three { IfOk result HasOverThreeBytes }
     ensures no_memory { predicate_is_byte_sequence (abstract_start_as_spec beginning.entry) ≡ false →
         IsOk result }
 {
@@ -71,7 +72,7 @@ fn beginning_predicate(
 // Returns the predicate that a text starts with these bytes.
 fn bytes_predicate(alloc: Global, bytes: &[u8]) -> Result<StartPredicate, AllocError>
     ensures predicate { IfOk result (λ p. start_predicate_as_spec p ≡ predicate_of (sequence bytes.now)) }
-    ensures short { IfOk result HasOverThreeBytes }
+    ensures over_three { IfOk result HasOverThreeBytes }
 {
     match bytes {
         [] => Ok(StartPredicate::Arbitrary),
@@ -83,7 +84,7 @@ fn bytes_predicate(alloc: Global, bytes: &[u8]) -> Result<StartPredicate, AllocE
 // Returns the predicate that a text starts with a byte of the set.
 fn set_predicate(set: ByteBitmap) -> StartPredicate
     ensures predicate { start_predicate_as_spec result ≡ predicate_of (one_of (member_bytes_of_byte_bitmap set)) }
-    ensures short { HasOverThreeBytes result }
+    ensures over_three { HasOverThreeBytes result }
 {
     let Some(a) = least_byte_in_set_from(&set, 0) else {
         return StartPredicate::Arbitrary;
@@ -109,7 +110,7 @@ pub(crate) fn matches_at_left_end(re: &ir::Regex) -> bool
 
 // Checks whether the node is anchored.
 fn is_start_anchored(node: &Node) -> bool
-    ensures { result ≡ is_anchored (node_of node.now) }
+    ensures { result ≡ is_anchored (spec_node_of node.now) }
 {
     let mut rest = node;
     loop {

@@ -8,7 +8,7 @@ use Rattle.std.proofs.lemmas.List.{length-append}
 use mathlib.Core.Logic.{◌⊎◌, inl, inr}
 use Rattle.regex_meaning.specs.Text.{Text}
 use Rattle.regex_meaning.specs.CodeUnitOffsets.{IsBoundary}
-use Rattle.regex_meaning.specs.CodeUnits.{Encoding, utf8, utf16, ucs2, spelled_in, text_units_in_encoding, surrogate_pair}
+use Rattle.regex_meaning.specs.CodeUnits.{Encoding, utf8, utf16, ucs2, code_units_of_character, text_units_in_encoding, surrogate_pair}
 use Rattle.regex_meaning.proofs.OptionLemmas.{some-same}
 use Rattle.regex_meaning.proofs.CodeUnitOffsetsLemmas.{offset-IsBoundary}
 use Rattle.regress_input.proofs.UnitsAtBoundaries.{boundary-byte, offset-units}
@@ -25,30 +25,30 @@ use Rattle.regress_search.proofs.NextCharByUnit.{unit-fits}
 
 -- ---- Units below 128
 
--- a unit of a kind of which none is a later one of a character is the first one of its character
-module _ (e : Encoding) (Kind : ℕ → Type 0) (later : (c i u : ℕ) → slice_get (spelled_in e c) (suc i) ≡ Some u → Kind u → ⊥) where
+-- If no later unit of a character is of a kind, a unit of that kind begins a character.
+module _ (e : Encoding) (Kind : ℕ → Type 0) (later : (c i u : ℕ) → slice_get (code_units_of_character e c) (suc i) ≡ Some u → Kind u → ⊥) where
   abbrev spell : List ℕ → List ℕ
-  spell = flat_map (spelled_in e)
+  spell = flat_map (code_units_of_character e)
 
   located : (cs : List ℕ) (i u : ℕ) → slice_get (spell cs) i ≡ Some u → Kind u → (p : ℕ) × (p ≤ length cs) × (length (spell (take p cs)) ≡ i)
   located [] i u there low = cc
-  located (c ∷ cs) i u there low = by (cases_lt i (length (spelled_in e c))) (λ j rest. located cs j u rest low)
+  located (c ∷ cs) i u there low = by (cases_lt i (length (code_units_of_character e c))) (λ j rest. located cs j u rest low)
     where
-      here : (i : ℕ) → slice_get (spelled_in e c) i ≡ Some u → (p : ℕ) × (p ≤ length (c ∷ cs)) × (length (spell (take p (c ∷ cs))) ≡ i)
+      here : (i : ℕ) → slice_get (code_units_of_character e c) i ≡ Some u → (p : ℕ) × (p ≤ length (c ∷ cs)) × (length (spell (take p (c ∷ cs))) ≡ i)
       here zero at = (0, omega arith, refl)
       here (suc i) at = absurd (later c i u at low)
 
-      by : (i < length (spelled_in e c)) ⊎ (length (spelled_in e c) ≤ i)
+      by : (i < length (code_units_of_character e c)) ⊎ (length (code_units_of_character e c) ≤ i)
           → ((j : ℕ) → slice_get (spell cs) j ≡ Some u → (p : ℕ) × (p ≤ length cs) × (length (spell (take p cs)) ≡ j))
           → (p : ℕ) × (p ≤ length (c ∷ cs)) × (length (spell (take p (c ∷ cs))) ≡ i)
-      by (inl less) more = here i (sym (get-front (spelled_in e c) (spell cs) i less) ∙ there)
+      by (inl less) more = here i (sym (get-front (code_units_of_character e c) (spell cs) i less) ∙ there)
       by (inr le) more =
-          let back : i ≡ length (spelled_in e c) + (i - length (spelled_in e c)) = omega (arith, le) in
-          let rest = more (i - length (spelled_in e c))
-          (sym (get-behind (spelled_in e c) (spell cs) (i - length (spelled_in e c))) ∙ ap (slice_get (spelled_in e c ++ spell cs)) (sym back) ∙ there) in
+          let back : i ≡ length (code_units_of_character e c) + (i - length (code_units_of_character e c)) = omega (arith, le) in
+          let rest = more (i - length (code_units_of_character e c))
+          (sym (get-behind (code_units_of_character e c) (spell cs) (i - length (code_units_of_character e c))) ∙ ap (slice_get (code_units_of_character e c ++ spell cs)) (sym back) ∙ there) in
           let inside = rest.1 in
           let same = rest.2 in
-          let both = length-append (spelled_in e c) (spell (take rest.0 cs)) in
+          let both = length-append (code_units_of_character e c) (spell (take rest.0 cs)) in
           (suc rest.0, omega (arith, inside), omega (arith, both, same, back))
 
   located-boundary : (text : Text) → HasUnitsForTables e text → (at u : ℕ) → slice_get (text_units_in_encoding e text) at ≡ Some u → Kind u → IsBoundary text at
@@ -60,7 +60,7 @@ pub low-boundary : (e : Encoding) (text : Text) → HasUnitsForTables e text →
 low-boundary utf8 text has at u there low = boundary-byte text has.spelled at u there ∙ ap (λ (b : Bool). not (b && nat_le u 0xBF)) (lt-leb 0x80 u low)
 low-boundary utf16 text has at u there low = located-boundary utf16 (λ u. u < 128) later text has at u there low
   where
-    later : (c i u : ℕ) → slice_get (spelled_in utf16 c) (suc i) ≡ Some u → u < 128 → ⊥
+    later : (c i u : ℕ) → slice_get (code_units_of_character utf16 c) (suc i) ≡ Some u → u < 128 → ⊥
     later c i u there low = by (nat_lt c 0x1_0000) there
       where
         by : (b : Bool) → slice_get (if b then c ∷ [] else surrogate_pair c) (suc i) ≡ Some u → ⊥
@@ -72,7 +72,7 @@ low-boundary utf16 text has at u there low = located-boundary utf16 (λ u. u < 1
             second (suc i) at = cc
 low-boundary ucs2 text has at u there low = located-boundary ucs2 (λ u. u < 128) (λ c i u there low. cc there) text has at u there low
 
--- in 16-bit units, one that ends no pair
+-- The unit is not the second one of a surrogate pair.
 abbrev pub EndsNoPair : ℕ → Type 0
 EndsNoPair u = (u < 0xDC00) ⊎ (0xE000 ≤ u)
 
@@ -84,7 +84,7 @@ beside-boundary utf16 wide text has at u there beside = located-boundary utf16 E
     apart x u same (inl less) = omega (arith, same, less)
     apart x u same (inr more) = omega (arith, same, more)
 
-    later : (c i u : ℕ) → slice_get (spelled_in utf16 c) (suc i) ≡ Some u → EndsNoPair u → ⊥
+    later : (c i u : ℕ) → slice_get (code_units_of_character utf16 c) (suc i) ≡ Some u → EndsNoPair u → ⊥
     later c i u there beside = by (nat_lt c 0x1_0000) there
       where
         by : (b : Bool) → slice_get (if b then c ∷ [] else surrogate_pair c) (suc i) ≡ Some u → ⊥
@@ -96,9 +96,9 @@ beside-boundary utf16 wide text has at u there beside = located-boundary utf16 E
             second (suc i) at = cc
 beside-boundary ucs2 wide text has at u there beside = located-boundary ucs2 EndsNoPair (λ c i u there beside. cc there) text has at u there beside
 
--- ---- Keys
+-- ---- Keys of units
 
--- the key of a unit is small, and one below 128 is that of the unit itself
+-- The key of a unit is less than 256.
 pub key-small : (wide : Bool) (u : ℕ) → u < (if wide then 0x1_0000 else 0x100) → key wide u < 256
 key-small false u less = less
 key-small true u less = elim (cases_lt u 128) [
@@ -116,7 +116,7 @@ key-own true u low = elim (cases_lt u 128) [
 ]
 
 module _ (w : SearchInput) (has : HasUnitsForTables w.encoding w.text) (prefix : Prefix) (at : ℕ) (fit : prefix_fits_at w prefix at ≡ true) where
-  -- where the first units may stand, and only those below 128 so many units on, there is one
+  -- Where the prefix fits and allows only ASCII, an allowed unit below 128 stands.
   pub fit-unit : (ahead : ℕ) → ahead < prefix.len → AllowsOnlyAsciiAt prefix ahead
       → (u : ℕ) × (slice_get (text_units_in_encoding w.encoding w.text) (at + ahead) ≡ Some u) × (u < 128) × (units_allowed_by_prefix prefix ahead u ≡ true)
   fit-unit ahead less ascii =
@@ -132,7 +132,7 @@ module _ (w : SearchInput) (has : HasUnitsForTables w.encoding w.text) (prefix :
           let own = key-own (is_16_bit_encoding w.encoding) u low in
           (u, there, subst (λ k. k < 128) (sym own) low, ap (units_allowed_by_prefix prefix ahead) own ∙ may)
 
-  -- and it is a boundary
+  -- If the prefix allows only ASCII units first, an offset where it fits is a boundary.
   pub fit-boundary : 0 < prefix.len → PrefixAllowsOnlyAsciiFirst prefix → IsBoundary w.text at
   fit-boundary some ascii =
       let one = fit-unit 0 some ascii in

@@ -9,22 +9,22 @@ use Rattle.regress_search.specs.declared.exec.work_matches.WorkError.TheVariants
 use Rattle.regress_search.specs.declared.exec.MatchProducer.{Ghosts}
 use Rattle.regress_search.specs.RemainingAnswers.{NextYields, remaining_answers_from}
 use Rattle.regress_search.specs.MatchesWithinWork.{CallKeepsWorkEnough, IsWorkLimitOrMemoryCause, is_work_enough}
-use Rattle.regress_search.specs.CostsOfSearches.{CallSpendsExactCost, ContinuesAfterCall, Failures, MayStopShort}
-use Rattle.regress_search.specs.CostsOfCalls.{NextCosts, NextYieldsAtCost, WorkMatchesView}
+use Rattle.regress_search.specs.CostsOfSearches.{CallSpendsExactCost, ContinuesAfterCall, Failures, LeavesWorkWithoutResult}
+use Rattle.regress_search.specs.CostsOfCalls.{NextCallCosts, NextYieldsAtCost, WorkMatchesView}
 
--- work that was refused was not enough
+-- If the work limit was reached, the work left was not enough.
 not-enough : (enough out : Bool) → (enough ≡ true → out ≡ false) → out ≡ true → enough ≡ false
 not-enough true out e is = absurd (cc (sym (e refl) ∙ is))
 not-enough false out e is = refl
 
 module _ {P : Type 0} (attempt_costs : Tree → Text → (before : Failures) → (at cost : ℕ) → (after : Option Failures) → Type 0) (tree : P → Tree) (text : P → Text) (failures : P → Failures)
     (s t : WorkMatchesView P) (out : Bool) where
-  -- What the function that searches ensures of a result.
+  -- `Called` is what the function that searches ensures of a result.
   pub record Called (r : Option (Result Match SearchError)) : Type 0 where
     pub yields : NextYields s.remaining r t.remaining
     pub enough : CallKeepsWorkEnough s.enough r t.enough out
     pub less : t.left ≤ s.left
-    pub spends : CallSpendsExactCost (NextCosts attempt_costs tree text failures s) s.left r out t.left (failures t.producer)
+    pub spends : CallSpendsExactCost (NextCallCosts attempt_costs tree text failures s) s.left r out t.left (failures t.producer)
     pub continues : ContinuesAfterCall (tree s.producer) (text s.producer) s.position r t.position
     pub same_tree : tree t.producer ≡ tree s.producer
     pub same_text : text t.producer ≡ text s.producer
@@ -38,19 +38,19 @@ module _ {P : Type 0} (attempt_costs : Tree → Text → (before : Failures) →
     c.same_text,
   )
 
-  -- by the cause of the error
+  -- An error of the search fulfills what a call ensures, by its cause.
   pub called-Err : (e : SearchError) (w : WorkError) → IsWorkLimitOrMemoryCause w out t.left → Called (Some (Err e))
       → NextYieldsAtCost attempt_costs tree text failures s (Some (Err w)) t
   called-Err e Memory is c = (((tt, c.yields.1, c.yields.2), c.less), c.less, c.continues, c.same_tree, c.same_text)
   called-Err e WorkLimit is c = (
     (((not-enough s.enough out c.enough is.0, is.1), c.yields.1, c.yields.2), c.less),
-    (subst (λ b. MayStopShort (NextCosts attempt_costs tree text failures s) s.left b t.left) is.0 c.spends, is.1),
+    (subst (λ b. LeavesWorkWithoutResult (NextCallCosts attempt_costs tree text failures s) s.left b t.left) is.0 c.spends, is.1),
     c.continues,
     c.same_tree,
     c.same_text,
   )
 
--- The view of an iterator, by its producer and its position.
+-- `view-of` shows an iterator by its producer and its position.
 abbrev pub view-of : {E Q : Type 0} (e : Ghosts E Q) (offset : Q → ℕ) → E → Option Q → WorkMatchesView E
 view-of e offset producer position = record {
   remaining = remaining_answers_from (e.tree producer) (e.text producer) (e.budget producer) (option_map offset position) (e.out_of_steps producer);

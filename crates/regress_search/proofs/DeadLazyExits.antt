@@ -1,4 +1,5 @@
--- The exits of a lazy char loop are dead at each boundary where its follow set excludes the next unit.
+-- The exits of a lazy char loop are dead at each boundary where its follow set excludes the next
+-- unit.
 use Rattle.std.proofs.Common.{◌≡◌, ℕ, ◌+◌, ◌-◌, ◌<◌, Bool, false, true, Some, ap₂, sym, subst, arith}
 use Rattle.regex_meaning.specs.CodeUnitOffsets.{HasRisingPlaceOffsets, IsBoundary}
 use Rattle.regress_program.specs.InsnsAsSpec.{insn_as_spec_insn}
@@ -29,7 +30,7 @@ module _ (w : SearchInput) (class : Class) (set : FirstSet) (from : LazyCharLoop
             (λ test tested forward counts ip looks_ahead. left-all w forward counts ip _);
       }
 
-  -- nothing is let through at the next place, and a character of one unit stands there
+  -- If the set bars the next exit and a character of one unit stands there, it is dead too.
   module _ (is : HasRisingPlaceOffsets w.text) (readable : ClassFitsText w class) (count to : ℕ) (so_far : AreDeadExits w class set from count) (more : count < from.left)
       (there : to ≡ from.at + (count + 1)) (barred : table_allows_unit_or_end_at w (unit_table_of_set set) (from.at + count) ≡ false)
       (passed : IsPastNextCharIfAccepted w true (insn_as_spec_insn class.insn) (from.at + count) (Some to)) where

@@ -1,4 +1,5 @@
--- The first match from an offset is the one found there, or else the first match from the next offset.
+-- The first match from an offset is the one found there, or else the first match from the next
+-- offset.
 use Rattle.std.proofs.Common.{◌≡◌, ℕ, ◌+◌, ◌-◌, ◌<◌, ◌≤◌, List, [], ◌∷◌, Option, Some, None, Bool, true, false, refl, ap, ap₂, sym, ◌∙◌, subst}
 use Rattle.std.proofs.Common.{arith, ltb→lt, lt-ltb, nltb→le, get_or, le_refl}
 use Rattle.std.proofs.lemmas.Bool.{le-ltb}
@@ -19,11 +20,11 @@ use Rattle.regex_meaning.proofs.CodeUnitOffsetsLemmas.{place_at-offset, offset-p
 use Rattle.regex_pattern_front.specs.AstToSpecTree.{tree_of}
 use Rattle.regex_pattern_front.specs.declared.ir.Regex.{Regex}
 use Rattle.regress_program.specs.CompilationOfTreesAsFunction.{compiled}
-use Rattle.regress_machine.specs.SearchFindsFirstOutcomeAtPlace.{first_pair, end_in_offsets, groups_in_offsets}
+use Rattle.regress_machine.specs.SearchFindsFirstOutcomeAtPlace.{first_outcome_among_ticks, end_in_offsets, groups_in_offsets}
 use Rattle.regress_search.specs.MatchesAsSpecAnswers.{answer_from_parts}
 use Rattle.regress_search.specs.AttemptsAndStarts.{match_end_and_groups_at, next_search_offset}
 
--- ---- Records
+-- ---- Parts of answers
 
 pub same-answer : (a b c d : ℕ) (xs ys : Groups) (ns ms : List (List ℕ)) → a ≡ c → b ≡ d → xs ≡ ys → ns ≡ ms
     → answer_from_parts a b xs ns ≡ answer_from_parts c d ys ms
@@ -37,41 +38,41 @@ pub flags-compiled : (tree : Tree) → (compiled tree).flags ≡ tree.flags
 unfolding compiled
 flags-compiled tree = refl
 
--- a text that is made with the flags of a program is one of the pattern that it was made of
+-- A text made with a program's flags has the Unicode mode of the program's pattern.
 pub read-as : {text made : Text} {flags : Flags} {re run : Regex} → text ≡ made → made.unicode ≡ flags.unicode → flags ≡ (compiled (tree_of run)).flags → run ≡ re
     → text.unicode ≡ (tree_of re).flags.unicode
 read-as {run = run} is said told same =
     ap (λ (t : Text). t.unicode) is ∙ said ∙ ap (λ (f : Flags). f.unicode) (told ∙ flags-compiled (tree_of run)) ∙ ap (λ (re : Regex). (tree_of re).flags.unicode) same
 
--- ---- Items
+-- ---- Items of an attempt
 
 abbrev pub found_by : (place : ℕ) → Outcome → Found
 found_by p o = record { start = p; end = o.end; groups = o.groups }
 
-first-pairs : (p : ℕ) (items : List TickOrOutcome) → first_outcome p (outcomes_without_ticks items) ≡ option_map (found_by p) (first_pair items)
+first-pairs : (p : ℕ) (items : List TickOrOutcome) → first_outcome p (outcomes_without_ticks items) ≡ option_map (found_by p) (first_outcome_among_ticks items)
 first-pairs p [] = refl
 first-pairs p (tick ∷ items) = first-pairs p items
 first-pairs p (pair o ∷ items) = refl
 
 module _ (tree : Tree) (text : Text) where
-  -- the search from one offset is that from another one
+  -- The first match from `first` is that from the boundary `at`.
   pub record GoesFrom (first at : ℕ) : Type 0 where
     pub same : first_found tree.root text first ≡ first_found tree.root text at
     pub boundary : IsBoundary text at
 
 module _ (tree : Tree) (text : Text) (is : HasRisingPlaceOffsets text) where
-  pub match-first : (p : ℕ) → match_at tree.root text p ≡ option_map (found_by p) (first_pair (items_at tree text p))
+  pub match-first : (p : ℕ) → match_at tree.root text p ≡ option_map (found_by p) (first_outcome_among_ticks (items_at tree text p))
   match-first p = ap (first_outcome p) (sym (pairs-ticked text tree.root rightwards p (no_groups tree.root))) ∙ first-pairs p (items_at tree text p)
 
-  -- ---- At an offset of a place
+  -- ---- Attempts at the offset of a place
 
-  end-at : (at p : ℕ) → place_at text at ≡ Some p → match_end_and_groups_at tree text at ≡ option_map (end_in_offsets text) (first_pair (items_at tree text p))
-  end-at at p e = ap (option_and_then (λ place. option_map (end_in_offsets text) (first_pair (items_at tree text place)))) e
+  end-at : (at p : ℕ) → place_at text at ≡ Some p → match_end_and_groups_at tree text at ≡ option_map (end_in_offsets text) (first_outcome_among_ticks (items_at tree text p))
+  end-at at p e = ap (option_and_then (λ place. option_map (end_in_offsets text) (first_outcome_among_ticks (items_at tree text place)))) e
 
   pub found-at : (at p : ℕ) → place_at text at ≡ Some p → first_found tree.root text at ≡ first_match tree.root text p
   found-at at p e = ap (option_and_then (first_match tree.root text)) e
 
-  -- what an attempt that found an end says of the list
+  -- The first answer from `at` ends at the boundary `e`, where the list continues.
   pub record IsFoundAt (at e : ℕ) (gs : Groups) : Type 0 where
     pub first : first_answer tree.root text at ≡ Some (record { range = (at, e); captures = gs; names = group_names_by_id tree.root })
     pub behind : next_start tree.root text at ≡ next_search_offset text at e
@@ -115,8 +116,8 @@ module _ (tree : Tree) (text : Text) (is : HasRisingPlaceOffsets text) where
           behind-end m.end inside
           ∙ sym (ap (λ b. if b then Some (offset text m.end) else option_map (λ (r : ℕ × ℕ). r.1) (read text rightwards (offset text m.end))) not_less)
 
-  -- where the first pair of the place's list is this one
-  found-by : (at p e : ℕ) (gs : Groups) (o : Outcome) → place_at text at ≡ Some p → first_pair (items_at tree text p) ≡ Some o
+  -- If the first outcome at a place has this end and these groups, a match is found there.
+  found-by : (at p e : ℕ) (gs : Groups) (o : Outcome) → place_at text at ≡ Some p → first_outcome_among_ticks (items_at tree text p) ≡ Some o
       → end_in_offsets text o ≡ (e, gs) → IsFoundAt at e gs
   found-by at p e gs o q fp same =
       let place = offset-place_at text at p is q in
@@ -138,26 +139,26 @@ module _ (tree : Tree) (text : Text) (is : HasRisingPlaceOffsets text) where
   pub found-here : (at e : ℕ) (gs : Groups) → IsBoundary text at → match_end_and_groups_at tree text at ≡ Some (e, gs) → IsFoundAt at e gs
   found-here at e gs on end = by (place_at text at) refl on
     where
-      by_first : (p : ℕ) → place_at text at ≡ Some p → (fp : Option Outcome) → first_pair (items_at tree text p) ≡ fp → option_map (end_in_offsets text) fp ≡ Some (e, gs) → IsFoundAt at e gs
+      by_first : (p : ℕ) → place_at text at ≡ Some p → (fp : Option Outcome) → first_outcome_among_ticks (items_at tree text p) ≡ fp → option_map (end_in_offsets text) fp ≡ Some (e, gs) → IsFoundAt at e gs
       by_first p q None f g = cc
       by_first p q (Some o) f g = found-by at p e gs o q f (cc)
 
       by : (o : Option ℕ) → place_at text at ≡ o → IsTrue (is_some o) → IsFoundAt at e gs
       by None q on = cc
       by (Some p) q on =
-          by_first p q (first_pair (items_at tree text p)) refl (sym (end-at at p q) ∙ end)
+          by_first p q (first_outcome_among_ticks (items_at tree text p)) refl (sym (end-at at p q) ∙ end)
 
-  -- no match at a place where the list has no pair
+  -- If an attempt finds no end, no match begins at the place.
   pub none-at : (at p : ℕ) → place_at text at ≡ Some p → match_end_and_groups_at tree text at ≡ None → match_at tree.root text p ≡ None
-  none-at at p q none = match-first p ∙ by (first_pair (items_at tree text p)) (sym (end-at at p q) ∙ none)
+  none-at at p q none = match-first p ∙ by (first_outcome_among_ticks (items_at tree text p)) (sym (end-at at p q) ∙ none)
     where
       by : (fp : Option Outcome) → option_map (end_in_offsets text) fp ≡ None → option_map (found_by p) fp ≡ None
       by None e = refl
       by (Some o) e = cc
 
-  -- no attempt succeeds where no match begins
+  -- If no match begins at the place, an attempt finds no end.
   pub vain-at : (at p : ℕ) → place_at text at ≡ Some p → match_at tree.root text p ≡ None → match_end_and_groups_at tree text at ≡ None
-  vain-at at p q none = end-at at p q ∙ by (first_pair (items_at tree text p)) (sym (match-first p) ∙ none)
+  vain-at at p q none = end-at at p q ∙ by (first_outcome_among_ticks (items_at tree text p)) (sym (match-first p) ∙ none)
     where
       by : (fp : Option Outcome) → option_map (found_by p) fp ≡ None → option_map (end_in_offsets text) fp ≡ None
       by None e = refl
@@ -168,7 +169,7 @@ module _ (tree : Tree) (text : Text) (is : HasRisingPlaceOffsets text) where
       let place = offset-place_at text at p is q in
       found-at at p q ∙ first-unfolds tree.root text p place.1 ∙ ap (λ x. option_or x (first_match tree.root text (p + 1))) (none-at at p q none)
 
-  -- what an attempt that found none says
+  -- The first match from `at` is that from the later boundary `next`.
   pub record GoesOnAt (at next : ℕ) : Type 0 where
     pub same : first_found tree.root text at ≡ first_found tree.root text next
     pub boundary : IsBoundary text next
@@ -226,7 +227,7 @@ module _ (tree : Tree) (text : Text) (is : HasRisingPlaceOffsets text) where
   pub goes-from_itself : (at : ℕ) → IsBoundary text at → GoesFrom tree text at at
   goes-from_itself at on = record { same = refl; boundary = on }
 
-  -- one place on
+  -- If an attempt at `at` finds no end, the search goes on from the next offset.
   pub goes-on : (first at next : ℕ) → GoesFrom tree text first at → match_end_and_groups_at tree text at ≡ None → Some next ≡ option_map (λ (r : ℕ × ℕ). r.1) (read text rightwards at)
       → GoesFrom tree text first next × (units text - next < units text - at)
   goes-on first at next g none e = by (read text rightwards at) refl e

@@ -23,7 +23,7 @@ pub each-last : {A : Type 0} (P : A → Type 0) (xs ys : List A) → Each P (xs 
 each-last P [] ys h = h
 each-last P (x ∷ xs) ys h = each-last P xs ys h.1
 
--- what holds of each element of the lists holds in each list
+-- A fact of all elements of joined lists holds of the elements of each list.
 pub each-apart : {A B : Type 0} (P : B → Type 0) (f : A → List B) (xs : List A) → Each P (flat_map f xs) → Each (λ x. Each P (f x)) xs
 each-apart P f [] h = tt
 each-apart P f (x ∷ xs) h = (each-first P (f x) (flat_map f xs) h, each-apart P f xs (each-last P (f x) (flat_map f xs) h))
@@ -35,7 +35,7 @@ pub each-mapped : {A B : Type 0} (P : B → Type 0) (f : A → B) (xs : List A) 
 each-mapped P f [] h = tt
 each-mapped P f (x ∷ xs) h = (h.0, each-mapped P f xs h.1)
 
--- what holds of the elements that pass a test
+-- A fact of the filtered elements holds of each element that passes the test.
 each-passing : {A : Type 0} (P : A → Type 0) (t : A → Bool) (xs : List A) → Each P (filter t xs) → Each (λ x. t x ≡ true → P x) xs
 each-passing P t [] h = tt
 each-passing P t (x ∷ xs) h = by (each-passing P t xs) (t x) refl h
@@ -55,11 +55,11 @@ passing-each P t (x ∷ xs) h = by (passing-each P t xs h.1) (t x) refl
 
 -- ---- Outcomes
 
--- what holds of an outcome holds whatever its groups
+-- `AnyGroups` says that a fact of an outcome does not depend on its groups.
 abbrev pub AnyGroups : (Outcome → Type 0) → Type 0
 AnyGroups P = (e : ℕ) (g h : Groups) → P (record { end = e; groups = g }) → P (record { end = e; groups = h })
 
--- what so holds of each outcome with some groups holds with all
+-- A fact that ignores groups holds of the outcomes with all groups if it does with some.
 abbrev pub Freely : (Groups → List Outcome) → Type 1
 Freely os = (g h : Groups) (P : Outcome → Type 0) → AnyGroups P → Each P (os g) → Each P (os h)
 
@@ -80,7 +80,7 @@ when-free true os free g h P any x = free g h P any x
 when-free false os free g h P any x = tt
 
 module _ (r : Repetition Outcome) (body : (p : ℕ) → Freely (r.body p)) (k p : ℕ) (further : Outcome → List Outcome) where
-  -- the outcomes behind one more turn
+  -- `again` lists the outcomes behind one more iteration.
   abbrev again : Groups → List Outcome
   again g = flat_map further (filter (passes_empty_check r k p) (r.body p g))
 
@@ -116,7 +116,7 @@ look-free true (a ∷ more) [] there back p g h P any x = absurd (back tt).0
 
 -- ---- Nodes
 
--- no instruction refers to a group
+-- No instruction of the program is a backreference.
 abbrev pub HasNoBackrefs : Program → Type 0
 HasNoBackrefs program = (ip group : ℕ) (same : Sameness) → slice_get program.insns ip ≡ Some (BackRef group same) → ⊥
 

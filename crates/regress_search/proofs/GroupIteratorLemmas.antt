@@ -1,4 +1,5 @@
--- The iterators over groups yield the group or name at an index, and then those from the next index on.
+-- The iterators over groups yield the group or name at an index, and then those from the next index
+-- on.
 use Rattle.std.proofs.Common.{◌≡◌, ℕ, zero, suc, ◌+◌, ◌<◌, ◌≤◌, Bool, true, false, not, ◌||◌, ◌==◌, List, [], ◌∷◌, ◌++◌, length, map, take, drop}
 use Rattle.std.proofs.Common.{get_or, None, bytes_eq, refl, sym, ap, ◌∙◌, arith, if◌then◌else◌}
 use Rattle.std.specs.List.{list_any}
@@ -7,7 +8,7 @@ use Rattle.std.proofs.lemmas.List.Folds.{list_any-append}
 use Rattle.std.proofs.lemmas.Option.{unwrap_or-slice_get}
 use Rattle.std.proofs.lemmas.Slice.Eq.{bytes_eq-Decides}
 use Rattle.regex_meaning.specs.MatchGroupsByNumberAndName.{Answer, first_appearances, group}
-use Rattle.regress_search.specs.GroupIterators.{all_groups, is_new, distinct_names_from}
+use Rattle.regress_search.specs.GroupIterators.{all_groups, is_new_group_name, distinct_names_from}
 use Rattle.regress_search.proofs.NamedGroupLookup.{images-here}
 
 module _ (m : Answer) where
@@ -31,7 +32,7 @@ or-swapped true false = refl
 or-swapped false true = refl
 or-swapped false false = refl
 
--- the same names that are not empty
+-- Two lists have the same names that are not empty.
 abbrev SameNames : List (List ℕ) → List (List ℕ) → Type 0
 SameNames a b = (c : ℕ) (name : List ℕ) → list_any (bytes_eq (c ∷ name)) a ≡ list_any (bytes_eq (c ∷ name)) b
 
@@ -46,14 +47,14 @@ appear-same a b same ((c ∷ name) ∷ names) =
     (appear-same ((c ∷ name) ∷ a) ((c ∷ name) ∷ b) (λ d other. ap (λ t. bytes_eq (d ∷ other) (c ∷ name) || t) (same d other)) names)
 
 module _ (before : List (List ℕ)) where
-  -- a name with one behind those before
+  -- A name is among the names with one appended exactly if it was before or is that one.
   one-behind : (n name : List ℕ) → list_any (bytes_eq name) (before ++ n ∷ []) ≡ (list_any (bytes_eq name) before || (bytes_eq name n || false))
   one-behind n name = list_any-append (bytes_eq name) before (n ∷ [])
 
   empty-behind : SameNames before (before ++ [] ∷ [])
   empty-behind c name = or-none (list_any (bytes_eq (c ∷ name)) before) ∙ sym (one-behind [] (c ∷ name))
 
-  -- one that is among them
+  -- Appending a known name leaves the names the same.
   known-behind : (n : List ℕ) → list_any (bytes_eq n) before ≡ true → SameNames before (before ++ n ∷ [])
   known-behind n known c name = by (bytes_eq (c ∷ name) n) refl ∙ sym (one-behind n (c ∷ name)) where
     by : (e : Bool) → bytes_eq (c ∷ name) n ≡ e → list_any (bytes_eq (c ∷ name)) before ≡ (list_any (bytes_eq (c ∷ name)) before || (e || false))
@@ -65,9 +66,9 @@ module _ (before : List (List ℕ)) where
   new-behind : (n : List ℕ) → SameNames (n ∷ before) (before ++ n ∷ [])
   new-behind n c name = or-swapped (bytes_eq (c ∷ name) n) (list_any (bytes_eq (c ∷ name)) before) ∙ sym (one-behind n (c ∷ name))
 
-  -- the appearances from a name on
+  -- The first appearances from a name on begin with that name if it is new.
   pub appear-here : (n : List ℕ) (rest : List (List ℕ)) → first_appearances before (n ∷ rest)
-      ≡ (if is_new n before then n ∷ first_appearances (before ++ n ∷ []) rest else first_appearances (before ++ n ∷ []) rest)
+      ≡ (if is_new_group_name n before then n ∷ first_appearances (before ++ n ∷ []) rest else first_appearances (before ++ n ∷ []) rest)
   appear-here [] rest = appear-same before (before ++ [] ∷ []) empty-behind rest
   appear-here (c ∷ name) rest = by (list_any (bytes_eq (c ∷ name)) before) refl where
     by : (t : Bool) → list_any (bytes_eq (c ∷ name)) before ≡ t
@@ -83,7 +84,7 @@ list_any-map f test [] = refl
 list_any-map f test (x ∷ xs) = ap (λ t. test (f x) || t) (list_any-map f test xs)
 
 pub new-not_among : {X : Type 0} (f : X → List ℕ) (name : List ℕ) (xs : List X) → (length name == 0) ≡ false
-    → not (list_any (λ x. bytes_eq name (f x)) xs) ≡ is_new name (map f xs)
+    → not (list_any (λ x. bytes_eq name (f x)) xs) ≡ is_new_group_name name (map f xs)
 new-not_among f [] xs h = cc
 new-not_among f (c ∷ name) xs h = ap not (list_any-map f (bytes_eq (c ∷ name)) xs)
 
@@ -93,13 +94,13 @@ module _ {X : Type 0} (f : X → List ℕ) (xs : List X) (i : ℕ) (x : X) (h : 
       ap (λ ys. ys ++ f x ∷ []) (take-map f i xs) ∙ ap (λ y. map f (take i xs) ++ f y ∷ []) e
       ∙ sym (map_more f xs i x h) ∙ sym (take-map f (i + 1) xs)
 
-  -- the new names from an id on, by whether the one there is new
-  pub names-here : (b : Bool) → is_new (f x) (map f (take i xs)) ≡ b
+  -- The distinct names from an index on begin with the name there if it is new.
+  pub names-here : (b : Bool) → is_new_group_name (f x) (map f (take i xs)) ≡ b
       → distinct_names_from (map f xs) i ≡ (if b then f x ∷ distinct_names_from (map f xs) (i + 1) else distinct_names_from (map f xs) (i + 1))
   names-here b new =
       let before = take i (map f xs) in
       let rest = drop (i + 1) (map f xs) in
       ap (first_appearances before) (images-here f xs i x h e) ∙ appear-here before (f x) rest
-      ∙ ap (λ ys. if is_new (f x) before then f x ∷ first_appearances ys rest else first_appearances ys rest) images-before
+      ∙ ap (λ ys. if is_new_group_name (f x) before then f x ∷ first_appearances ys rest else first_appearances ys rest) images-before
       ∙ ap (λ t. if t then f x ∷ distinct_names_from (map f xs) (i + 1) else distinct_names_from (map f xs) (i + 1))
-      (ap (is_new (f x)) (take-map f i xs) ∙ new)
+      (ap (is_new_group_name (f x)) (take-map f i xs) ∙ new)

@@ -56,6 +56,6 @@ module _ (root : Node) (text : Text) (is : HasRisingPlaceOffsets text) where
   ends-from a None e = absurd (cc e)
   ends-from a (Some p) e = ends-found p a (first_match root text p) (stands-first root text p) e
 
-  -- the list ends behind a match where that begins at the end of the text
+  -- The list ends behind a match exactly if the match begins at the end of the text.
   pub ends-behind : (start : ℕ) (a : Answer) → first_answer root text start ≡ Some a → is_none (next_start root text start) ≡ (a.range.0 == units text)
   ends-behind start a e = ends-from a (place_at text start) e

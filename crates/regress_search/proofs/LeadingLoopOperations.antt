@@ -6,7 +6,7 @@ use Rattle.std.specs.Option.{option_map_or}
 use Rattle.std.proofs.lemmas.Bool.{cases_lt}
 use mathlib.Core.Logic.{inl, inr}
 use Rattle.std.specs.List.{prefix_len}
-use Rattle.std.proofs.lemmas.Option.{slice_get_within, slice_get_cases}
+use Rattle.std.proofs.lemmas.Option.{slice_get_within}
 use Rattle.regex_meaning.specs.Text.{rightwards, last_place}
 use Rattle.regex_meaning.specs.CodeUnitOffsets.{IsBoundary, offset, place_at, units}
 use Rattle.regex_meaning.specs.FirstAndAllMatches.{match_at}
@@ -20,8 +20,9 @@ use Rattle.regress_machine.specs.InsnEffects.{is_byte_sequence_insn}
 use Rattle.regress_machine.specs.FirstSetTables.{HasUnitsForTables}
 use Rattle.regress_program.specs.SearchableTexts.{IsByteText}
 use Rattle.regress_program.specs.InsnsAsSpec.{insn_as_spec_insn}
+use Rattle.regress_program.proofs.AppendedEntryLemmas.{get-below}
 use Rattle.regress_program.specs.TableKeysOfUnits.{is_16_bit_encoding}
-use Rattle.regress_program.specs.Plans.{IsPlanOf, IsOpOf, IsClass, HasClass, op_as_char_loop, reads_class_char}
+use Rattle.regress_program.specs.Plans.{IsPlanOf, IsOpOf, IsClassRightForProgram, HasClass, op_as_char_loop, reads_class_char}
 use Rattle.regress_program.specs.declared.char_class_tables.Class.{Class}
 use Rattle.regress_program.specs.declared.ops.CharLoopBounds.{CharLoopBounds}
 use Rattle.regress_program.specs.declared.ops.Op.{Op}
@@ -31,7 +32,7 @@ use Rattle.regress_program.specs.declared.plan.Plan.{Plan}
 use Rattle.regress_program.specs.declared.ops.CharLoop.{CharLoop}
 use Rattle.regress_program.proofs.AppendedEntryLemmas.{runs-of}
 use Rattle.regress_search.specs.DeadThreads.{MatchFailureExtendsUntil}
-use Rattle.regress_search.specs.CharLoopExits.{ClassFitsText, IsClassTest, HasAdvancedTo, accepted_chars_len}
+use Rattle.regress_search.specs.CharLoopExits.{ClassFitsText, IsClassTest, HasScannedClassCharsTo, accepted_chars_len}
 use Rattle.regress_search.specs.TreePlanAndText.{SearchInput, program_of, insn_at}
 use Rattle.regress_program.specs.LeadingCharLoops.{opens_group, is_backreference_op, OnlyOpensGroups}
 use Rattle.regress_search.proofs.GroupIndependentEnds.{HasNoBackrefs}
@@ -39,12 +40,6 @@ use Rattle.regress_search.proofs.LeadingLoopOutcomes.{GroupsMatter, Along, test_
 use Rattle.regress_search.proofs.CharLoopReach.{some-of}
 use Rattle.regress_search.proofs.CharLoopExitLemmas.{advanced-boundary}
 use Rattle.regress_search.proofs.StopByteScanLemmas.{places-few}
-
-at-index : {X : Type 0} (xs : List X) (i : ℕ) → i < length xs → (x : X) × (slice_get xs i ≡ Some x)
-at-index xs i less = elim ((slice_get_cases xs i).1) [
-  | inl here ↦ (here.0, here.2)
-  | inr past ↦ let le = past.0 in absurd (omega (arith, less, le))
-]
 
 -- ---- Operations and backreferences
 
@@ -66,7 +61,7 @@ module _ (program : Program) (plan : Plan) (ip : ℕ) where
   look-refers-not l first end true = refl
   look-refers-not l first end false = refl
 
-  -- the operation of an instruction that is no backreference is none, and conversely
+  -- An operation is a backreference exactly if its instruction is one.
   pub op-refers : (op : Op) (insn : Insn) → IsOpOf program plan op ip insn → is_backref_insn insn ≡ is_backreference_op op
   op-refers variant.Goal insn is = ap is_backref_insn is
   op-refers variant.Fail insn is = ap is_backref_insn is
@@ -90,18 +85,19 @@ module _ (program : Program) (plan : Plan) (ip : ℕ) where
   op-refers (variant.MatchBackref again) insn is = ap is_backref_insn is
   op-refers (variant.Look l) insn is = ap is_backref_insn is.insn_is ∙ look-refers-not l is.start_group is.end_group l.forward
 
-module _ (w : SearchInput) (has : HasUnitsForTables w.encoding w.text) (plan : IsPlanOf (is_16_bit_encoding w.encoding) (program_of w) w.plan)
-    (opens : ℕ) (only : OnlyOpensGroups w.plan opens) (r : CharLoop) (there : option_and_then op_as_char_loop (slice_get w.plan.ops.items opens) ≡ Some r) where
-  -- each operation has an instruction
-  insn-of : (ip : ℕ) (op : Op) → slice_get w.plan.ops.items ip ≡ Some op → (insn : Insn) × (insn_at w ip ≡ Some insn) × IsOpOf (program_of w) w.plan op ip insn
-  insn-of ip op is =
-      let some = at-index (program_of w).insns ip (let less = slice_get_within w.plan.ops.items ip op is in omega (arith, less, plan.as_many)) in
+module _ (w : SearchInput) (plan : IsPlanOf (is_16_bit_encoding w.encoding) (program_of w) w.plan) where
+  -- Each operation of the plan has an instruction.
+  pub insn-of-op : (ip : ℕ) (op : Op) → slice_get w.plan.ops.items ip ≡ Some op → (insn : Insn) × (insn_at w ip ≡ Some insn) × IsOpOf (program_of w) w.plan op ip insn
+  insn-of-op ip op is =
+      let some = get-below (program_of w).insns ip (let less = slice_get_within w.plan.ops.items ip op is in omega (arith, less, plan.as_many)) in
       (some.0, some.1, plan.each ip op some.0 is some.1)
 
-  -- each instruction has an operation
+module _ (w : SearchInput) (has : HasUnitsForTables w.encoding w.text) (plan : IsPlanOf (is_16_bit_encoding w.encoding) (program_of w) w.plan)
+    (opens : ℕ) (only : OnlyOpensGroups w.plan opens) (r : CharLoop) (there : option_and_then op_as_char_loop (slice_get w.plan.ops.items opens) ≡ Some r) where
+  -- Each instruction has its operation.
   op-of : (ip : ℕ) (insn : Insn) → insn_at w ip ≡ Some insn → (op : Op) × (slice_get w.plan.ops.items ip ≡ Some op) × IsOpOf (program_of w) w.plan op ip insn
   op-of ip insn is =
-      let some = at-index w.plan.ops.items ip (let less = slice_get_within (program_of w).insns ip insn is in omega (arith, less, plan.as_many)) in
+      let some = get-below w.plan.ops.items ip (let less = slice_get_within (program_of w).insns ip insn is in omega (arith, less, plan.as_many)) in
       (some.0, some.1, plan.each ip some.0 insn some.1 is)
 
   opened : (i : ℕ) → i < opens → (id : ℕ) × (insn_at w i ≡ Some (BeginCaptureGroup id))
@@ -114,7 +110,7 @@ module _ (w : SearchInput) (has : HasUnitsForTables w.encoding w.text) (plan : I
 
       by : (o : Option Op) → slice_get w.plan.ops.items i ≡ o → option_map_or opens_group o false ≡ true → (id : ℕ) × (insn_at w i ≡ Some (BeginCaptureGroup id))
       by None at opens = cc
-      by (Some op) at opens = let insn = insn-of i op at in by-op op opens insn.0 insn.1 insn.2
+      by (Some op) at opens = let insn = insn-of-op w plan i op at in by-op op opens insn.0 insn.1 insn.2
 
   matter : GroupsMatter (program_of w) opens
   matter = elim (cases_lt 0 opens) [
@@ -129,7 +125,7 @@ module _ (w : SearchInput) (has : HasUnitsForTables w.encoding w.text) (plan : I
           let yes : true ≡ is_backreference_op op.0 = op-refers (program_of w) w.plan ip op.0 (BackRef group same) op.2 in
           let both : false ≡ true = no ∙ sym yes in cc
 
-  -- the run
+  -- The instruction at `opens` is a char loop with the bounds and the class of `r`.
   pub record Leads : Type 0 where
     pub greedy : Bool
     pub bounds : CharLoopBounds
@@ -143,7 +139,7 @@ module _ (w : SearchInput) (has : HasUnitsForTables w.encoding w.text) (plan : I
       by : (o : Option Op) → slice_get w.plan.ops.items opens ≡ o → option_and_then op_as_char_loop o ≡ Some r → Leads
       by None at is = cc
       by (Some op) at is =
-          let insn = insn-of opens op at in
+          let insn = insn-of-op w plan opens op at in
           let of = runs-of (program_of w) w.plan op r opens insn.0 is insn.2 in
           record {
             greedy = of.0;
@@ -156,7 +152,7 @@ module _ (w : SearchInput) (has : HasUnitsForTables w.encoding w.text) (plan : I
   pub leads-bounded : r.bounds < length w.plan.bounds.items
   leads-bounded = slice_get_within w.plan.bounds.items r.bounds l.bounds l.are_there
 
-  -- where a search can be made, and the run may have as many characters as there are
+  -- If the loop's maximum is at least the length of the text, failures extend along the loop.
   module _ (can : TreeProgramCanSearchText (program_of w) w.tree w.text)
       (bounds : CharLoopBounds) (bounds_are : slice_get w.plan.bounds.items r.bounds ≡ Some bounds) (wide : units w.text ≤ bounds.max) where
     same_max : l.bounds.max ≡ bounds.max
@@ -191,7 +187,7 @@ module _ (w : SearchInput) (has : HasUnitsForTables w.encoding w.text) (plan : I
       tests-one : IsSome (test_of (program_of w) (Some (insn_as_spec_insn class.insn)))
       tests-one = subst (λ (o : Option Insn). IsSome (test_of (program_of w) o)) body-is along.0
 
-      pub leads-readable : {are_bytes : Bool} → IsClass (is_16_bit_encoding w.encoding) (program_of w) class
+      pub leads-readable : {are_bytes : Bool} → IsClassRightForProgram (is_16_bit_encoding w.encoding) (program_of w) class
           → ((ip : ℕ) (insn : Insn) → insn_at w ip ≡ Some insn → IsTrue (is_byte_sequence_insn insn) → IsByteText w.text are_bytes) → ClassFitsText w class
       leads-readable is_class literals = record {
         is_class = is_class;
@@ -199,8 +195,8 @@ module _ (w : SearchInput) (has : HasUnitsForTables w.encoding w.text) (plan : I
         bytes = λ literal. (literals (opens + 1) (insn_as_spec_insn class.insn) body-is literal).reads;
       }
 
-      -- It was gone over from a boundary to its end.
-      module _ (from : ℕ) (on : IsBoundary w.text from) (far : ℕ) (advanced : HasAdvancedTo w true class from (units w.text) far) where
+      -- If the loop has advanced from a boundary, its end is a boundary, and failures extend to it.
+      module _ (from : ℕ) (on : IsBoundary w.text from) (far : ℕ) (advanced : HasScannedClassCharsTo w true class from (units w.text) far) where
         tested : (test : ℕ → Bool) × IsClassTest w class test
         tested = some-of (test_of (program_of w) (Some (insn_as_spec_insn class.insn))) tests-one
 
@@ -211,7 +207,7 @@ module _ (w : SearchInput) (has : HasUnitsForTables w.encoding w.text) (plan : I
         leads-boundary =
             advanced-boundary w.text has.is_text tested.0 rightwards (units w.text) (place w.text from) count far (advanced tested.0 tested.1)
 
-        -- so no match begins within it, if none begins where it does
+        -- If no match begins where the loop does, none begins within the loop.
         pub leads-vain : MatchFailureExtendsUntil w from far
         leads-vain none at here le less q q_is =
             subst (λ q. match_at w.tree.root w.text q ≡ None) (let z : p.0 + (q - p.0) ≡ q = omega (arith, after) in z)
@@ -229,7 +225,7 @@ module _ (w : SearchInput) (has : HasUnitsForTables w.encoding w.text) (plan : I
             same_row : prefix_len tested.0 (nearest_first w.text rightwards (place w.text from)) ≡ prefix_len tested.0 (nearest_first w.text rightwards p.0)
             same_row = ap (λ i. prefix_len tested.0 (nearest_first w.text rightwards i)) first_is
 
-            -- the test that was found is that of the class
+            -- The test that was found accepts as many characters as that of the class.
             same_test : prefix_len (test_in found) (nearest_first w.text rightwards p.0) ≡ prefix_len tested.0 (nearest_first w.text rightwards p.0)
             same_test =
                 ap (λ o. prefix_len (test_in o) (nearest_first w.text rightwards p.0)) (ap (test_of (program_of w)) body-is ∙ tested.1)

@@ -36,7 +36,7 @@ use Rattle.regress_machine.proofs.WellFormedNodeLemmas.{Ready, root_ready}
 use Rattle.regress_machine.specs.SearchFindsFirstOutcomeAtPlace.{TreeProgramCanSearchText}
 use Rattle.regress_search.proofs.GroupIndependentEnds.{each-apart, each-together, each-mapped, HasNoBackrefs, node-free}
 
--- ---- Lists
+-- ---- Lists of outcomes and of characters
 
 each-number : (P : ℕ → Type 0) (lo n i : ℕ) → Each P (numbers_from lo n) → lo ≤ i → i < lo + n → P i
 each-number P lo zero i h le less = absurd (omega (arith, le, less))
@@ -57,7 +57,7 @@ prefix-same : (f g : ℕ → Bool) (xs : List ℕ) → Each (λ c. f c ≡ g c) 
 prefix-same f g [] h = refl
 prefix-same f g (x ∷ xs) h = ap (λ b. cond b (1 + prefix_len f xs) 0) h.0 ∙ ap (λ n. cond (g x) (1 + n) 0) (prefix-same f g xs h.1)
 
--- of characters in a row that pass so many are left behind some of them
+-- Behind `j` of the characters in a row that pass, `j` fewer pass.
 prefix-left : (test : ℕ → Bool) (xs : List ℕ) (j : ℕ) → j ≤ prefix_len test xs → prefix_len test xs ≡ j + prefix_len test (drop j xs)
 prefix-left test xs zero le = omega arith
 prefix-left test [] (suc j) le = absurd (omega (arith, le))
@@ -68,7 +68,7 @@ prefix-left test (x ∷ xs) (suc j) le = by (prefix-left test xs j) (test x) ref
     by rest true e le = let same = rest (omega (arith, le)) in omega (arith, same)
     by rest false e le = absurd (omega (arith, le))
 
--- ---- The first instruction
+-- ---- The first instruction of a program
 
 abbrev is_run : Insn → Bool
 is_run (Loop1CharBody least most greedy) = true
@@ -79,17 +79,17 @@ is_run_or_open (Loop1CharBody least most greedy) = true
 is_run_or_open (BeginCaptureGroup id) = true
 is_run_or_open _ = false
 
--- what holds of an outcome holds with all groups that are the same by a relation
+-- A fact of outcomes holds with all groups that are the same by a relation.
 abbrev Blind : (Groups → Groups → Type 0) → (Outcome → Type 0) → Type 0
 Blind Same P = (e : ℕ) (g h : Groups) → Same g h → P (record { end = e; groups = g }) → P (record { end = e; groups = h })
 
--- groups that are the same lead a node to the same ends
+-- A node leads from groups that are the same to the same ends.
 abbrev Alike : Text → (Groups → Groups → Type 0) → Node → Type 1
 Alike text Same node =
     (p : ℕ) (g h : Groups) (P : Outcome → Type 0) → Same g h → Blind Same P → Each P (outcomes text node rightwards p g)
     → Each P (outcomes text node rightwards p h)
 
--- the test that was found, or that of no character
+-- `test_in` is the test that was found, or one that rejects each character.
 abbrev pub test_in : Option (ℕ → Bool) → ℕ → Bool
 test_in found = unwrap_or found (λ c. false)
 
@@ -98,7 +98,7 @@ module _ (program : Program) (text : Text) (found : Option (ℕ → Bool)) (Same
   abbrev test : ℕ → Bool
   test = test_in found
 
-  -- how many characters in a row pass from a place on
+  -- `row` is the number of consecutive characters from a place on that pass.
   abbrev pub row : ℕ → ℕ
   row p = prefix_len test (nearest_first text rightwards p)
 
@@ -111,7 +111,7 @@ module _ (program : Program) (text : Text) (found : Option (ℕ → Bool)) (Same
       let left = length-nearest text rightwards p inside in
       omega (arith, few, left, inside)
 
-  -- what holds of each outcome from a place holds of each one from a place within the row that begins there
+  -- A fact of the outcomes from a place holds of those from each place in its row.
   abbrev pub Among : Node → Type 1
   Among node =
       (p j : ℕ) (g h : Groups) (P : Outcome → Type 0) → Same g h → Blind Same P → p ≤ last_place text → j ≤ row p
@@ -120,7 +120,7 @@ module _ (program : Program) (text : Text) (found : Option (ℕ → Bool)) (Same
   abbrev Stays : Node → Type 0
   Stays node = (p : ℕ) (g : Groups) → outcomes text node rightwards p g ≡ record { end = p; groups = g } ∷ []
 
-  -- ---- The run itself
+  -- ---- A char loop
 
   module _ (q : Quantifier) (loopee : Node) (one : is_one_character loopee ≡ true) (same : Each (λ c. test c ≡ accepts loopee c) text.characters)
       (wide : last_place text ≤ max_iterations q) where
@@ -164,7 +164,7 @@ module _ (program : Program) (text : Text) (found : Option (ℕ → Bool)) (Same
             (Each-map (λ i. (q.min ≤ i) × (i < q.min + (min (max_iterations q) (row (p + j)) + 1 - q.min))) (λ n. P (outcome_at text rightwards (p + j) h n)) here
             (counts_at (p + j)) (numbers_between q.min (min (max_iterations q) (row (p + j)) + 1 - q.min))))
 
-  -- ---- The node that begins with it
+  -- ---- Nodes that begin with the char loop
 
   empty-stays : (icase : Bool) → Stays (string_set ([] ∷ []) icase)
   unfolding outcomes
@@ -197,7 +197,7 @@ module _ (program : Program) (text : Text) (found : Option (ℕ → Bool)) (Same
       λ p g. ap (λ (os : List Outcome). flat_map (λ o. outcomes text rest rightwards o.end o.groups) os) (s p g) ∙ append-nil (outcomes text rest rightwards p g) in
       subst (Each P) (sym (through (p + j) h)) (a p j g h P same blind inside le (subst (Each P) (through p g) x))
 
-  -- where any groups are the same
+  -- If all groups are the same and `Among` holds of the contents, it holds of the capture group.
   group-among : (id : ℕ) (name : List ℕ) (contents : Node) → ((g h : Groups) → Same g h) → Among contents → Among (capture_group id name contents)
   unfolding outcomes
   group-among id name contents any a p j g h P same blind inside le x =
@@ -211,12 +211,12 @@ module _ (program : Program) (text : Text) (found : Option (ℕ → Bool)) (Same
       (each-mapped P (captured id p) (outcomes text contents rightwards p (cleared id 1 g)) x)))
 
   module _ (least most : ℕ) (greedy : Bool) (wide : last_place text ≤ most) where
-    -- the code opens so many groups, and then has the run
+    -- The code opens `opens` groups, and the char loop follows them.
     abbrev pub Begins : (opens : ℕ) → Counters → Type 0
     Begins zero m = HasInsnAt program m (Loop1CharBody least most greedy) × (test_of program (slice_get program.insns (counters_after_insn m).insn) ≡ found)
     Begins (suc opens) m = (id : ℕ) × HasInsnAt program m (BeginCaptureGroup id) × Begins opens (counters_after_insn m)
 
-    -- another instruction stands there
+    -- Where the code begins so, no instruction stands other than a loop or a group's opening.
     other : (opens : ℕ) (m : Counters) (x : Insn) → is_run_or_open x ≡ false → HasInsnAt program m x → Begins opens m → ⊥
     other zero m x none here b =
         let same : Some x ≡ Some (Loop1CharBody least most greedy) = sym here ∙ b.0 in
@@ -227,7 +227,7 @@ module _ (program : Program) (text : Text) (found : Option (ℕ → Bool)) (Same
         let e : x ≡ BeginCaptureGroup b.0 = cc in
         let no : false ≡ true = sym none ∙ ap is_run_or_open e in cc
 
-    -- a run stands there where a group is opened, or a group is opened where the run stands
+    -- An instruction is not both the opening of a group and a char loop.
     not-both : (id least most : ℕ) (greedy : Bool) → Some (BeginCaptureGroup id) ≡ Some (Loop1CharBody least most greedy) → ⊥
     not-both id least most greedy same =
         let e : BeginCaptureGroup id ≡ Loop1CharBody least most greedy = cc in
@@ -268,7 +268,7 @@ module _ (program : Program) (text : Text) (found : Option (ℕ → Bool)) (Same
         by true = refl
         by false = refl
 
-    -- where a node's code begins with the run, either the node has none and stays, or it leads with the run
+    -- If a node's code begins with the loop, the node has no code and stays, or it leads.
     node-leads : (node : Node) → Ready text program.groups node → (opens : ℕ) → (0 < opens → (g h : Groups) → Same g h) → (m n : Counters) → IsCode program false node m n
         → Begins opens m → Leads node m n
     unfolding IsCode outcomes
@@ -324,7 +324,7 @@ module _ (program : Program) (text : Text) (found : Option (ℕ → Bool)) (Same
         leads (subst (λ (o : Option (ℕ → Bool)). IsSome o) tests refl)
         (run-among q loopee r.0 (subst (λ (t : ℕ → Bool). Each (λ c. t c ≡ accepts loopee c) text.characters) same reads.same) (omega (arith, wide, bound)))
 
--- ---- Each match
+-- ---- Matches of a tree
 
 no-outcome : (p : ℕ) (os : List Outcome) → first_outcome p os ≡ None → Each (λ o. ⊥) os
 no-outcome p [] e = tt
@@ -334,11 +334,11 @@ none-first : (p : ℕ) (os : List Outcome) → Each (λ o. ⊥) os → first_out
 none-first p [] h = refl
 none-first p (o ∷ os) h = absurd h.0
 
--- what tells groups apart: all, or without backreferences nothing
+-- No group is opened before the loop, or the program has no backreference.
 abbrev pub GroupsMatter : Program → (opens : ℕ) → Type 0
 GroupsMatter program opens = (opens ≡ 0) ⊎ HasNoBackrefs program
 
--- a test of one character was found, and if no match begins at a place, none begins at the places of the run from there on
+-- A test was found, and no match begins in the row of a place where none begins.
 abbrev pub Along : Program → Tree → Text → (found : Option (ℕ → Bool)) → Type 0
 Along program tree text found =
     IsSome found × ((p j : ℕ) → p ≤ last_place text → j ≤ prefix_len (test_in found) (nearest_first text rightwards p) → match_at tree.root text p ≡ None
@@ -374,7 +374,7 @@ module _ (program : Program) (tree : Tree) (text : Text) (can : TreeProgramCanSe
       along : Along program tree text found
       along = by (node-leads program text found Same alike least most greedy wide tree.root ready opens any counters_at_start last can.code.code begins)
 
-  -- the groups that are opened stand before the run
+  -- If groups are opened before the loop, a failure extends along the loop.
   module _ (found : Option (ℕ → Bool)) (opened : (i : ℕ) → i < opens → (id : ℕ) × (slice_get program.insns i ≡ Some (BeginCaptureGroup id)))
       (run : slice_get program.insns opens ≡ Some (Loop1CharBody least most greedy)) (tested : test_of program (slice_get program.insns (opens + 1)) ≡ found) where
     begins : (Same : Groups → Groups → Type 0) (alike : (node : Node) (m n : Counters) → IsCode program false node m n → Alike text Same node)

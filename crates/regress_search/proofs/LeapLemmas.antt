@@ -14,7 +14,7 @@ use Rattle.regress_program.specs.TableKeysOfUnits.{key, is_16_bit_encoding}
 use Rattle.regress_search.specs.TreePlanAndText.{SearchInput}
 use Rattle.regress_search.specs.StartSearch.{table_allows_unit_or_end_at, table_of_listed_units, NoBoundaryWhere}
 use Rattle.regress_search.specs.ReadsAtOffset.{unit_key_in_search}
-use Rattle.regress_search.specs.Leaping.{is_passed_at, IsFirstOfPassedUnits, IsPastBarrier}
+use Rattle.regress_search.specs.Leaping.{may_read_unit_before_goal, IsFirstOffsetReadableUpToGoal, IsPastBarriersBeforeGoal}
 use Rattle.regress_search.proofs.AsciiUnitLemmas.{low-boundary, key-small, key-own}
 use Rattle.regress_search.proofs.NextCharByUnit.{unit-fits}
 use Rattle.regress_search.proofs.StartSearchLemmas.{low-listed}
@@ -26,7 +26,7 @@ module _ (w : SearchInput) (has : HasUnitsForTables w.encoding w.text) where
   abbrev all-units : List ℕ
   all-units = text_units_in_encoding w.encoding w.text
 
-  -- a unit with a key below 128 is at a boundary
+  -- A unit with a key below 128 is at a boundary.
   low-key : (at u : ℕ) → slice_get all-units at ≡ Some u → key wide u < 128 → IsBoundary w.text at
   low-key at u there low = low-boundary w.encoding w.text has at u there (subst (λ k. k < 128) (sym (key-own wide u low)) low)
 
@@ -38,7 +38,7 @@ module _ (w : SearchInput) (has : HasUnitsForTables w.encoding w.text) where
       by (Some u) there e = let same : key wide u ≡ k = cc in low-key at u there (subst (λ k. k < 128) (sym same) low)
 
   module _ (leap : Leap) (ascii : AreGoalsFewAscii leap) where
-    -- the goal is absent where none of its units is
+    -- The goal is absent at an offset that is no boundary or where the table allows no unit.
     absent-at : (at : ℕ) → (IsBoundary w.text at → table_allows_unit_or_end_at w (table_of_listed_units leap.units leap.len) at ≡ false)
         → goal_occurs_at (leap_to_goal leap) w.encoding w.text at ≡ false
     absent-at at none = by (slice_get all-units at) refl
@@ -58,7 +58,7 @@ module _ (w : SearchInput) (has : HasUnitsForTables w.encoding w.text) where
         by (Some u) there =
             ap (λ b. b || nat_le 256 (key wide u)) (here u there (is_goal_key leap (key wide u)) refl) ∙ below u there
 
-    -- the goal occurs where one of its units is
+    -- If the table allows the unit at an offset, the goal occurs there.
     pub occurs-at : (at : ℕ) → table_allows_unit_or_end_at w (table_of_listed_units leap.units leap.len) at ≡ true → goal_occurs_at (leap_to_goal leap) w.encoding w.text at ≡ true
     occurs-at at one = by (unit_key_in_search w at) one
       where
@@ -74,8 +74,8 @@ module _ (w : SearchInput) (has : HasUnitsForTables w.encoding w.text) where
         → ((at : ℕ) → IsBoundary w.text at → at ≤ units w.text) → GoalIsAbsentFrom (leap_to_goal leap) w.encoding w.text from
     absent-from from none inside at le = absent-at at (λ on. none at on le (let most = inside at on in omega (arith, most)))
 
-  -- a unit is passed as the lesser of it and 128 is
-  pub passed-as-cut : (leap : Leap) → AreHighKeysAlike leap → wide ≡ true → (at u : ℕ) → slice_get all-units at ≡ Some u → is_passed_key leap (min u 128) ≡ is_passed_at w leap at
+  -- A unit is passed exactly if the lesser of it and 128 is.
+  pub passed-as-cut : (leap : Leap) → AreHighKeysAlike leap → wide ≡ true → (at u : ℕ) → slice_get all-units at ≡ Some u → is_passed_key leap (min u 128) ≡ may_read_unit_before_goal w leap at
   passed-as-cut leap alike is_wide at u there = by (cases_lt u 128) ∙ sym (ap (λ o. is_some_and (option_map (key wide) o) (is_passed_key leap)) there)
     where
       by : (u < 128) ⊎ (128 ≤ u) → is_passed_key leap (min u 128) ≡ is_passed_key leap (key wide u)
@@ -90,11 +90,11 @@ module _ (w : SearchInput) (has : HasUnitsForTables w.encoding w.text) where
           ap (is_passed_key leap) cut ∙ sym (alike (key wide u) (subst (λ b. 128 ≤ key b u) (sym is_wide) from) small)
 
   module _ (leap : Leap) (alike : AreHighKeysAlike leap) (from goal : ℕ) where
-    passed-key : (at k : ℕ) (b : Bool) → unit_key_in_search w at ≡ Some k → is_passed_at w leap at ≡ b → is_passed_key leap k ≡ b
+    passed-key : (at k : ℕ) (b : Bool) → unit_key_in_search w at ≡ Some k → may_read_unit_before_goal w leap at ≡ b → is_passed_key leap k ≡ b
     passed-key at k b here is = ap (λ o. is_some_and o (is_passed_key leap)) (sym here) ∙ is
 
-    -- back at a barrier below 128
-    pub at-barrier : (at k : ℕ) → IsFirstOfPassedUnits w leap from goal at → from < at → unit_key_in_search w (at - 1) ≡ Some k → k < 128 → IsPastBarrier w leap from goal (at - 1)
+    -- If the barrier's key is below 128, it is between each earlier offset and the goal.
+    pub at-barrier : (at k : ℕ) → IsFirstOffsetReadableUpToGoal w leap from goal at → from < at → unit_key_in_search w (at - 1) ≡ Some k → k < 128 → IsPastBarriersBeforeGoal w leap from goal (at - 1)
     at-barrier at k first after here low = record {
       boundary = low-key-boundary (at - 1) k here low;
       ahead = omega (arith, after);
@@ -106,8 +106,8 @@ module _ (w : SearchInput) (has : HasUnitsForTables w.encoding w.text) where
       };
     }
 
-    -- what may be passed behind a barrier from 128 on is below
-    passed-low : (at k : ℕ) → is_passed_at w leap at ≡ true → is_passed_key leap k ≡ false → 128 ≤ k → k < 256 → IsBoundary w.text at
+    -- A unit that is passed behind a barred key from 128 on is at a boundary.
+    passed-low : (at k : ℕ) → may_read_unit_before_goal w leap at ≡ true → is_passed_key leap k ≡ false → 128 ≤ k → k < 256 → IsBoundary w.text at
     passed-low at k over-here bars high below = by (slice_get all-units at) refl
       where
         by : (o : Option ℕ) → slice_get all-units at ≡ o → IsBoundary w.text at
@@ -123,9 +123,9 @@ module _ (w : SearchInput) (has : HasUnitsForTables w.encoding w.text) where
               cc
         ]
 
-    -- behind another one
-    pub behind-high : (at k : ℕ) → IsFirstOfPassedUnits w leap from goal at → from < at → unit_key_in_search w (at - 1) ≡ Some k → 128 ≤ k → k < 256
-        → IsBoundary w.text goal → IsPastBarrier w leap from goal at
+    -- If the barrier's key is 128 or above, it is between each offset before `at` and the goal.
+    pub behind-high : (at k : ℕ) → IsFirstOffsetReadableUpToGoal w leap from goal at → from < at → unit_key_in_search w (at - 1) ≡ Some k → 128 ≤ k → k < 256
+        → IsBoundary w.text goal → IsPastBarriersBeforeGoal w leap from goal at
     behind-high at k first after here high below end = record {
       boundary = elim (cases_lt at goal) [
         | inl before ↦ passed-low at k (first.passed before) (passed-key (at - 1) k false here (first.barred after)) high below
@@ -140,8 +140,8 @@ module _ (w : SearchInput) (has : HasUnitsForTables w.encoding w.text) where
       };
     }
 
-    -- nothing before
-    pub at-first : (at : ℕ) → IsFirstOfPassedUnits w leap from goal at → at ≤ from → IsBoundary w.text from → IsPastBarrier w leap from goal at
+    -- If the passed units begin at `from`, no earlier offset needs a barrier.
+    pub at-first : (at : ℕ) → IsFirstOffsetReadableUpToGoal w leap from goal at → at ≤ from → IsBoundary w.text from → IsPastBarriersBeforeGoal w leap from goal at
     at-first at first le on = record {
       boundary = subst (IsBoundary w.text) (let ahead = first.ahead in let same : from ≡ at = omega (arith, le, ahead) in same) on;
       ahead = first.ahead;

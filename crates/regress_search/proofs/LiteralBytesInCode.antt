@@ -9,13 +9,13 @@ use Rattle.regex_meaning.specs.Text.{expand_code_point}
 use Rattle.regex_meaning.specs.Outcomes.{in_intervals}
 use Rattle.regex_meaning.specs.StartPredicate.{bytes_that_pass}
 use Rattle.regex_meaning.specs.CompilationRelation.{Insn, Jump, ResetCaptureGroup, EndCaptureGroup, LoopAgain, Goal, AsciiBracket, Bracket, Lookahead, Lookbehind}
-use Rattle.regex_meaning.specs.CompilationRelation.{char_set_insn, case_variants_insn, anchor_insn, word_boundary_insn, ordered, is_uninverted_ascii_class}
+use Rattle.regex_meaning.specs.CompilationRelation.{char_set_insn, case_variants_insn, anchor_insn, word_boundary_insn, reversed_if_in_lookbehind, is_uninverted_ascii_class}
 use Rattle.regex_meaning.specs.CompilationRelation.{tree_contains_byte_nodes}
 use Rattle.regress_program.specs.CompilationOfTreesAsFunction.{node_insn_count, strings_size, loop_count, brackets_of, string_code, strings_code, code_of, compiled}
 use Rattle.regress_machine.specs.InsnEffects.{is_byte_sequence_insn}
 use Rattle.regex_meaning.proofs.BoolLemmas.{or-false-left, or-false-right}
 
--- instructions of which none has literal bytes
+-- None of the instructions has literal bytes.
 abbrev plain : List Insn → Type 0
 plain [] = Unit {0}
 plain (x ∷ xs) = (is_byte_sequence_insn x ≡ false) × plain xs
@@ -51,7 +51,7 @@ plain-word_boundary invert false = refl
 
 module _ (unicode : Bool) where
   plain-string : (icase behind : Bool) (string : List ℕ) → plain (string_code unicode icase behind string)
-  plain-string icase behind string = plain-map (λ c. case_variants_insn (expand_code_point c icase unicode)) (λ c. plain-spelling (expand_code_point c icase unicode)) (ordered behind string)
+  plain-string icase behind string = plain-map (λ c. case_variants_insn (expand_code_point c icase unicode)) (λ c. plain-spelling (expand_code_point c icase unicode)) (reversed_if_in_lookbehind behind string)
 
   plain-strings : (icase behind : Bool) (strings : List (List ℕ)) (at : ℕ) → plain (strings_code unicode icase behind strings at)
   plain-strings icase behind [] at = (refl, tt)
@@ -114,7 +114,7 @@ plain-at [] i x h e = cc
 plain-at (y ∷ xs) zero x h e = let same : y ≡ x = cc in subst (λ z. is_byte_sequence_insn z ≡ false) same h.0
 plain-at (y ∷ xs) (suc i) x h e = plain-at xs i x h.1 e
 
--- where an instruction has literal bytes, the tree reads bytes
+-- If an instruction has literal bytes, the tree reads bytes.
 pub literal-reads : (tree : Tree) (i : ℕ) (insn : Insn) → slice_get (compiled tree).insns i ≡ Some insn → IsTrue (is_byte_sequence_insn insn) → IsTrue (tree_contains_byte_nodes tree.root)
 unfolding compiled
 literal-reads tree i insn e literal = by (tree_contains_byte_nodes tree.root) refl

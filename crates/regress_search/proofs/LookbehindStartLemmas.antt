@@ -17,11 +17,11 @@ use Rattle.regress_program.specs.LookbehindFilter.{allows_start, unit_at_has_fil
 use Rattle.regress_program.specs.TableKeysOfUnits.{key, is_16_bit_encoding}
 use Rattle.regress_program.proofs.AppendedEntryLemmas.{get-below}
 use Rattle.regress_search.specs.TreePlanAndText.{SearchInput}
-use Rattle.regress_search.specs.StartSearch.{table_allows_unit_or_end_at, AllowsNone, IsFirstBoundaryWhere, IsPastFirstAllowedChar, NoBoundaryWhere, table_of_listed_units}
+use Rattle.regress_search.specs.StartSearch.{table_allows_unit_or_end_at, TableAllowsNoBoundary, IsFirstBoundaryWhere, IsPastFirstAllowedChar, NoBoundaryWhere, table_of_listed_units}
 use Rattle.regress_search.proofs.AllowedUnitTables.{no-key}
 use Rattle.regress_search.proofs.StartSearchLemmas.{none-between}
 
--- ---- There and back
+-- ---- Reads to the left and to the right
 
 module _ (text : Text) (is : HasRisingPlaceOffsets text) where
   turned : (d e : Direction) (at to : ℕ) → ((c : ℕ) → read text d at ≡ Some (c, to) → read text e to ≡ Some (c, at)) → past text d at ≡ Some to → past text e to ≡ Some at
@@ -39,7 +39,7 @@ module _ (text : Text) (is : HasRisingPlaceOffsets text) where
   on-back : (at to : ℕ) → past text rightwards at ≡ Some to → past text leftwards to ≡ Some at
   on-back at to = turned rightwards leftwards at to (λ c. right_then_left text is at c to)
 
-  -- behind another boundary a character ends
+  -- A character ends at a boundary that is behind another boundary.
   some-before : (x y : ℕ) → IsBoundary text x → IsBoundary text y → y < x → past text leftwards x ≡ None → ⊥
   some-before x y on at less none =
       let p = place_of_boundary text is x on in
@@ -58,7 +58,7 @@ module _ (text : Text) (is : HasRisingPlaceOffsets text) where
           let never : None ≡ Some (offset text (suc j - 1)) = sym none ∙ led in
           cc
 
--- where one of a few units is allowed, a unit stands
+-- Where one of a few units is allowed, a unit of the text stands.
 pub unit-inside : (w : SearchInput) → HasUnitsForTables w.encoding w.text → (keys : List ℕ) (len at : ℕ) → table_allows_unit_or_end_at w (table_of_listed_units keys len) at ≡ true → at < units w.text
 unit-inside w has keys len at allowed = elim (cases_lt at (units w.text)) [
   | inl inside ↦ inside
@@ -67,7 +67,7 @@ unit-inside w has keys len at allowed = elim (cases_lt at (units w.text)) [
       cc
 ]
 
--- ---- From where on the character before is looked for
+-- ---- The start of the search for the character before
 
 module _ (w : SearchInput) (has : HasUnitsForTables w.encoding w.text) (before : PrecedingCharFilter) where
   abbrev keys : AllowedNextKeys
@@ -87,12 +87,12 @@ module _ (w : SearchInput) (has : HasUnitsForTables w.encoding w.text) (before :
   lets-first : (at : ℕ) → past w.text leftwards at ≡ None → lets at ≡ before.edge
   lets-first at none = ap (λ o. option_map_or (unit_at_has_filter_key w.encoding before w.text) o before.edge) none
 
-  -- the character before the first place; or there is none, and then no match begins there
+  -- The character before `from` begins at `start`, or none is before it and no match begins there.
   abbrev pub LooksFrom : (from start : ℕ) → Type 0
   LooksFrom from start = (past w.text leftwards from ≡ Some start) ⊎ ((past w.text leftwards from ≡ None) × (start ≡ from) × (before.edge ≡ false))
 
   module _ (from start : ℕ) (on : IsBoundary w.text from) (looks : LooksFrom from start) where
-    -- so a character before a later place is not before the first one
+    -- A character that ends at `from` or later begins at `start` or later.
     not-before : (x y : ℕ) → from ≤ x → past w.text leftwards x ≡ Some y → start ≤ y
     not-before x y le led = elim (cases_lt y start) [
       | inr late ↦ late
@@ -106,8 +106,8 @@ module _ (w : SearchInput) (has : HasUnitsForTables w.encoding w.text) (before :
         by (inr none) early =
             some-before w.text has.is_text from y on (before_boundary w.text has.is_text x y led) (omega (arith, early, none.1)) none.0
 
-    -- where no place looks from there on to what is allowed, no match begins
-    none-behind : (upto end : ℕ) → AllowsNone w keys start upto → ((x y : ℕ) → IsBoundary w.text x → y < x → x < end → y < upto) → NoBoundaryWhere w lets from end
+    -- If no character from `start` on is allowed, no boundary from `from` on is a candidate.
+    none-behind : (upto end : ℕ) → TableAllowsNoBoundary w keys start upto → ((x y : ℕ) → IsBoundary w.text x → y < x → x < end → y < upto) → NoBoundaryWhere w lets from end
     none-behind upto end none below x at le less = by (past w.text leftwards x) refl
       where
         by : (o : Option ℕ) → past w.text leftwards x ≡ o → lets x ≡ false
@@ -121,7 +121,7 @@ module _ (w : SearchInput) (has : HasUnitsForTables w.encoding w.text) (before :
           | inr first ↦ lets-first x led ∙ first.2
         ]
 
-    -- past the first character that is allowed is the first place
+    -- The offset after the first allowed character, if there is one, is the first candidate.
     pub first-behind : (next : Option ℕ) → IsPastFirstAllowedChar w keys start next → IsFirstBoundaryWhere w lets from next
     first-behind None first = none-behind (units w.text + 1) (units w.text + 1) first (λ x y at less more. omega (arith, less, more))
     first-behind (Some to) (hit, first, led) = (

@@ -10,7 +10,7 @@ use Rattle.regress_search.specs.MatchesWithinWork.{AttemptKeepsWorkEnough, IsOrd
 use Rattle.regress_search.specs.MatchesWithinWork.{is_work_enough}
 use Rattle.regress_search.proofs.StartPredicateLemmas.{one-on}
 
--- who counts no work has enough
+-- If no work is counted, each attempt keeps the work enough.
 pub goes-on-free : {P E : Type 0} (offset : P → ℕ) (at : ℕ) (result : Result (Option P) E) → AttemptKeepsWorkEnough offset true 0 at result true 0 false
 goes-on-free offset at (Ok end) turn = (refl, record { is = refl; past = omega arith })
 goes-on-free offset at (Err e) turn = (refl, tt)
@@ -22,12 +22,12 @@ module _ (enough : Bool) (ahead : ℕ) where
   enough-from : (at to : ℕ) → at ≤ to → IsOrderedAttempt enough ahead at → is_work_enough enough ahead (Some to) ≡ true
   enough-from at to on turn = let past = turn.past in and_from enough (nat_le ahead to) turn.is (le-leb ahead to (omega (arith, past, on)))
 
-  -- for the next place to try
+  -- Work that is enough for an attempt in order is enough for the next candidate.
   pub enough-next : (tree : Tree) (text : Text) (from : ℕ) (next : Option ℕ) → NextStartSkipsNoMatch tree text from next → IsOrderedAttempt enough ahead from → is_work_enough enough ahead next ≡ true
   enough-next tree text from None n turn = turn.is
   enough-next tree text from (Some to) n turn = enough-from from to n.1 turn
 
-  -- and behind a match
+  -- Work that is enough behind a match is enough for the next offset to try.
   pub enough-behind : (tree : Tree) (text : Text) → HasRisingPlaceOffsets text → (start end : ℕ) → IsBoundary text end → IsOrderedAttempt enough ahead (least_offset_after_match start end)
       → is_work_enough enough ahead (next_search_offset text start end) ≡ true
   enough-behind tree text is start end on turn = by (nat_lt start end) turn
@@ -38,7 +38,8 @@ module _ (enough : Bool) (ahead : ℕ) where
       by false turn = enough-next tree text (end + 1) (option_map (λ (r : ℕ × ℕ). r.1) (read text rightwards end)) (one-on tree text is end on) turn
 
   module _ (enough' : Bool) (ahead' : ℕ) (out : Bool) where
-    -- behind an attempt at the next place, by what it found
+    -- An attempt at the next place, for which the work is enough, leaves attempts in order behind
+    -- it.
     pub turn-behind : {P : Type 0} (offset : P → ℕ) (next o end : Option P) (at : P) → next ≡ Some at → is_work_enough enough ahead (option_map offset next) ≡ true
         → (IsOrderedAttempt enough ahead (offset at) → (out ≡ false) × IsOrderedAttempt enough' ahead' (offset_after_attempt (offset at) (option_map offset o))) → o ≡ end
         → IsOrderedAttempt enough' ahead' (offset_after_attempt (offset at) (option_map offset end))

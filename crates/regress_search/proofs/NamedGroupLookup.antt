@@ -6,7 +6,7 @@ use Rattle.std.specs.Option.{option_or}
 use Rattle.regex_meaning.specs.Outcomes.{group_range}
 use Rattle.regex_meaning.specs.MatchGroupsByNumberAndName.{Answer, first_range, ids_named, ids_where}
 
--- an image is there exactly where its source is
+-- The image of an optional value is present exactly if the value is.
 pub is_some-image : {A B : Type 0} (f : A → B) (a : Option A) (b : Option B) (there : Bool) → option_map f a ≡ b
     → is_some a ≡ there → is_some b ≡ there
 is_some-image f None b there image h = ap is_some (sym image) ∙ h
@@ -21,13 +21,13 @@ option_or-none None p h = refl
 option_or-none (Some a) p h = cc
 
 module _ {X : Type 0} (f : X → List ℕ) (xs : List X) (i : ℕ) (x : X) (h : i < length xs) (e : x ≡ get_or xs i x) where
-  -- the images from an index on are the one there and those behind it
+  -- The images from an index on are the one there and those behind it.
   pub images-here : drop i (map f xs) ≡ f x ∷ drop (i + 1) (map f xs)
   images-here =
       drop-map f i xs ∙ ap (map f) (drop_more xs i x h ∙ ap (λ y. y ∷ drop (i + 1) xs) (sym e))
       ∙ ap (λ ys. f x ∷ ys) (sym (drop-map f (i + 1) xs))
 
-  -- the ids from an index on, by what the test says there
+  -- The ids from an index on begin with the index if the name there passes the test.
   pub ids-here : (test : List ℕ → Bool) (b : Bool) → test (f x) ≡ b
       → ids_where test i (drop i (map f xs))
       ≡ (if b then i ∷ ids_where test (i + 1) (drop (i + 1) (map f xs)) else ids_where test (i + 1) (drop (i + 1) (map f xs)))
@@ -36,30 +36,30 @@ module _ {X : Type 0} (f : X → List ℕ) (xs : List X) (i : ℕ) (x : X) (h : 
       ∙ ap (λ c. if c then i ∷ ids_where test (i + 1) (drop (i + 1) (map f xs)) else ids_where test (i + 1) (drop (i + 1) (map f xs))) t
 
   module _ (m : Answer) (name : List ℕ) where
-    -- what is looked for from an id on, where it is the first range from there on
+    -- The range that is looked for is the first one from `id` on.
     abbrev Sought : (id : ℕ) → Type 0
     Sought id = first_range m (ids_named m name) ≡ first_range m (ids_where (bytes_eq name) id (drop id (map f xs)))
 
-    -- the first range from an id on, where the name stands there
+    -- If the name stands at the index, the range is that of its group, or the first one behind.
     by-name : bytes_eq name (f x) ≡ true → Sought i
         → first_range m (ids_named m name)
         ≡ option_or (group_range m.captures i) (first_range m (ids_where (bytes_eq name) (i + 1) (drop (i + 1) (map f xs))))
     by-name named sought = sought ∙ ap (first_range m) (ids-here (bytes_eq name) true named)
 
-    -- the group with the name that matched
+    -- If the group with the name has matched, its range is the one that is looked for.
     pub found-first : bytes_eq name (f x) ≡ true → is_some (group_range m.captures i) ≡ true → Sought i
         → group_range m.captures i ≡ first_range m (ids_named m name)
     found-first named there sought = sym (by-name named sought ∙ option_or-some _ _ there)
 
-    -- another name
+    -- If another name stands at the index, the range is looked for from the next index on.
     pub other-name : bytes_eq name (f x) ≡ false → Sought i → Sought (i + 1)
     other-name differs sought = sought ∙ ap (first_range m) (ids-here (bytes_eq name) false differs)
 
-    -- a group with the name that did not match
+    -- If the group has not matched, the range is looked for from the next index on.
     pub none-here : bytes_eq name (f x) ≡ true → is_some (group_range m.captures i) ≡ false → Sought i → Sought (i + 1)
     none-here named there sought = by-name named sought ∙ option_or-none _ _ there
 
--- ---- Groups in turn
+-- ---- Groups of an answer, one after another
 
 take-next : {X : Type 0} (xs : List (Option X)) (id : ℕ) → id < length xs → take id xs ++ (unwrap_or (slice_get xs id) None ∷ []) ≡ take (id + 1) xs
 take-next [] id less = absurd (omega (arith, less))
@@ -68,7 +68,7 @@ take-next (x ∷ xs) (suc id) less =
     let e : suc (id + 1) ≡ suc id + 1 = omega arith in
     ap (λ l. x ∷ l) (take-next xs id (omega (arith, less))) ∙ ap (λ n. take n (x ∷ xs)) e
 
--- one group more
+-- With the image of the next group appended, the images are those of one group more.
 pub one-more : {X Y : Type 0} (f : Option X → Option Y) (xs : List (Option X)) (r : Option X) (gs : List (Option Y)) (id : ℕ)
     → map f xs ≡ take id gs → id < length gs → f r ≡ unwrap_or (slice_get gs id) None → map f (xs ++ r ∷ []) ≡ take (id + 1) gs
 one-more f xs r gs id before less is = map-last f xs r ∙ ap₂ (λ l x. l ++ x ∷ []) before is ∙ take-next gs id less

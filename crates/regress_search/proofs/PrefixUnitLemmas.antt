@@ -1,4 +1,5 @@
--- A required prefix fits where each of its units is allowed, and its searches find the first such offset.
+-- A required prefix fits where each of its units is allowed, and its searches find the first such
+-- offset.
 use Rattle.std.proofs.Common.{◌≡◌, ℕ, zero, suc, ◌+◌, ◌-◌, ◌*◌, ◌%◌, ◌^◌, ◌<◌, ◌≤◌, bit_or, subst, Bool, true, false, ◌&&◌, List, length, drop, take}
 use Rattle.std.proofs.Common.{Option, Some, None, refl, ap, sym, ◌∙◌, arith, slice_get}
 use Rattle.std.specs.Prelude.{◌==◌, option_map, slice_index}
@@ -31,17 +32,17 @@ not-true : (b : Bool) → (b ≡ true → ⊥) → b ≡ false
 not-true true h = absurd (h refl)
 not-true false h = refl
 
--- a byte is its own key
+-- The key of a byte is the byte.
 pub own-key : (o : Option ℕ) → option_map (key false) o ≡ o
 own-key None = refl
 own-key (Some u) = refl
 
 module _ (allowed : AllowedUnitsAhead) (us : List ℕ) (at : ℕ) where
-  -- whether a unit may stand so many units on
+  -- `stands` says whether the unit `ahead` units on is allowed there.
   abbrev pub stands : ℕ → Bool
   stands ahead = unit_is_allowed allowed ahead (slice_get us (at + ahead))
 
-  -- one that may not
+  -- If a unit is not allowed, the prefix does not fit.
   pub fits-fails : (len ahead : ℕ) → ahead < len → stands ahead ≡ false → prefix_allows_units_at allowed us at len ≡ false
   fits-fails zero ahead less none = absurd (omega (arith, less))
   fits-fails (suc len) ahead less none = elim (cases_lt ahead len) [
@@ -51,7 +52,7 @@ module _ (allowed : AllowedUnitsAhead) (us : List ℕ) (at : ℕ) where
         and-last (prefix_allows_units_at allowed us at len) (stands len) (ap stands (sym same) ∙ none)
   ]
 
-  -- each may
+  -- If the prefix fits, each of its units is allowed.
   pub fits-each : (len ahead : ℕ) → ahead < len → prefix_allows_units_at allowed us at len ≡ true → stands ahead ≡ true
   fits-each zero ahead less all = absurd (omega (arith, less))
   fits-each (suc len) ahead less all = elim (cases_lt ahead len) [
@@ -66,7 +67,7 @@ module _ (allowed : AllowedUnitsAhead) (us : List ℕ) (at : ℕ) where
   fits-all (suc len) each =
       and_from (prefix_allows_units_at allowed us at len) (stands len) (fits-all len (λ ahead less. each ahead (omega (arith, less)))) (each len (omega arith))
 
-  -- where they do not fit, this one may not stand
+  -- If the prefix does not fit, one of its units is not allowed.
   pub fits-not : (len : ℕ) → prefix_allows_units_at allowed us at len ≡ false → (ahead : ℕ) × (ahead < len) × (stands ahead ≡ false)
   fits-not zero none = cc
   fits-not (suc len) none = by (fits-not len) (stands len) refl
@@ -83,7 +84,7 @@ module _ (allowed : AllowedUnitsAhead) (us : List ℕ) (at : ℕ) where
           let less = one.1 in
           (one.0, omega (arith, less), one.2)
 
-  -- so many more behind those before
+  -- If the first units fit and each of `more` units is allowed, all of them fit.
   pub fits-row : (from more : ℕ) → prefix_allows_units_at allowed us at from ≡ true → ((i : ℕ) → i < more → stands (from + i) ≡ true) → prefix_allows_units_at allowed us at (from + more) ≡ true
   fits-row from more before each = fits-all (from + more) (λ ahead less. elim (cases_lt ahead from) [
     | inl early ↦ fits-each from ahead early before
@@ -92,22 +93,22 @@ module _ (allowed : AllowedUnitsAhead) (us : List ℕ) (at : ℕ) where
         ap stands (sym same) ∙ each (ahead - from) (omega (arith, less, late))
   ])
 
-  -- where those before one do not fit, those before a later one do not
+  -- If the first units do not fit, more units do not either.
   pub fits-still : (from to : ℕ) → from ≤ to → prefix_allows_units_at allowed us at from ≡ false → prefix_allows_units_at allowed us at to ≡ false
   fits-still from to le none =
       let one = fits-not from none in
       let less = one.1 in
       fits-fails to one.0 (omega (arith, less, le)) one.2
 
-  -- one more
+  -- If the first units fit and the next one is allowed, one more fits.
   pub fits-more : (len : ℕ) → prefix_allows_units_at allowed us at len ≡ true → stands len ≡ true → prefix_allows_units_at allowed us at (suc len) ≡ true
   fits-more len all here = and_from (prefix_allows_units_at allowed us at len) (stands len) all here
 
-  -- at the end there is no unit
+  -- A prefix that goes past the last unit does not fit.
   pub fits-past : (len ahead : ℕ) → ahead < len → length us ≤ at + ahead → prefix_allows_units_at allowed us at len ≡ false
   fits-past len ahead less past = fits-fails len ahead less (ap (unit_is_allowed allowed ahead) (slice_get_past us (at + ahead) past))
 
-  -- they are within
+  -- A prefix that fits is within the units.
   pub fits-within : (len : ℕ) → 0 < len → prefix_allows_units_at allowed us at len ≡ true → at + len ≤ length us
   fits-within len some all = elim (cases_lt (length us) (at + len)) [
     | inl short ↦
@@ -117,12 +118,12 @@ module _ (allowed : AllowedUnitsAhead) (us : List ℕ) (at : ℕ) where
     | inr inside ↦ inside
   ]
 
-  -- ---- One unit after another
+  -- ---- Units of a list, one after another
 
   unit-there : (ahead : ℕ) → at + ahead < length us → stands ahead ≡ allowed ahead (slice_index us (at + ahead))
   unit-there ahead inside = ap (unit_is_allowed allowed ahead) (slice_get-get_or us (at + ahead) 0 inside)
 
-  -- one more
+  -- If the next unit of the list is allowed, one more unit fits.
   pub fits-next : (len : ℕ) → at + len < length us → prefix_allows_units_at allowed us at len ≡ true → allowed len (slice_index us (at + len)) ≡ true → prefix_allows_units_at allowed us at (len + 1) ≡ true
   fits-next len inside all here =
       ap (prefix_allows_units_at allowed us at) (let z : len + 1 ≡ suc len = omega arith in z) ∙ and_from (prefix_allows_units_at allowed us at len) (stands len) all (unit-there len inside ∙ here)
@@ -130,11 +131,11 @@ module _ (allowed : AllowedUnitsAhead) (us : List ℕ) (at : ℕ) where
   pub fits-unless : (len ahead : ℕ) → ahead < len → at + ahead < length us → allowed ahead (slice_index us (at + ahead)) ≡ false → prefix_allows_units_at allowed us at len ≡ false
   fits-unless len ahead less inside here = fits-fails len ahead less (unit-there ahead inside ∙ here)
 
-  -- too few are left
+  -- If fewer units are left than the prefix has, it does not fit.
   pub fits-short : (len : ℕ) → at ≤ length us → length us - at < len → prefix_allows_units_at allowed us at len ≡ false
   fits-short len inside few = fits-past len (length us - at) few (omega (arith, inside))
 
--- the same behind so many units
+-- The prefix fits in the units without the first ones exactly if it does behind these.
 pub fits-behind : (allowed : AllowedUnitsAhead) (us : List ℕ) (from i len : ℕ) → prefix_allows_units_at allowed (drop from us) i len ≡ prefix_allows_units_at allowed us (from + i) len
 fits-behind allowed us from i zero = refl
 fits-behind allowed us from i (suc len) =
@@ -142,10 +143,10 @@ fits-behind allowed us from i (suc len) =
     ∙ ap (λ o. prefix_allows_units_at allowed us (from + i) len && unit_is_allowed allowed len o)
     (slice_get-behind from (i + len) us ∙ ap (slice_get us) (let z : from + (i + len) ≡ from + i + len = omega arith in z))
 
--- ---- By bits
+-- ---- Fits by the bits of masks
 
 module _ (prefix : Prefix) (us : List ℕ) (at : ℕ) where
-  -- the bits of the masks that are clear
+  -- The mask of a unit has a clear bit for a position.
   abbrev pub Clear : (ahead unit : ℕ) → Type 0
   Clear ahead unit = bit_at (slice_index prefix.masks unit) ahead ≡ 0
 
@@ -166,10 +167,10 @@ module _ (prefix : Prefix) (us : List ℕ) (at : ℕ) where
       ap (unit_is_allowed (units_allowed_by_prefix prefix) t) (slice_get-get_or us (at + t) 0 (omega (arith, inside, less)))
       ∙ eq-eqb (bit_at (slice_index prefix.masks (slice_index us (at + t))) t) 0 (window t less))
 
--- ---- By the rare one
+-- ---- Fits by a rare unit
 
 module _ (prefix : Prefix) (rare : RequiredUnitAndOffset) (is : IsOnlyUnitAllowedAtPosition prefix rare) (us : List ℕ) (bytes : (i : ℕ) → slice_index us i < 256) where
-  -- they do not fit where another byte stands at its place
+  -- If another byte stands at the place of the rare unit, the prefix does not fit.
   pub rare-fails : (at : ℕ) → (at + rare.ahead < length us → slice_index us (at + rare.ahead) ≡ rare.unit → ⊥) → prefix_allows_units_at (units_allowed_by_prefix prefix) us at prefix.len ≡ false
   rare-fails at other = by (cases_lt (at + rare.ahead) (length us))
     where
@@ -181,7 +182,7 @@ module _ (prefix : Prefix) (rare : RequiredUnitAndOffset) (is : IsOnlyUnitAllowe
           (λ may. other inside (is.only (slice_index us (at + rare.ahead)) (bytes (at + rare.ahead)) may)))
       by (inr past) = fits-past (units_allowed_by_prefix prefix) us at prefix.len rare.ahead is.inside past
 
-  -- too few are left for it
+  -- If no unit is left for the rare one and the prefix has not fitted before, it fits nowhere.
   pub rare-past : (at : ℕ) → length us ≤ at + rare.ahead → ((k : ℕ) → k < at → prefix_allows_units_at (units_allowed_by_prefix prefix) us k prefix.len ≡ false)
       → (k : ℕ) → prefix_allows_units_at (units_allowed_by_prefix prefix) us k prefix.len ≡ false
   rare-past at past before k = elim (cases_lt k at) [
@@ -189,11 +190,11 @@ module _ (prefix : Prefix) (rare : RequiredUnitAndOffset) (is : IsOnlyUnitAllowe
     | inr late ↦ rare-fails k (λ inside same. absurd (omega (arith, past, inside, late)))
   ]
 
--- ---- By units in a row
+-- ---- Fits by a literal
 
 module _ (prefix : Prefix) (literal : Literal) (is : IsLiteralForcedByPrefix prefix literal) (us : List ℕ) (bytes : (i : ℕ) → slice_index us i < 256) (at : ℕ)
     (fit : prefix_allows_units_at (units_allowed_by_prefix prefix) us at prefix.len ≡ true) where
-  -- where all fit, each of these stands
+  -- If the prefix fits, each unit of the literal stands at its place.
   pub literal-reads : (i : ℕ) → i < literal.len → slice_index us (at + (literal.ahead + i)) ≡ slice_index literal.units i
   literal-reads i less = by (cases_lt (at + (literal.ahead + i)) (length us))
     where
@@ -209,7 +210,7 @@ module _ (prefix : Prefix) (literal : Literal) (is : IsLiteralForcedByPrefix pre
           let never : true ≡ false = sym fit ∙ fits-past (units_allowed_by_prefix prefix) us at prefix.len (literal.ahead + i) within past in
           cc
 
--- where those in a row stand, those before it fit with them
+-- Where the literal occurs, the prefix fits through the literal if it fits before it.
 pub literal-fits : (prefix : Prefix) (literal : Literal) → IsLiteralForcedByPrefix prefix literal → (us : List ℕ) (at : ℕ) → length (take literal.len literal.units) ≡ literal.len
     → OccursAt us (take literal.len literal.units) (at + literal.ahead) → prefix_allows_units_at (units_allowed_by_prefix prefix) us at literal.ahead ≡ true
     → prefix_allows_units_at (units_allowed_by_prefix prefix) us at (literal.ahead + literal.len) ≡ true
@@ -222,13 +223,13 @@ literal-fits prefix literal is us at full there before =
     (ap (slice_index us) same ∙ there.reads i fewer ∙ get_or-take literal.len literal.units i 0 less)
     ∙ (is.alone i less).stands)
 
--- ---- Searches
+-- ---- Searches for the first fit
 
 module _ (prefix : Prefix) (us : List ℕ) (at : ℕ) where
   abbrev Fits : ℕ → Bool
   Fits k = prefix_allows_units_at (units_allowed_by_prefix prefix) us k prefix.len
 
-  -- one unit more, of which the state says whether all fit that end there
+  -- If no fit ends so far or behind the next unit, none ends up to there.
   pub none-more : 0 < prefix.len → ((k : ℕ) → k + prefix.len ≤ at → Fits k ≡ false)
       → ((k : ℕ) → k + prefix.len ≡ at + 1 → Window (λ t b. bit_at (slice_index prefix.masks b) t ≡ 0) (slice_index us) prefix.len k → ⊥)
       → (k : ℕ) → k + prefix.len ≤ at + 1 → Fits k ≡ false
@@ -237,7 +238,7 @@ module _ (prefix : Prefix) (us : List ℕ) (at : ℕ) where
     | inr last ↦ not-true (Fits k) (λ fit. never k (omega (arith, le, last)) (fits-window prefix us k fit))
   ]
 
-  -- all of the units were gone over
+  -- If no fit ends within the units, there is none.
   pub none-found : 0 < prefix.len → length us ≤ at → ((k : ℕ) → k + prefix.len ≤ at → Fits k ≡ false) → (k : ℕ) → k < length us → Fits k ≡ false
   none-found some end before k less =
       not-true (Fits k) (λ fit.
@@ -246,7 +247,7 @@ module _ (prefix : Prefix) (us : List ℕ) (at : ℕ) where
       let never : true ≡ false = sym fit ∙ none in
       cc)
 
-  -- they fit where the state says so
+  -- If the window of the masks is clear, its offset is the first fit.
   pub window-found : 0 < prefix.len → (to : ℕ) → to + prefix.len ≡ at → at ≤ length us
       → Window (λ t b. bit_at (slice_index prefix.masks b) t ≡ 0) (slice_index us) prefix.len to → ((k : ℕ) → k + prefix.len ≤ at - 1 → Fits k ≡ false)
       → IsFirstPassingIndex Fits (length us) to
@@ -256,7 +257,7 @@ module _ (prefix : Prefix) (us : List ℕ) (at : ℕ) where
     none_before = λ k less. before k (omega (arith, less, there));
   }
 
--- what one more unit tells: the state behind it, and whether its bit says that all units fit that end there
+-- The next unit leads to the next state, and its bit says whether a fit ends there.
 pub record Tells (prefix : Prefix) (us : List ℕ) (at state : ℕ) (clear : Bool) : Type 0 where
   pub next : IsState (λ t b. bit_at (slice_index prefix.masks b) t ≡ 0) (slice_index us) prefix.len (at + 1) state
   pub ends : clear ≡ true → Ends (λ t b. bit_at (slice_index prefix.masks b) t ≡ 0) (slice_index us) (at + 1) prefix.len
@@ -280,7 +281,7 @@ tells-more prefix us at state key clear some old is test =
       goes_on = λ no ends. let never : true ≡ false = sym (eq-eqb (bit_at now n) 0 (all.1 ends)) ∙ sym told ∙ no in cc;
     }
 
--- as many stand in a row at most
+-- The units that are taken from a literal are at most as many as its length.
 pub needle-short : (literal : Literal) → length (take literal.len literal.units) ≤ literal.len
 needle-short literal = let n = length-take literal.len literal.units in omega (arith, n)
 
@@ -293,7 +294,7 @@ module _ (prefix : Prefix) (literal : Literal) (is : IsLiteralForcedByPrefix pre
   length-left : length rest ≡ length us - (at + literal.ahead)
   length-left = ap (λ (l : List ℕ). length l) cut ∙ length-drop (at + literal.ahead) us
 
-  -- where all fit, they stand in a row
+  -- Where the prefix fits, the literal occurs in the rest.
   literal-occurs : (k : ℕ) → at ≤ k → FitAll k ≡ true → OccursAt rest needle (k - at)
   literal-occurs k le fit = record {
     fits =
@@ -308,7 +309,7 @@ module _ (prefix : Prefix) (literal : Literal) (is : IsLiteralForcedByPrefix pre
         ∙ sym (ap (λ (l : List ℕ). slice_index l j) taken ∙ get_or-take literal.len literal.units j 0 fewer);
   }
 
-  -- they are not there any more
+  -- If the literal does not occur in the rest, the prefix fits nowhere.
   pub literal-none : FindsNeedle rest needle 0 None → (k : ℕ) → FitAll k ≡ false
   literal-none none k = elim (cases_lt k at) [
     | inl early ↦ before k early
@@ -317,14 +318,14 @@ module _ (prefix : Prefix) (literal : Literal) (is : IsLiteralForcedByPrefix pre
         none (k - at) (omega arith) (let inside = there.fits in omega (arith, inside)) there)
   ]
 
-  -- too few are left for them
+  -- If no unit is left for the literal, the prefix fits nowhere.
   pub literal-past : length us ≤ at + literal.ahead → (k : ℕ) → FitAll k ≡ false
   literal-past past k = elim (cases_lt k at) [
     | inl early ↦ before k early
     | inr late ↦ fits-past (units_allowed_by_prefix prefix) us k prefix.len (prefix.len - 1) (omega (arith, some)) (let inside = is.inside in let more = is.some in omega (arith, past, late, inside, more))
   ]
 
-  -- they are found so many units further on
+  -- If the literal is found `more` units on, the prefix fits at no offset before that.
   module _ (more : ℕ) (found : FindsNeedle rest needle 0 (Some more)) where
     pub literal-inside : at + literal.ahead < length us → at + more ≤ length us
     literal-inside room = let inside = found.1.fits in omega (arith, inside, length-left, room)
@@ -336,11 +337,11 @@ module _ (prefix : Prefix) (literal : Literal) (is : IsLiteralForcedByPrefix pre
           found.0.before (k - at) (omega arith) (omega (arith, late, less)) (literal-occurs k late fit))
     ]
 
-    -- and all fit there
+    -- If the prefix fits where the literal is found, that is within the units.
     pub literal-within : FitAll (at + more) ≡ true → at + more < length us
     literal-within fit = let within = fits-within (units_allowed_by_prefix prefix) us (at + more) prefix.len some fit in omega (arith, within, some)
 
-    -- and not all fit there
+    -- If the prefix does not fit where the literal is found, it fits nowhere up to there.
     pub literal-behind : FitAll (at + more) ≡ false → (k : ℕ) → k < at + more + 1 → FitAll k ≡ false
     literal-behind none k less = elim (cases_lt k (at + more)) [
       | inl early ↦ literal-before k early
@@ -355,7 +356,7 @@ module _ (prefix : Prefix) (rare : RequiredUnitAndOffset) (is : IsOnlyUnitAllowe
   length-rest : length rest ≡ length us - (at + rare.ahead)
   length-rest = ap (λ (l : List ℕ). length l) cut ∙ length-drop (at + rare.ahead) us
 
-  -- at no place before so many units further on, if the rare one is not among these
+  -- If the rare unit is not among the next `n` units, the prefix does not fit at their offsets.
   rare-excluded : (n : ℕ) → ((i : ℕ) → i < n → is_byte rare.unit (slice_index rest i) ≡ true → ⊥) → (k : ℕ) → at ≤ k → k < at + n → FitsAt k ≡ false
   rare-excluded n none k le less =
       rare-fails prefix rare is us bytes k (λ inside same.
@@ -364,7 +365,7 @@ module _ (prefix : Prefix) (rare : RequiredUnitAndOffset) (is : IsOnlyUnitAllowe
       (ap (λ (l : List ℕ). slice_index l (k - at)) cut ∙ get_or-drop (at + rare.ahead) us (k - at) 0
       ∙ ap (slice_index us) (let z : at + rare.ahead + (k - at) ≡ k + rare.ahead = omega (arith, le) in z) ∙ same)))
 
-  -- the rare one is not there any more
+  -- If the rest has no rare unit and the prefix has not fitted before, it fits nowhere.
   pub rare-none : IsFirstByte (is_byte rare.unit) rest None → ((k : ℕ) → k < at → FitsAt k ≡ false) → (k : ℕ) → FitsAt k ≡ false
   rare-none none before k = elim (cases_lt k at) [
     | inl early ↦ before k early
@@ -374,7 +375,7 @@ module _ (prefix : Prefix) (rare : RequiredUnitAndOffset) (is : IsOnlyUnitAllowe
     ]
   ]
 
-  -- it is found so many units further on
+  -- If the rare unit is found `more` units on, the prefix fits at no offset before that.
   module _ (more : ℕ) (found : IsFirstByte (is_byte rare.unit) rest (Some more)) (before : (k : ℕ) → k < at → FitsAt k ≡ false) where
     pub rare-inside : at + more < length us
     rare-inside = let high = found.0.high in omega (arith, high, length-rest)
@@ -385,7 +386,7 @@ module _ (prefix : Prefix) (rare : RequiredUnitAndOffset) (is : IsOnlyUnitAllowe
       | inr late ↦ rare-excluded more (λ i fewer. found.0.before i (omega arith) fewer) k late less
     ]
 
-    -- and they do not fit there
+    -- If the prefix does not fit where the rare unit is found, it fits nowhere up to there.
     pub rare-behind : FitsAt (at + more) ≡ false → (k : ℕ) → k < at + more + 1 → FitsAt k ≡ false
     rare-behind none k less = elim (cases_lt k (at + more)) [
       | inl early ↦ rare-before k early

@@ -1,4 +1,5 @@
--- A probe passes at each offset where the required prefix fits, so the offsets it rejects are no candidates.
+-- A probe passes at each offset where the required prefix fits, so the offsets it rejects are no
+-- candidates.
 use Rattle.std.proofs.Common.{◌≡◌, ℕ, suc, ◌+◌, ◌-◌, ◌%◌, ◌<◌, ◌≤◌, Bool, true, false, List, length, take, Option, Some, None, ap, sym, ◌∙◌, subst, arith}
 use Rattle.std.proofs.Common.{slice_get}
 use Rattle.std.specs.Prelude.{slice_index}
@@ -26,29 +27,29 @@ use Rattle.regress_search.specs.PrefixCandidatesInRange.{IsFirstPrefixFitInRange
 use Rattle.regress_search.proofs.PrefixUnitLemmas.{fits-fails, fits-past, fits-more}
 use Rattle.regress_search.proofs.AsciiUnitLemmas.{fit-unit, fit-boundary}
 
--- ---- Keys
+-- ---- Keys of units
 
 module _ (w : SearchInput) where
   pub key-got : (at k : ℕ) → unit_key_at w.encoding (key (is_16_bit_encoding w.encoding)) w.text at ≡ Some k → slice_get (keys_in w) at ≡ Some k
   key-got at k there = slice_get-map (key (is_16_bit_encoding w.encoding)) (text_units_in_encoding w.encoding w.text) at ∙ there
 
-  -- one unit more, which may stand there
+  -- If the next unit's key is allowed, one more unit of the prefix fits.
   pub fits-goes : (prefix : Prefix) (at ahead k : ℕ) (may : Bool) → unit_key_at w.encoding (key (is_16_bit_encoding w.encoding)) w.text (at + ahead) ≡ Some k
       → may ≡ units_allowed_by_prefix prefix ahead k → may ≡ true → prefix_allows_units_at (units_allowed_by_prefix prefix) (keys_in w) at ahead ≡ true → prefix_allows_units_at (units_allowed_by_prefix prefix) (keys_in w) at (ahead + 1) ≡ true
   fits-goes prefix at ahead k may there asked holds all =
       ap (prefix_allows_units_at (units_allowed_by_prefix prefix) (keys_in w) at) (let z : ahead + 1 ≡ suc ahead = omega arith in z)
       ∙ fits-more (units_allowed_by_prefix prefix) (keys_in w) at ahead all (ap (unit_is_allowed (units_allowed_by_prefix prefix) ahead) (key-got (at + ahead) k there) ∙ sym asked ∙ holds)
 
-  -- one that may not
+  -- If a unit's key is not allowed, the prefix does not fit.
   pub fits-stops : (prefix : Prefix) (at ahead k : ℕ) (may : Bool) → ahead < prefix.len → unit_key_at w.encoding (key (is_16_bit_encoding w.encoding)) w.text (at + ahead) ≡ Some k
       → may ≡ units_allowed_by_prefix prefix ahead k → may ≡ false → prefix_fits_at w prefix at ≡ false
   fits-stops prefix at ahead k may less there asked fails =
       fits-fails (units_allowed_by_prefix prefix) (keys_in w) at prefix.len ahead less
       (ap (unit_is_allowed (units_allowed_by_prefix prefix) ahead) (key-got (at + ahead) k there) ∙ sym asked ∙ fails)
 
--- ---- Bits
+-- ---- Bits of a probe
 
--- where the first units may stand a probe passes
+-- Where the prefix fits, the unit at its place passes the probe.
 pub probe-passes : (w : SearchInput) → HasUnitsForTables w.encoding w.text → (prefix : Prefix) (at : ℕ) → prefix_fits_at w prefix at ≡ true → (probe : MaskedUnitProbe) → ProbePassesPrefix prefix probe
     → (u : ℕ) → slice_get (text_units_in_encoding w.encoding w.text) (at + probe.ahead) ≡ Some u → unit_passes_probe probe u ≡ true
 probe-passes w has prefix at fit probe is u there =
@@ -57,7 +58,7 @@ probe-passes w has prefix at fit probe is u there =
     let same : one.0 ≡ u = some-same one.0 u (sym one.1 ∙ there) in
     ap (unit_passes_probe probe) (sym same) ∙ is.only one.0 (omega (arith, small)) one.3
 
--- it passes at each of the offsets that are marked
+-- The bits that a probe marks include each offset where the prefix fits.
 pub probe-marks : (w : SearchInput) → HasUnitsForTables w.encoding w.text → (prefix : Prefix) (probe : MaskedUnitProbe) → ProbePassesPrefix prefix probe → (at marks : ℕ)
     → at + probe.ahead + 32 ≤ units w.text → MarksUnitsWithBits (text_units_in_encoding w.encoding w.text) (at + probe.ahead) probe.mask probe.bits marks
     → MarksAllPassing (prefix_fits_at w prefix) at marks
@@ -74,16 +75,16 @@ probe-marks w has prefix probe is at marks room are = record {
   within = are.within;
 }
 
--- ---- Places in a row
+-- ---- First fits in a range
 
 module _ (w : SearchInput) (prefix : Prefix) where
-  -- it is a place to try
+  -- The first fit in a range is the first boundary where the prefix fits.
   pub found-where : HasUnitsForTables w.encoding w.text → 0 < prefix.len → PrefixAllowsOnlyAsciiFirst prefix → (from to at : ℕ) → IsFirstPrefixFitInRange w prefix from to (Some at)
       → IsFirstBoundaryWhere w (prefix_fits_at w prefix) from (Some at)
   found-where has some ascii from to at first =
       (fit-boundary w has prefix at first.2 some ascii, first.0, first.2, λ x on le less. first.3 x le less)
 
-  -- behind these places there is no room
+  -- If no room is left behind the range, the first fit in it is the first one at all.
   pub first-where : HasUnitsForTables w.encoding w.text → 0 < prefix.len → PrefixAllowsOnlyAsciiFirst prefix → (from to : ℕ) (found : Option ℕ) → units w.text + 1 ≤ to + prefix.len
       → IsFirstPrefixFitInRange w prefix from to found → IsFirstBoundaryWhere w (prefix_fits_at w prefix) from found
   first-where has some ascii from to None all first = λ at on le less. elim (cases_lt at to) [

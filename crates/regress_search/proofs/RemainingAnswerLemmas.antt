@@ -1,4 +1,5 @@
--- A call of an iterator takes the first of the remaining matches, finds that none is left, or is refused.
+-- A call of an iterator takes the first of the remaining matches, finds that none is left, or is
+-- refused.
 use Rattle.std.proofs.Common.{◌≡◌, ℕ, suc, ◌+◌, ◌<◌, ◌≤◌, [], ◌∷◌, length, Option, Some, None, Result, Ok, Err, Bool, true, false, not, refl, sym}
 use Rattle.std.proofs.Common.{ap, ap₂, ◌∙◌, arith, eq-eqb}
 use Rattle.std.proofs.lemmas.Bool.{leb-false}
@@ -9,7 +10,7 @@ use Rattle.regex_meaning.specs.Text.{Text}
 use Rattle.regex_meaning.specs.CodeUnitOffsets.{HasRisingPlaceOffsets, IsBoundary, place_at, units}
 use Rattle.regex_meaning.specs.MatchGroupsByNumberAndName.{Answer, answers_from}
 use Rattle.regex_meaning.specs.SearchAnswers.{first_answer, next_start}
-use Rattle.regex_meaning.specs.StepBudget.{is_within, remaining_budget, need_from, answers_within, finishes_within, answers_within_from_next, finishes_from_next}
+use Rattle.regex_meaning.specs.StepBudget.{budget_suffices, remaining_budget, need_from, answers_within, finishes_within, answers_within_from_next, finishes_from_next}
 use Rattle.regex_meaning.specs.OutcomesWithStepTicks.{needs}
 use Rattle.regex_meaning.proofs.StepBudgetLemmas.{within-some, within-none, beyond}
 use Rattle.regex_meaning.proofs.CodeUnitOffsetsLemmas.{place_at-past}
@@ -52,9 +53,9 @@ module _ (tree : Tree) (text : Text) (is : HasRisingPlaceOffsets text) where
     end-is : units text ≡ s.text_end
     end-is = ap (λ (s : RemainingView). s.text_end) was
 
-    -- one call that found a match, from what the iterator saw to what it sees
+    -- If a call finds a match, that is the first remaining answer, and the others remain.
     pub call-some : (a : Answer) (tree' : Tree) (text' : Text) (after next : Option ℕ) → Some a ≡ first_answer tree.root text at → next ≡ next_start tree.root text at
-        → tree' ≡ tree → text' ≡ text → IsTrue (is_within budget (need_from tree text at)) → after ≡ remaining_budget budget (need_from tree text at)
+        → tree' ≡ tree → text' ≡ text → IsTrue (budget_suffices budget (need_from tree text at)) → after ≡ remaining_budget budget (need_from tree text at)
         → (s.answers ≡ a ∷ answers_within_from_next tree' text' after next) × (s.limited ≡ not (finishes_from_next tree' text' after next)) × (s.ended ≡ false)
         × (units text' ≡ s.text_end) × (is_none next ≡ (a.range.0 == s.text_end))
     call-some a tree' text' after next found on r t within left =
@@ -66,13 +67,13 @@ module _ (tree : Tree) (text : Text) (is : HasRisingPlaceOffsets text) where
           ap is_none on ∙ ends-behind tree.root text is at a (sym found) ∙ ap (λ n. a.range.0 == n) end-is,
         )
 
-    -- and one that found none
-    pub call-none : None ≡ first_answer tree.root text at → IsTrue (is_within budget (need_from tree text at)) → (s.answers ≡ []) × (s.limited ≡ false)
+    -- If a call finds no match within the budget, no answer remains.
+    pub call-none : None ≡ first_answer tree.root text at → IsTrue (budget_suffices budget (need_from tree text at)) → (s.answers ≡ []) × (s.limited ≡ false)
     call-none found within =
         let w = within-none tree text is budget at (sym found) within in
         (answers-here ∙ w.0, limit-here ∙ ap not w.1)
 
-    -- and one that was refused
+    -- If a call is refused, the iterator may return that error.
     pub call-refused : (X : Type 0) (e : SearchError) (after : Option ℕ) → SpendsNeedOrReachesLimit {X = X} (need_from tree text at) budget (Err e) after → MayReturnError e s
     call-refused X Memory after r = tt
     call-refused X StepLimit after r = let w = beyond tree text is budget at r.0 in (answers-here ∙ w.0, limit-here ∙ ap not w.1)

@@ -1,5 +1,7 @@
--- Where each match begins with a group of one character of one unit, which a backreference repeats, and the next unit is another one, no match begins.
-use Rattle.std.proofs.Common.{◌≡◌, ℕ, zero, suc, ◌+◌, ◌-◌, ◌<◌, ◌≤◌, Bool, true, false, ◌&&◌, List, [], ◌∷◌, length, take, drop, Option, Some, None, refl, ap, ap₂, sym, ◌∙◌, subst, arith, slice_get, get_or}
+-- If each match begins with a group of one character of one unit that a backreference repeats, no
+-- match begins where the next unit is another one.
+use Rattle.std.proofs.Common.{◌≡◌, ℕ, zero, suc, ◌+◌, ◌-◌, ◌<◌, ◌≤◌, Bool, true, false, ◌&&◌, List, [], ◌∷◌, length}
+use Rattle.std.proofs.Common.{take, drop, Option, Some, None, refl, ap, ap₂, sym, ◌∙◌, subst, arith, slice_get, get_or}
 use Rattle.std.specs.Prelude.{slice_set, slice_range, slice_index_or, ◌==◌, nat_lt, nat_le, option_map, option_and_then, if◌then◌else◌}
 use Rattle.std.proofs.lemmas.Bool.{cases_lt, ltb-true, lt-ltb, eqb-true}
 use Rattle.std.proofs.lemmas.List.{append-nil}
@@ -10,7 +12,7 @@ use lib.Utf8.{encode}
 use Rattle.regex_meaning.specs.Tree.{exact}
 use Rattle.regex_meaning.specs.Text.{Text, rightwards, last_place, moved, next_character, next_characters, characters_ahead}
 use Rattle.regex_meaning.specs.CodeUnitOffsets.{HasRisingPlaceOffsets, IsBoundary, offset, place_at, units}
-use Rattle.regex_meaning.specs.CodeUnits.{Encoding, utf8, utf16, ucs2, spelled_in, text_units_in_encoding}
+use Rattle.regex_meaning.specs.CodeUnits.{Encoding, utf8, utf16, ucs2, code_units_of_character, text_units_in_encoding}
 use Rattle.regex_meaning.specs.CompilationRelation.{Program, Insn, BeginCaptureGroup, EndCaptureGroup, BackRef}
 use Rattle.regex_meaning.specs.Outcomes.{is_some_and, is_same}
 use Rattle.regex_meaning.proofs.BoolLemmas.{and-left, and-right}
@@ -36,13 +38,13 @@ use Rattle.regress_program.specs.declared.ops.Op.{Op}
 use Rattle.regress_program.specs.declared.ops.Op.TheVariants as variant
 use Rattle.regex_pattern_front.specs.declared.canonical.Sameness.TheVariants.{Exact}
 use Rattle.regress_program.specs.InsnsAsSpec.{insn_as_spec_insn}
-use Rattle.regress_program.proofs.AppendedEntryLemmas.{get-below}
-use Rattle.regress_search.specs.DeadThreads.{MatchFailureExtendsUntil, BeginsWithRepeatedChar, IsUnrepeated}
-use Rattle.regress_search.specs.ReadsAtOffset.{unit_in}
+use Rattle.regress_search.specs.DeadThreads.{MatchFailureExtendsUntil, BeginsWithRepeatedChar, NextUnitDoesNotRepeatAsciiUnit}
+use Rattle.regress_search.specs.ReadsAtOffset.{input_unit_at}
 use Rattle.regress_search.specs.TreePlanAndText.{SearchInput, program_of}
+use Rattle.regress_search.proofs.LeadingLoopOperations.{insn-of-op}
 use Rattle.regress_search.proofs.NextCharByUnit.{next-is, past-next, excluded, stepped, own-spelled}
 
--- ---- Lists
+-- ---- Lists of characters and groups
 
 set-got : {X : Type 0} (xs : List X) (i : ℕ) (x : X) → i < length xs → slice_get (slice_set xs i x) i ≡ Some x
 set-got [] i x less = absurd (omega (arith, less))
@@ -69,7 +71,7 @@ some-and : (o : Option ℕ) (test : ℕ → Bool) → is_some_and o test ≡ tru
 some-and None test h = cc
 some-and (Some c) test h = (c, refl, h)
 
--- ---- Turns
+-- ---- Steps of the machine
 
 module _ (program : Program) (text : Text) (has_text : HasRisingPlaceOffsets text) (group : ℕ) (reader : Insn)
     (opens : slice_get program.insns 0 ≡ Some (BeginCaptureGroup group)) (reads : slice_get program.insns 1 ≡ Some reader) (one : reads_class_char reader ≡ true)
@@ -87,7 +89,7 @@ module _ (program : Program) (text : Text) (has_text : HasRisingPlaceOffsets tex
     next_inside : p + 1 ≤ last_place text
     next_inside = let less = slice_get_within text.characters p c there in omega (arith, less)
 
-    -- the character is not repeated
+    -- The characters of the group do not equal the next ones.
     never : (from to q : ℕ) → from ≡ p → to ≡ p + 1 → q ≡ p + 1
         → pointwise (is_same text exact) (slice_range text.characters from to) (next_characters text rightwards (length (slice_range text.characters from to)) q) ≡ true → ⊥
     never from to q is_from is_to is_q same = by (slice_get text.characters (p + 1)) refl
@@ -173,22 +175,22 @@ module _ (program : Program) (text : Text) (has_text : HasRisingPlaceOffsets tex
           nothing-go program text n rightwards next (nothing-below program text n next (read-first next (ap (λ i. i + 1) at) pos
           (set-got s.starts group s.pos (ltb-true group (length s.starts) (and-right (nat_lt group (length s.groups)) (nat_lt group (length s.starts)) e)) ∙ ap Some pos)))
 
--- ---- Units
+-- ---- Units of a repeated character
 
--- texts in bytes are in UTF-8
+-- An encoding whose units have fewer than 16 bits is UTF-8.
 in-utf8 : (e : Encoding) → is_16_bit_encoding e ≡ false → e ≡ utf8
 in-utf8 utf8 is = refl
 in-utf8 utf16 is = cc
 in-utf8 ucs2 is = cc
 
-one-low : (c : ℕ) → length (spelled_in utf8 c) ≡ 1 → c < 128
+one-low : (c : ℕ) → length (code_units_of_character utf8 c) ≡ 1 → c < 128
 one-low c one = elim (cases_lt c 128) [
   | inl low ↦ low
   | inr above ↦ elim (cases_lt c 2048) [
-    | inl two ↦ let n : length (spelled_in utf8 c) ≡ 2 = ap length (append-nil (encode c)) ∙ ap length (encode_two c above two) in absurd (omega (arith, one, n))
+    | inl two ↦ let n : length (code_units_of_character utf8 c) ≡ 2 = ap length (append-nil (encode c)) ∙ ap length (encode_two c above two) in absurd (omega (arith, one, n))
     | inr more ↦ elim (cases_lt c 65536) [
-      | inl three ↦ let n : length (spelled_in utf8 c) ≡ 3 = ap length (append-nil (encode c)) ∙ ap length (encode_three c more three) in absurd (omega (arith, one, n))
-      | inr four ↦ let n : length (spelled_in utf8 c) ≡ 4 = ap length (append-nil (encode c)) ∙ ap length (encode_four c four) in absurd (omega (arith, one, n))
+      | inl three ↦ let n : length (code_units_of_character utf8 c) ≡ 3 = ap length (append-nil (encode c)) ∙ ap length (encode_three c more three) in absurd (omega (arith, one, n))
+      | inr four ↦ let n : length (code_units_of_character utf8 c) ≡ 4 = ap length (append-nil (encode c)) ∙ ap length (encode_four c four) in absurd (omega (arith, one, n))
     ]
   ]
 ]
@@ -196,25 +198,25 @@ one-low c one = elim (cases_lt c 128) [
 module _ (text : Text) (has : HasUnitsForTables utf8 text) (test : ℕ → Bool) (steps : List ℕ) (are : AreReadLengthsByKey false test steps)
     (single : (k : ℕ) → slice_index_or steps k 0 ≤ 1) (at p c : ℕ) (on : IsBoundary text at) (place_is : place_at text at ≡ Some p) (there : slice_get text.characters p ≡ Some c)
     (accepted : test c ≡ true) where
-  -- what is accepted is a unit below 128, and the next character begins with the next unit
+  -- An accepted character is a unit below 128, and the next one begins at the next unit.
   pub accepted-low : (u : ℕ) → slice_get (text_units_in_encoding utf8 text) at ≡ Some u → (u ≡ c) × (u < 128) × (offset text (p + 1) ≡ at + 1)
   accepted-low u unit =
       let n = next-is utf8 text has at u on unit in
-      let reads : Some (c, offset text (p + 1)) ≡ Some (n.0, at + length (spelled_in utf8 n.0)) =
+      let reads : Some (c, offset text (p + 1)) ≡ Some (n.0, at + length (code_units_of_character utf8 n.0)) =
       sym (read-place text rightwards at p place_is ∙ ap (option_map {U = ℕ × ℕ} (λ c. (c, offset text (p + 1)))) there) ∙ n.1.read_is in
-      let pair : (c, offset text (p + 1)) ≡ (n.0, at + length (spelled_in utf8 n.0)) = cc in
+      let pair : (c, offset text (p + 1)) ≡ (n.0, at + length (code_units_of_character utf8 n.0)) = cc in
       let same : n.0 ≡ c = sym (ap (λ (r : ℕ × ℕ). r.0) pair) in
-      let behind : offset text (p + 1) ≡ at + length (spelled_in utf8 n.0) = ap (λ (r : ℕ × ℕ). r.1) pair in
-      let past : past_if text test rightwards at ≡ Some (at + length (spelled_in utf8 n.0)) =
-      past-next utf8 text has test at u n.0 n.1 ∙ ap (λ b. if b then Some (at + length (spelled_in utf8 n.0)) else None) (ap test same ∙ accepted) in
+      let behind : offset text (p + 1) ≡ at + length (code_units_of_character utf8 n.0) = ap (λ (r : ℕ × ℕ). r.1) pair in
+      let past : past_if text test rightwards at ≡ Some (at + length (code_units_of_character utf8 n.0)) =
+      past-next utf8 text has test at u n.0 n.1 ∙ ap (λ b. if b then Some (at + length (code_units_of_character utf8 n.0)) else None) (ap test same ∙ accepted) in
       let least = single u in
-      let one : length (spelled_in utf8 n.0) ≡ 1 = elim (cases_lt 0 (slice_index_or steps u 0)) [
+      let one : length (code_units_of_character utf8 n.0) ≡ 1 = elim (cases_lt 0 (slice_index_or steps u 0)) [
         | inl some ↦
             let led = stepped utf8 text has test steps are at u on (ap (option_map (key false)) unit) 1 (at + 1) (omega (arith, some, least)) (λ z. omega (arith, z)) (λ z. omega (arith, z)) refl in
-            let e : Some (at + 1) ≡ Some (at + length (spelled_in utf8 n.0)) = led ∙ past in
-            let f : at + 1 ≡ at + length (spelled_in utf8 n.0) = cc in omega (arith, f)
+            let e : Some (at + 1) ≡ Some (at + length (code_units_of_character utf8 n.0)) = led ∙ past in
+            let f : at + 1 ≡ at + length (code_units_of_character utf8 n.0) = cc in omega (arith, f)
         | inr none ↦
-            let no : None ≡ Some (at + length (spelled_in utf8 n.0)) = excluded utf8 text has test steps are at u on (ap (option_map (key false)) unit) (omega (arith, none)) ∙ past in cc
+            let no : None ≡ Some (at + length (code_units_of_character utf8 n.0)) = excluded utf8 text has test steps are at u on (ap (option_map (key false)) unit) (omega (arith, none)) ∙ past in cc
       ] in
       let low = one-low n.0 one in
       let begins : Some n.0 ≡ Some u = sym (ap (λ (l : List ℕ). slice_get l 0) (own-spelled utf8 n.0 (lt-ltb n.0 0x80 low))) ∙ n.1.first in
@@ -226,43 +228,37 @@ module _ (text : Text) (has : HasUnitsForTables utf8 text) (test : ℕ → Bool)
 module _ (w : SearchInput) (has : HasUnitsForTables w.encoding w.text) (plan : IsPlanOf (is_16_bit_encoding w.encoding) (program_of w) w.plan)
     (can : TreeProgramCanSearchText (program_of w) w.tree w.text) (bytes : is_16_bit_encoding w.encoding ≡ false) (number : ℕ) (begins : BeginsWithRepeatedChar w.plan number)
     (class : Class) (there : slice_get w.plan.classes.items number ≡ Some class) (single : class.single_unit ≡ true) where
-  insn-of : (ip : ℕ) (op : Op) → slice_get w.plan.ops.items ip ≡ Some op → (insn : Insn) × (slice_get (program_of w).insns ip ≡ Some insn) × IsOpOf (program_of w) w.plan op ip insn
-  insn-of ip op is =
-      let many = plan.as_many in
-      let some = get-below (program_of w).insns ip (let less = slice_get_within w.plan.ops.items ip op is in omega (arith, less, many)) in
-      (some.0, some.1, plan.each ip op some.0 is some.1)
-
   is_utf8 : w.encoding ≡ utf8
   is_utf8 = in-utf8 w.encoding bytes
 
   in_bytes : HasUnitsForTables utf8 w.text
   in_bytes = subst (λ e. HasUnitsForTables e w.text) is_utf8 has
 
-  unit : (at : ℕ) → slice_get (text_units_in_encoding utf8 w.text) at ≡ unit_in w at
+  unit : (at : ℕ) → slice_get (text_units_in_encoding utf8 w.text) at ≡ input_unit_at w at
   unit at = ap (λ e. slice_get (text_units_in_encoding e w.text) at) (sym is_utf8)
 
-  module _ (at p : ℕ) (on : IsBoundary w.text at) (place_is : place_at w.text at ≡ Some p) (alone : IsUnrepeated w at) where
+  module _ (at p : ℕ) (on : IsBoundary w.text at) (place_is : place_at w.text at ≡ Some p) (alone : NextUnitDoesNotRepeatAsciiUnit w at) where
     apart-there : (test : ℕ → Bool) → AreReadLengthsByKey false test class.steps → (c : ℕ) → slice_get w.text.characters p ≡ Some c → test c ≡ true
         → slice_get w.text.characters (p + 1) ≡ Some c → ⊥
     apart-there test are c first accepted second =
-        let begun : slice_get (spelled_in utf8 c) 0 ≡ Some (get_or (spelled_in utf8 c) 0 0) = slice_get-get_or (spelled_in utf8 c) 0 0 (some-units utf8 c) in
-        let u = get_or (spelled_in utf8 c) 0 0 in
+        let begun : slice_get (code_units_of_character utf8 c) 0 ≡ Some (get_or (code_units_of_character utf8 c) 0 0) = slice_get-get_or (code_units_of_character utf8 c) 0 0 (some-units utf8 c) in
+        let u = get_or (code_units_of_character utf8 c) 0 0 in
         let here : slice_get (text_units_in_encoding utf8 w.text) at ≡ Some u =
-        unit-there utf8 w.text has.is_text in_bytes.spelled at p place_is ∙ ap (option_and_then (λ c. slice_get (spelled_in utf8 c) 0)) first ∙ begun in
+        unit-there utf8 w.text has.is_text in_bytes.spelled at p place_is ∙ ap (option_and_then (λ c. slice_get (code_units_of_character utf8 c) 0)) first ∙ begun in
         let low = accepted-low w.text in_bytes test class.steps are ((plan.classes number class there).single_unit single) at p c on place_is first accepted u here in
         let less = slice_get_within w.text.characters (p + 1) c second in
         let next_place : place_at w.text (at + 1) ≡ Some (p + 1) = ap (place_at w.text) (sym low.2) ∙ place_at-offset w.text (p + 1) has.is_text (omega (arith, less)) in
         let next : slice_get (text_units_in_encoding utf8 w.text) (at + 1) ≡ Some u =
-        unit-there utf8 w.text has.is_text in_bytes.spelled (at + 1) (p + 1) next_place ∙ ap (option_and_then (λ c. slice_get (spelled_in utf8 c) 0)) second ∙ begun in
+        unit-there utf8 w.text has.is_text in_bytes.spelled (at + 1) (p + 1) next_place ∙ ap (option_and_then (λ c. slice_get (code_units_of_character utf8 c) 0)) second ∙ begun in
         alone u low.1 (sym (unit at) ∙ here) (sym (unit (at + 1)) ∙ next)
 
-  -- no match begins where the next unit is another one
-  pub repeated-vain : (from to : ℕ) → ((at : ℕ) → from ≤ at → at < to → IsUnrepeated w at) → MatchFailureExtendsUntil w from to
+  -- If no unit of a range is repeated by the next one, failures extend over the range.
+  pub repeated-vain : (from to : ℕ) → ((at : ℕ) → from ≤ at → at < to → NextUnitDoesNotRepeatAsciiUnit w at) → MatchFailureExtendsUntil w from to
   repeated-vain from to alone none at on le less p is =
-      let first = insn-of 0 (variant.OpenGroup begins.group) begins.opens in
-      let second = insn-of 1 (variant.One number) begins.reads in
-      let third = insn-of 2 (variant.CloseGroup begins.group) begins.closes in
-      let fourth = insn-of 3 (variant.MatchBackref (record { slot = begins.group; same = Exact })) begins.repeats in
+      let first = insn-of-op w plan 0 (variant.OpenGroup begins.group) begins.opens in
+      let second = insn-of-op w plan 1 (variant.One number) begins.reads in
+      let third = insn-of-op w plan 2 (variant.CloseGroup begins.group) begins.closes in
+      let fourth = insn-of-op w plan 3 (variant.MatchBackref (record { slot = begins.group; same = Exact })) begins.repeats in
       let has_class = second.2.0 in
       let class_is : class ≡ has_class.class = (let e : Some class ≡ Some has_class.class = sym there ∙ has_class.is_there in cc) in
       let reader_is : second.0 ≡ insn_as_spec_insn class.insn = has_class.is_class ∙ ap (λ (k : Class). insn_as_spec_insn k.insn) (sym class_is) in
@@ -276,8 +272,8 @@ module _ (w : SearchInput) (has : HasUnitsForTables w.encoding w.text) (plan : I
       c there_c accepted again)
       (state_before_first_insn (program_of w) (offset w.text p)) refl refl)
 
--- the last unit is not repeated
-pub unrepeated-last : (w : SearchInput) → HasUnitsForTables w.encoding w.text → (at : ℕ) → units w.text ≤ at + 1 → IsUnrepeated w at
+-- The last unit of a text is not repeated.
+pub unrepeated-last : (w : SearchInput) → HasUnitsForTables w.encoding w.text → (at : ℕ) → units w.text ≤ at + 1 → NextUnitDoesNotRepeatAsciiUnit w at
 unrepeated-last w has at last u low here next =
     let long = units-length w.encoding w.text has.spelled in
     let less = slice_get_within (text_units_in_encoding w.encoding w.text) (at + 1) u next in

@@ -6,7 +6,9 @@ use Rattle.regex_meaning.specs.Tree.{Tree}
 use Rattle.regex_meaning.specs.Text.{Text}
 use Rattle.regex_meaning.specs.Outcomes.{Groups}
 use Rattle.regress_search.specs.AttemptsAndStarts.{NoMatchAt, end_with_groups, match_end_and_groups_at}
-use Rattle.regress_search.specs.CostsOfSearches.{AttemptsFail, CallSpendsExactCost, CostsMoreThanLeft, Failures, IfWorkIsCounted, MayStopShort, SearchCosts, SpendsExactCost, TakesExactCost, no_attempt, one_more}
+use Rattle.regress_search.specs.CostsOfSearches.{AttemptsFail, CallSpendsExactCost, CostsMoreThanLeft, Failures}
+use Rattle.regress_search.specs.CostsOfSearches.{IfWorkIsCounted, LeavesWorkWithoutResult, SearchCosts, SpendsExactCost}
+use Rattle.regress_search.specs.CostsOfSearches.{TakesExactCost, no_attempt, one_more}
 use Rattle.regress_search.specs.CostsOfSearches.{finds_none, finds_match, is_begun, next_attempt_offset}
 
 -- ---- Statements of producers that count work
@@ -15,7 +17,7 @@ pub counted : (b : Bool) {X : Type 0} → X → IfWorkIsCounted b X
 counted false x = tt
 counted true x = x
 
--- what is true of one that counts
+-- If work is counted, what holds of producers that count work holds.
 pub of-counted : (b : Bool) {X : Type 0} → b ≡ true → IfWorkIsCounted b X → X
 of-counted b {X} e x = subst (λ b. IfWorkIsCounted b X) e x
 
@@ -31,10 +33,10 @@ pub counted₃ : (b : Bool) {W X Y Z : Type 0} → (W → X → Y → Z) → IfW
 counted₃ false f w x y = tt
 counted₃ true f w x y = f w x y
 
--- ---- Attempts
+-- ---- Attempts of a search
 
 module _ (attempt_costs : Tree → Text → (before : Failures) → (at cost : ℕ) → (after : Option Failures) → Type 0) where
-  -- a call behind the end of the list costs nothing
+  -- A call behind the end of the list costs nothing.
   pub nothing-costs : {X E : Type 0} (tree : Tree) (text : Text) (before : Failures) (position : Option ℕ) (left : ℕ) (out : Bool) (r : Option (Result X E)) → r ≡ None → position ≡ None
       → CallSpendsExactCost (SearchCosts attempt_costs tree text before position) left r out left before
   nothing-costs tree text before position left out r none e =
@@ -56,13 +58,13 @@ module _ (attempt_costs : Tree → Text → (before : Failures) → (at cost : �
   }
 
   module _ {tree : Tree} {text : Text} {before : Failures} {first left : ℕ} where
-    -- no offset is left to try
+    -- If no offset is left to try, the search takes the cost of the failed attempts.
     pub failing-ends : (now : Failures) (left' : ℕ) (next : Option ℕ) → next ≡ None → Failing tree text before first left now left' next
         → TakesExactCost (SearchCosts attempt_costs tree text before (Some first)) left left' now
     failing-ends now left' next e f =
         (f.done, finds_none f.done now (subst (λ n. AttemptsFail attempt_costs tree text before (Some first) f.done now n) e f.fail), f.spent)
 
-    -- An attempt at the next offset, of a tree and a text that are the same.
+    -- An attempt is made at the next offset, with the tree and the text of the search.
     module _ {P : Type 0} (offset : P → ℕ) (next : Option P) (at : P) (here : next ≡ Some at) (tree' : Tree) (text' : Text) (same_tree : tree' ≡ tree) (same_text : text' ≡ text)
         (now : Failures) (now_left : ℕ) (f : Failing tree text before first left now now_left (option_map offset next)) where
       fail-here : AttemptsFail attempt_costs tree text before (Some first) f.done now (Some (offset at))
@@ -76,7 +78,7 @@ module _ (attempt_costs : Tree → Text → (before : Failures) → (at cost : �
         match-here : match_end_and_groups_at tree text (offset at) ≡ end_with_groups offset end groups
         match-here = sym (found ∙ ap₂ (λ t x. match_end_and_groups_at t x (offset at)) same_tree same_text)
 
-        -- It finds no match.
+        -- If the attempt finds no match, it is one more failed attempt, whose cost is added.
         pub failing-goes : end ≡ None → (further : Option ℕ) (tree'' : Tree) (text'' : Text) → tree'' ≡ tree' → text'' ≡ text' → (after : Failures) (left' : ℕ)
             → TakesExactCost (attempt_costs tree' text' now (offset at)) now_left left' after → further ≡ next_attempt_offset tree'' text'' (offset at)
             → Failing tree text before first left after left' further
@@ -90,7 +92,7 @@ module _ (attempt_costs : Tree → Text → (before : Failures) → (at cost : �
               spent = let s = f.spent in let l = takes.2 in omega (arith, s, l);
             }
 
-        -- It finds a match.
+        -- If the attempt finds a match, the search takes the cost of all its attempts.
         pub failing-finds : (e : P) → end ≡ Some e → (after : Failures) (left' : ℕ) → TakesExactCost (attempt_costs tree' text' now (offset at)) now_left left' after
             → TakesExactCost (SearchCosts attempt_costs tree text before (Some first)) left left' after
         failing-finds e some after left' takes =
@@ -101,9 +103,9 @@ module _ (attempt_costs : Tree → Text → (before : Failures) → (at cost : �
               (let s = f.spent in let l = takes.2 in omega (arith, s, l)),
             )
 
-      -- It is given up.
-      pub failing-stops : (out : Bool) (left' : ℕ) → MayStopShort (attempt_costs tree' text' now (offset at)) now_left out left'
-          → MayStopShort (SearchCosts attempt_costs tree text before (Some first)) left out left'
+      -- If the attempt stops short, the search does.
+      pub failing-stops : (out : Bool) (left' : ℕ) → LeavesWorkWithoutResult (attempt_costs tree' text' now (offset at)) now_left out left'
+          → LeavesWorkWithoutResult (SearchCosts attempt_costs tree text before (Some first)) left out left'
       failing-stops false left' less = let s = f.spent in omega (arith, s, less)
       failing-stops true left' more = ∥∥₁_map more (λ c. (
         f.done + c.0,
@@ -111,16 +113,16 @@ module _ (attempt_costs : Tree → Text → (before : Failures) → (at cost : �
         (let s = f.spent in let l = c.2 in omega (arith, s, l)),
       ))
 
--- an error that does not report the work limit
-pub stops-without : (costs : (cost : ℕ) → (after : Option Failures) → Type 0) (left : ℕ) (out : Bool) (left' : ℕ) → out ≡ false → left' ≤ left → MayStopShort costs left out left'
-stops-without costs left out left' e less = subst (λ b. MayStopShort costs left b left') (sym e) less
+-- An error other than the work limit leaves at most the work that was left.
+pub stops-without : (costs : (cost : ℕ) → (after : Option Failures) → Type 0) (left : ℕ) (out : Bool) (left' : ℕ) → out ≡ false → left' ≤ left → LeavesWorkWithoutResult costs left out left'
+stops-without costs left out left' e less = subst (λ b. LeavesWorkWithoutResult costs left b left') (sym e) less
 
--- and one that does
-pub stops-out : (costs : (cost : ℕ) → (after : Option Failures) → Type 0) (left : ℕ) (out : Bool) (left' : ℕ) → out ≡ true → CostsMoreThanLeft costs left → MayStopShort costs left out left'
-stops-out costs left out left' e more = subst (λ b. MayStopShort costs left b left') (sym e) more
+-- If the work limit is reported, the computation costs more than was left.
+pub stops-out : (costs : (cost : ℕ) → (after : Option Failures) → Type 0) (left : ℕ) (out : Bool) (left' : ℕ) → out ≡ true → CostsMoreThanLeft costs left → LeavesWorkWithoutResult costs left out left'
+stops-out costs left out left' e more = subst (λ b. LeavesWorkWithoutResult costs left b left') (sym e) more
 
--- what is handed up
+-- An error that is handed up has spent what its computation has spent.
 pub handed-cost : {Y E : Type 0} (costs : (cost : ℕ) → (after : Option Failures) → Type 0) (left : ℕ) (r : Result Y E) (e : E) (out : Bool) (left' : ℕ) (after : Failures)
-    → IsErrAnd r (λ f. f ≡ e) → MayStopShort costs left out left' → SpendsExactCost costs left r out left' after
+    → IsErrAnd r (λ f. f ≡ e) → LeavesWorkWithoutResult costs left out left' → SpendsExactCost costs left r out left' after
 handed-cost costs left (Ok y) e out left' after h s = absurd h
 handed-cost costs left (Err f) e out left' after h s = s

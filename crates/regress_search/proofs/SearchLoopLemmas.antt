@@ -1,4 +1,5 @@
--- An attempt at the next candidate start ends the search loop with a match, or the loop tries a later one.
+-- An attempt at the next candidate start ends the search loop with a match, or the loop tries a
+-- later one.
 use Rattle.std.proofs.Common.{◌≡◌, ◌+◌, ◌<◌, ℕ, Option, Some, None, Err, ap, ap₂, sym, ◌∙◌, subst, option_map}
 use Rattle.std.specs.Prelude.{IsTrue, is_some}
 use Rattle.regex_meaning.specs.Tree.{Tree}
@@ -7,7 +8,7 @@ use Rattle.regex_meaning.specs.CodeUnitOffsets.{HasRisingPlaceOffsets, IsBoundar
 use Rattle.regex_meaning.specs.Outcomes.{Groups}
 use Rattle.regex_meaning.specs.MatchGroupsByNumberAndName.{group_names_by_id}
 use Rattle.regex_meaning.specs.SearchAnswers.{first_answer, next_start}
-use Rattle.regex_meaning.specs.StepBudget.{is_within, remaining_budget, need_from}
+use Rattle.regex_meaning.specs.StepBudget.{budget_suffices, remaining_budget, need_from}
 use Rattle.regress_search.specs.MatchesAsSpecAnswers.{answer_from_parts}
 use Rattle.regress_search.specs.AttemptsAndStarts.{NextStartSkipsNoMatch, NoMatchAt, end_with_groups, match_end_and_groups_at, next_filtered_start}
 use Rattle.regress_search.specs.AttemptsAndStarts.{next_search_offset}
@@ -18,36 +19,36 @@ use Rattle.regress_search.proofs.StepBudgetLemmas.{IsSpent, refused, spent-found
 use Rattle.regress_search.proofs.FirstMatchLemmas.{found-first}
 use Rattle.regress_search.proofs.SkippedStartLemmas.{Walks, untried, walk-goes}
 
--- Before the next place: the search goes on from there, and so much of the budget is left.
+-- The search goes on from `next`, and the budget has paid for the steps before it.
 pub record Walk (tree : Tree) (text : Text) (first : ℕ) (at_first now : Option ℕ) (next : Option ℕ) : Type 0 where
   pub walks : Walks tree text first next
   pub spent : IsSpent tree text at_first now (need_from tree text first) next
 
--- An attempt at the next place ended so, with so much left of the budget.
+-- An attempt at `at` has ended with `end` within the budget, and leaves `after`.
 pub record Attempt (tree : Tree) (text : Text) (first : ℕ) (at_first now after : Option ℕ) (at : ℕ) (end : Option (ℕ × Groups)) : Type 0 where
   pub walk : Walk tree text first at_first now (Some at)
   pub ends : end ≡ match_end_and_groups_at tree text at
-  pub took : IsTrue (is_within now (ticks_of_attempt_at tree text at)) × (after ≡ remaining_budget now (ticks_of_attempt_at tree text at))
+  pub took : IsTrue (budget_suffices now (ticks_of_attempt_at tree text at)) × (after ≡ remaining_budget now (ticks_of_attempt_at tree text at))
 
--- the match that was found is the first, and the list goes on behind it
+-- The match that was found is the first answer, and the list goes on behind it.
 pub record Found (tree : Tree) (text : Text) (first : ℕ) (at_first after : Option ℕ) (at end : ℕ) (groups : Groups) : Type 0 where
   pub answer : Some (answer_from_parts at end groups (group_names_by_id tree.root)) ≡ first_answer tree.root text first
   pub behind : next_search_offset text at end ≡ next_start tree.root text first
   pub boundary : IsBoundary text end
-  pub spends : IsTrue (is_within at_first (need_from tree text first)) × (after ≡ remaining_budget at_first (need_from tree text first))
+  pub spends : IsTrue (budget_suffices at_first (need_from tree text first)) × (after ≡ remaining_budget at_first (need_from tree text first))
 
--- the walk goes on, with less text that is left to try
+-- The search goes on from the next place, with less of the text untried.
 pub record Goes (tree : Tree) (text : Text) (first : ℕ) (at_first after : Option ℕ) (at : ℕ) (next : Option ℕ) : Type 0 where
   pub walk : Walk tree text first at_first after next
   pub less : untried text next < untried text (Some at)
 
--- What is known of trees and texts that are the same.
+-- The lemmas take trees and texts that are equal to those of the search.
 module _ {tree : Tree} {text : Text} {first : ℕ} {at_first now : Option ℕ} where
   pub walk-at : {P : Type 0} (offset : P → ℕ) {next : Option P} {at : P} → Walk tree text first at_first now (option_map offset next) → next ≡ Some at → Walk tree text first at_first now (Some (offset at))
   walk-at offset w is = subst (λ o. Walk tree text first at_first now (option_map offset o)) is w
 
   pub attempt-at : {tree' : Tree} {text' : Text} {after : Option ℕ} {at : ℕ} {end : Option (ℕ × Groups)} → Walk tree text first at_first now (Some at) → tree' ≡ tree → text' ≡ text
-      → end ≡ match_end_and_groups_at tree' text' at → IsTrue (is_within now (ticks_of_attempt_at tree' text' at)) × (after ≡ remaining_budget now (ticks_of_attempt_at tree' text' at))
+      → end ≡ match_end_and_groups_at tree' text' at → IsTrue (budget_suffices now (ticks_of_attempt_at tree' text' at)) × (after ≡ remaining_budget now (ticks_of_attempt_at tree' text' at))
       → Attempt tree text first at_first now after at end
   attempt-at {tree' = tree'} {text' = text'} {after = after} {at = at} w t x ends took = record {
     walk = w;
@@ -87,12 +88,12 @@ module _ {tree : Tree} {text : Text} {first : ℕ} {at_first now : Option ℕ} w
           less = goes.1;
         }
 
-  -- ---- By what an attempt at the next place answers
+  -- ---- Results of an attempt at the next place
 
   module _ {P : Type 0} (offset : P → ℕ) (groups : Groups) {tree' : Tree} {text' : Text} {after : Option ℕ} {next o : Option P} {at : P} (is : HasRisingPlaceOffsets text)
       (walk : Walk tree text first at_first now (option_map offset next)) (here : next ≡ Some at) (same_tree : tree' ≡ tree) (same_text : text' ≡ text)
       (ends : end_with_groups offset o groups ≡ match_end_and_groups_at tree' text' (offset at))
-      (took : IsTrue (is_within now (ticks_of_attempt_at tree' text' (offset at))) × (after ≡ remaining_budget now (ticks_of_attempt_at tree' text' (offset at)))) where
+      (took : IsTrue (budget_suffices now (ticks_of_attempt_at tree' text' (offset at))) × (after ≡ remaining_budget now (ticks_of_attempt_at tree' text' (offset at)))) where
     pub found-there : {end : P} → o ≡ Some end → Found tree text first at_first after (offset at) (offset end) groups
     found-there some = attempt-found offset groups is some (attempt-at (walk-at offset walk here) same_tree same_text ends took)
 
@@ -102,7 +103,7 @@ module _ {tree : Tree} {text : Text} {first : ℕ} {at_first now : Option ℕ} w
         let there : Attempt tree text first at_first now after (offset at) (end_with_groups offset o groups) = attempt-at (walk-at offset walk here) same_tree same_text ends took in
         attempt-goes is there (attempt-vain offset groups none there) (t ∙ same_tree) (x ∙ same_text) tries counted
 
-  -- an attempt that was refused is a search that is
+  -- If an attempt is refused, the search is refused with the same error.
   pub attempt-refused : {tree' : Tree} {text' : Text} {at : ℕ} → HasRisingPlaceOffsets text → (X : Type 0) (after : Option ℕ) (e : SearchError) → Walk tree text first at_first now (Some at) → tree' ≡ tree → text' ≡ text
       → SpendsNeedOrReachesLimit {X = X} (ticks_of_attempt_at tree' text' at) now (Err e) after → SpendsNeedOrReachesLimit {X = X} (need_from tree text first) at_first (Err e) after
   attempt-refused {tree' = tree'} {text' = text'} {at = at} is X after e w t x spends =

@@ -22,11 +22,11 @@ can-search tree text w is u b = record {
   bytes = b;
 }
 
--- the bytes of ASCII, by the test of each
+-- If bytes are ASCII, each of them is less than 128.
 pub all-ascii : (bytes : List ℕ) → IsAscii bytes → list_all (λ b. nat_lt b 128) bytes ≡ true
 all-ascii [] h = refl
 all-ascii (b ∷ bytes) h = and_from (nat_lt b 128) (list_all (λ b. nat_lt b 128) bytes) (lt-ltb b 128 (h 0)) (all-ascii bytes (λ i. h (suc i)))
 
--- a program that reads no bytes asks nothing where bytes are read
+-- No tree that reads bytes is equal to one that reads none.
 pub without-bytes : {P : Type 0} (tree run : Tree) → run ≡ tree → tree_contains_byte_nodes tree.root ≡ false → IsTrue (tree_contains_byte_nodes run.root) → P
 without-bytes tree run same none reads = cc (sym reads ∙ ap (λ (t : Tree). tree_contains_byte_nodes t.root) same ∙ none)

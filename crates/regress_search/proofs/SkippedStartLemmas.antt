@@ -14,12 +14,12 @@ use Rattle.regress_search.specs.AttemptsAndStarts.{NextStartSkipsNoMatch, NoMatc
 use Rattle.regress_search.proofs.FirstMatchLemmas.{GoesFrom, found-at, none-at}
 
 module _ (tree : Tree) (text : Text) where
-  -- the search from the first offset is that from the next one, if there is one, and else finds nothing
+  -- The first match from `first` is that from `next`, or there is none if `next` is `None`.
   abbrev pub Walks : (first : ℕ) → (next : Option ℕ) → Type 0
   Walks first None = first_found tree.root text first ≡ None
   Walks first (Some at) = GoesFrom tree text first at
 
--- how much of a text is left to try
+-- `untried` is the number of offsets from the next one to the end of the text.
 abbrev pub untried : Text → (next : Option ℕ) → ℕ
 untried text next = option_map_or (λ at. units text + 1 - at) next 0
 
@@ -66,7 +66,7 @@ module _ (tree : Tree) (text : Text) (is : HasRisingPlaceOffsets text) where
       none-between from (units text + 1) a.0 q none a.2 at inside (omega (arith, rising)))
       ∙ first-past tree.root text (a.0 + n) (omega (arith, end))
 
-  -- the first offset to try
+  -- A search from the first offset goes on from the first candidate.
   pub walk-begins : (first : ℕ) (next : Option ℕ) → IsBoundary text first → NextStartSkipsNoMatch tree text first next → Walks tree text first next
   walk-begins first None on n = next-none first on n
   walk-begins first (Some at) on n = record { same = next-some first at on n; boundary = n.0 }
@@ -77,7 +77,7 @@ module _ (tree : Tree) (text : Text) (is : HasRisingPlaceOffsets text) where
     | inr within ↦ let same : at ≡ x = omega (arith, within, le) in subst (NoMatchAt tree text) same vain
   ]
 
-  -- the next one behind an offset that was tried in vain
+  -- After a failed attempt, a search goes on from the next candidate, and less text is untried.
   pub walk-goes : (first at : ℕ) (next : Option ℕ) → GoesFrom tree text first at → NoMatchAt tree text at → NextStartSkipsNoMatch tree text (at + 1) next
       → Walks tree text first next × (untried text next < untried text (Some at))
   walk-goes first at None g vain n =

@@ -1,4 +1,5 @@
--- No match begins where the start predicate rejects the text, or after the text's start in an anchored tree.
+-- No match begins where the start predicate rejects the text, or after the text's start in an
+-- anchored tree.
 use Rattle.std.proofs.Common.{◌≡◌, ℕ, zero, suc, ◌+◌, ◌<◌, ◌≤◌, List, [], ◌∷◌, ◌++◌, length, map, flat_map, slice_get, Some, None, Bool, true, false, refl, ap, ap₂, sym}
 use Rattle.std.proofs.Common.{subst, arith}
 use Rattle.std.proofs.Common.{inl, inr}
@@ -36,7 +37,7 @@ no-boundary text (suc p) some within = go text.characters p within
     go (c ∷ cs) zero l = refl
     go (c ∷ cs) (suc i) l = go cs i (omega (arith, l))
 
--- an anchored node has no outcome behind the left end
+-- An anchored node has no outcome behind the start of the text.
 nothing-behind : (text : Text) (node : Node) → is_anchored node ≡ true → (p : ℕ) (groups : Groups) → 0 < p → p ≤ last_place text
     → outcomes text node rightwards p groups ≡ []
 unfolding outcomes
@@ -51,7 +52,7 @@ nothing-behind text (alt left right) h p groups some within =
 nothing-behind text _ h p groups some within = grind arith
 
 module _ (tree : Tree) (text : Text) (is : HasRisingPlaceOffsets text) where
-  -- what the predicate does not let through has no match
+  -- No match begins at a place that the start predicate rejects.
   pub ruled-out : IsTrue (is_well_formed tree.root) → IsTrue (list_all is_scalar text.characters) → (at p : ℕ) → place_at text at ≡ Some p → p ≤ last_place text
       → (IsTrue (may_start (start_predicate tree) text p) → ⊥) → NoMatchAt tree text at
   ruled-out w scalars at p e inside out = vain-at tree text is at p e (by (outcomes text tree.root rightwards p (no_groups tree.root)) refl)
@@ -60,7 +61,7 @@ module _ (tree : Tree) (text : Text) (is : HasRisingPlaceOffsets text) where
       by [] e = refl
       by (o ∷ os) e = absurd (out (predicate-holds tree w text p scalars inside (λ none. cc)))
 
-  -- an anchored tree has no match behind another offset
+  -- In an anchored tree, no match begins behind an offset.
   pub anchored-behind : is_anchored_tree tree ≡ true → (at : ℕ) → NextStartSkipsNoMatch tree text (at + 1) None
   anchored-behind anchored at = λ x on le less.
       let p = IsBoundary-place text x is on in
@@ -75,7 +76,7 @@ module _ (tree : Tree) (text : Text) (is : HasRisingPlaceOffsets text) where
       let nothing = nothing-behind text tree.root (and-right _ _ anchored) p.0 (no_groups tree.root) some p.3 in
       vain-at tree text is x p.0 p.1 (ap (first_outcome p.0) nothing)
 
-  -- nothing stands between an offset and one character on
+  -- No match is skipped between an offset and the one behind the next character.
   pub one-on : (at : ℕ) → IsBoundary text at → NextStartSkipsNoMatch tree text (at + 1) (option_map (λ (r : ℕ × ℕ). r.1) (read text rightwards at))
   one-on at on =
       let p = IsBoundary-place text at is on in
@@ -100,7 +101,7 @@ module _ (tree : Tree) (text : Text) (is : HasRisingPlaceOffsets text) where
             )
       ])
 
-  -- what is tried behind an offset in vain, where outcomes may stand at the left end alone
+  -- The offset after a failed attempt skips no match, in an anchored tree and in another one.
   pub tried-behind : (at : ℕ) (anchored : Bool) → (anchored ≡ true → NextStartSkipsNoMatch tree text (at + 1) None) → IsBoundary text at → NextStartSkipsNoMatch tree text (at + 1) (offset_after_failed_attempt anchored text at)
   tried-behind at true none on = none refl
   tried-behind at false none on = one-on at on

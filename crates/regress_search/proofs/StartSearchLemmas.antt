@@ -1,4 +1,5 @@
--- The start search finds the first boundary at which a table, or the required prefix, allows a match.
+-- The start search finds the first boundary at which a table, or the required prefix, allows a
+-- match.
 use Rattle.std.proofs.Common.{map, ◌≡◌, ℕ, zero, suc, ◌+◌, ◌-◌, ◌<◌, ◌≤◌, Bool, true, false, not, List, [], ◌∷◌, length, drop, take, get_or, Option}
 use Rattle.std.proofs.Common.{Some, None, refl, ap, sym, ◌∙◌, subst, arith, slice_get, le_refl}
 use Rattle.std.specs.Prelude.{option_map, slice_index, nat_lt, nat_le, nat_eq, ◌&&◌, ◌||◌}
@@ -10,7 +11,7 @@ use mathlib.Core.Logic.{inl, inr}
 use Rattle.regex_meaning.specs.NumberListHelpers.{contains}
 use Rattle.regex_meaning.specs.Text.{Text, rightwards}
 use Rattle.regex_meaning.specs.CodeUnitOffsets.{HasRisingPlaceOffsets, IsBoundary, units, read}
-use Rattle.regex_meaning.specs.CodeUnits.{Encoding, utf8, utf16, ucs2, text_units_in_encoding, IsSpelledIn}
+use Rattle.regex_meaning.specs.CodeUnits.{Encoding, utf8, utf16, ucs2, text_units_in_encoding, HasOffsetsInEncoding}
 use Rattle.regex_meaning.proofs.BoolLemmas.{and-left}
 use Rattle.regex_meaning.proofs.CodeUnitOffsetsLemmas.{place-less}
 use Rattle.regex_pattern_front.specs.FirstPassingIndex.{FindsFirstPassingIndex, is_member_byte_at_index}
@@ -29,10 +30,10 @@ use Rattle.regress_search.proofs.PrefixUnitLemmas.{own-key, fits-past, fits-behi
 use Rattle.regress_program.specs.declared.required_prefix_types.Prefix.{Prefix}
 use Rattle.regress_program.specs.PrefixesAndPrefilters.{units_allowed_by_prefix, prefix_allows_units_at, PrefixAllowsOnlyAsciiFirst}
 use Rattle.regress_search.proofs.AsciiUnitLemmas.{fit-boundary}
-use Rattle.regress_search.specs.StartSearch.{table_allows_unit_or_end_at, AllowsNone, IsFirstAllowedBoundary, IsFirstBoundaryWhere, AllowsOnlyLeadBytes, SkipsNoBoundary}
+use Rattle.regress_search.specs.StartSearch.{table_allows_unit_or_end_at, TableAllowsNoBoundary, IsFirstAllowedBoundary, IsFirstBoundaryWhere, AllowsOnlyLeadBytes, SkipsNoBoundary}
 use Rattle.regress_search.specs.StartSearch.{IsFirstByteSearchHit, table_of_listed_units, prefix_fits_at}
 
--- ---- Past a unit
+-- ---- Offsets behind a unit
 
 pub none-between : (text : Text) → HasRisingPlaceOffsets text → (at to : ℕ) → past text rightwards at ≡ Some to → (x : ℕ) → IsBoundary text x → at < x → x < to → ⊥
 none-between text is at to led x on more less = by (read text rightwards at) refl led
@@ -86,15 +87,15 @@ boundary-lead utf8 text has table leads at k there small allowed wide =
 boundary-lead utf16 text has table leads at k there small allowed wide = wide refl
 boundary-lead ucs2 text has table leads at k there small allowed wide = wide refl
 
--- ---- Unit by unit
+-- ---- Searches unit by unit
 
 module _ (w : SearchInput) (table : AllowedNextKeys) (from : ℕ) where
-  -- up to this offset the table allows nothing; where units are no bytes that is a boundary
+  -- The table allows nothing from `from` up to `at`, which is a boundary if units are no bytes.
   pub record Scans (at : ℕ) : Type 0 where
     pub passed : from ≤ at
     pub inside : at ≤ units w.text
     pub boundary : is_byte_encoding w.encoding ≡ false → IsBoundary w.text at
-    pub none : AllowsNone w table from at
+    pub none : TableAllowsNoBoundary w table from at
 
   pub scan-begins : HasRisingPlaceOffsets w.text → IsBoundary w.text from → Scans from
   scan-begins is on = record {
@@ -149,13 +150,13 @@ module _ (w : SearchInput) (table : AllowedNextKeys) (from : ℕ) where
       | inr after ↦ ap (table_allows_key_or_end table) (no-key w.encoding w.text has x (omega (arith, after, end))) ∙ sym asked ∙ fails
     ]
 
--- ---- A few units
+-- ---- Searches for a few units
 
 not-true : (b : Bool) → (b ≡ true → ⊥) → b ≡ false
 not-true true h = absurd (h refl)
 not-true false h = refl
 
--- three bytes that are looked for
+-- The first byte that is one of three is the first one that the list of three contains.
 pub found-three : (us bytes : List ℕ) (found : Option ℕ) → length us ≡ 3 → IsFirstByte (is_byte3 (get_or us 0 0) (get_or us 1 0) (get_or us 2 0)) bytes found
     → FindsFirstPassingIndex (is_member_byte_at_index us bytes) (length bytes) found
 found-three us bytes found sized f = by found f
@@ -183,7 +184,7 @@ found-three us bytes found sized f = by found f
           ∙ not-true (is_byte3 (get_or us 0 0) (get_or us 1 0) (get_or us 2 0) (slice_index bytes k)) (first.0.before k (omega arith) less);
     }
 
--- what passes a test that a few units pass
+-- If each listed unit passes a test, a unit in the list passes it.
 few-pass : (p : ℕ → Bool) (us : List ℕ) (len u : ℕ) → ((k : ℕ) → k < len → p (get_or us k 0) ≡ true) → contains (take len us) u ≡ true → p u ≡ true
 few-pass p us zero u each h = cc
 few-pass p [] (suc len) u each h = cc
@@ -193,14 +194,14 @@ few-pass p (x ∷ us) (suc len) u each h = by (nat_eq u x) refl (λ rest. few-pa
     by true e rest h = ap p (eqb-true u x e) ∙ each 0 (omega arith)
     by false e rest h = rest h
 
--- units that are below 128
+-- If each listed unit is below 128, a unit in the list is.
 pub low-listed : (us : List ℕ) (len u : ℕ) → ((k : ℕ) → k < len → get_or us k 0 < 128) → contains (take len us) u ≡ true → u < 128
 low-listed us len u low listed = ltb-true u 128 (few-pass (λ u. nat_lt u 128) us len u (λ k less. lt-ltb (get_or us k 0) 128 (low k less)) listed)
 
 pub few-leads : (us : List ℕ) (len : ℕ) (wide : Bool) → ((k : ℕ) → k < len → begins_utf8_character (get_or us k 0) ≡ true) → AllowsOnlyLeadBytes wide (table_of_listed_units us len)
 few-leads us len wide each single_unit k small allowed = few-pass begins_utf8_character us len k each allowed
 
--- units below 128 are bytes that begin characters
+-- A byte below 128 begins a character.
 low-lead : (k : ℕ) → k < 128 → begins_utf8_character k ≡ true
 low-lead k low = ap (λ (b : Bool). b || (nat_le 0xC2 k && nat_le k 0xF4)) (lt-ltb k 0x80 low)
 
@@ -217,7 +218,7 @@ byte-small utf8 text has bytes at k there = unit-fits utf8 text has at k (sym (o
 byte-small utf16 text has bytes at k there = cc
 byte-small ucs2 text has bytes at k there = cc
 
-byte-count : (e : Encoding) (text : Text) → is_byte_encoding e ≡ true → IsSpelledIn e text → units text ≡ length (bytes_of text)
+byte-count : (e : Encoding) (text : Text) → is_byte_encoding e ≡ true → HasOffsetsInEncoding e text → units text ≡ length (bytes_of text)
 byte-count utf8 text bytes spelled = units-length utf8 text spelled ∙ ap length (utf8-units text.characters)
 byte-count utf16 text bytes spelled = cc
 byte-count ucs2 text bytes spelled = cc
@@ -227,12 +228,12 @@ single_unit-bytes utf8 single_unit = refl
 single_unit-bytes utf16 single_unit = cc
 single_unit-bytes ucs2 single_unit = cc
 
--- where bytes are read, units are bytes
+-- If the bytes of a text are given, its units are bytes.
 pub bytes-there : (are_bytes : Bool) (text : Text) (all : List ℕ) → Some all ≡ bytes_if_byte_units are_bytes text → are_bytes ≡ true
 bytes-there true text all e = refl
 bytes-there false text all e = cc
 
--- what was found from a position on
+-- The first occurrence in an equal text, from an equal position, is the hit of the search.
 pub found-in : {are_bytes : Bool} {text : Text} {pos : ℕ} {found : Option ℕ} (w : SearchInput) (stands_at : List ℕ → ℕ → Bool) (from : ℕ) (there : Option ℕ)
     → are_bytes ≡ is_byte_encoding w.encoding → text ≡ w.text → pos ≡ from → found ≡ there → IsFirstOccurrenceFrom are_bytes stands_at (bytes_of text) pos found → IsFirstByteSearchHit w stands_at from there
 found-in {are_bytes = are_bytes} {text = text} {pos = pos} w stands_at from there bytes is at same found =
@@ -241,7 +242,7 @@ found-in {are_bytes = are_bytes} {text = text} {pos = pos} w stands_at from ther
     (subst (λ n. IsFirstOccurrenceFrom are_bytes stands_at (bytes_of text) n there) at
     (subst (λ o. IsFirstOccurrenceFrom are_bytes stands_at (bytes_of text) pos o) same found)))
 
--- the first of a few units, found in bytes
+-- The first byte of a few units is the first boundary that their table allows.
 pub few-found : (w : SearchInput) → HasUnitsForTables w.encoding w.text → (us : List ℕ) (len from : ℕ) → is_byte_encoding w.encoding ≡ true → AllowsOnlyLeadBytes (is_16_bit_encoding w.encoding) (table_of_listed_units us len)
     → from ≤ units w.text → (found : Option ℕ) → IsFirstOccurrenceFrom true (λ bytes. is_member_byte_at_index (take len us) bytes) (bytes_of w.text) from found
     → IsFirstAllowedBoundary w (table_of_listed_units us len) from found
@@ -262,7 +263,7 @@ few-found w has us len from bytes leads inside found f = by f.0 f.1 found f.2
     test : ℕ → Bool
     test i = is_member_byte_at_index (take len us) (drop from all) i
 
-    -- what the test says of an offset
+    -- The test at an index asks whether the byte at that offset is among the units.
     tested : (i : ℕ) → test i ≡ contains (take len us) (get_or all (from + i) 0)
     tested i = ap (contains (take len us)) (get_or-drop from all i 0)
 
@@ -296,9 +297,9 @@ few-found w has us len from bytes leads inside found f = by f.0 f.1 found f.2
           λ x on le before. excluded x le (omega (arith, before, less)) (first.none_before (x - from) (omega (arith, le, before, there))),
         )
 
--- ---- The first units of a match
+-- ---- Searches for a prefix
 
--- the first place at which they fit, found in bytes
+-- The first index at which the prefix fits in bytes is the first boundary where it fits.
 pub fitting-found : (w : SearchInput) → HasUnitsForTables w.encoding w.text → (prefix : Prefix) → is_16_bit_encoding w.encoding ≡ false → 0 < prefix.len → PrefixAllowsOnlyAsciiFirst prefix → (from : ℕ)
     → (found : Option ℕ) → IsFirstByteSearchHit w (λ bytes index. prefix_allows_units_at (units_allowed_by_prefix prefix) bytes index prefix.len) from found
     → IsFirstBoundaryWhere w (prefix_fits_at w prefix) from found

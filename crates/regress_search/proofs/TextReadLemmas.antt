@@ -17,7 +17,7 @@ use Rattle.regress_input.specs.CharAndByteReadsFromOffset.{end_if_matched, past_
 use Rattle.regress_input.proofs.TextSlices.{take-slice, past_bytes-right, right-past_bytes, past_bytes-left, left-past_bytes}
 use Rattle.regress_machine.specs.TextsForBytePrograms.{HasUtf8CharactersAndOffsets}
 use Rattle.regress_machine.specs.Machine as machine
-use Rattle.regress_machine.specs.Machine.{Next, running, goes, with_some, go, go_if, next_insn_at_place, state_at_next_ip, read_one, stay_if, has_bytes, moved_by}
+use Rattle.regress_machine.specs.Machine.{Next, running, goes, with_some, go, go_if, next_insn_at_place, state_at_next_ip, read_one, stay_if, occurs_beside_offset, offset_moved_in_direction}
 use Rattle.regress_machine.specs.Machine.{read_bytes, backref_read, read_group}
 use Rattle.regress_machine.proofs.NearestCharacterLemmas.{moved-zero}
 use Rattle.regress_machine.proofs.AdjacentCharacterLemmas.{stands, stands-length}
@@ -26,7 +26,7 @@ use Rattle.regress_machine.proofs.InsnsNotStuck.{by-some, can-some, can-then}
 use Rattle.regress_machine.specs.InsnEffects.{IsNotStuck}
 use Rattle.regex_meaning.proofs.BoolLemmas.{same-truth, and-left, and-right}
 
--- ---- Places
+-- ---- Places of a text
 
 module _ (text : Text) (is : HasRisingPlaceOffsets text) where
   stay_where : (holds : ℕ → Bool) (s : machine.State) (p : ℕ) → place_at text s.pos ≡ Some p → go_if (holds p) (state_at_next_ip s) ≡ stay_if text holds s
@@ -94,13 +94,13 @@ module _ (text : Text) (is : HasRisingPlaceOffsets text) where
       let beside : Some c ≡ next_character text d p.0 = ap (option_map (λ (r : ℕ × ℕ). r.0)) e ∙ character-beside d at p.0 p.1 in
       next-scalar reads d p.0 c (sym beside)
 
-  -- ---- Groups once more
+  -- ---- Characters of a group
 
   none-beside : (d : Direction) (p : ℕ) → next_characters text d 0 p ≡ []
   none-beside rightwards p = let e : p + 0 - p ≡ 0 = omega arith in ap (λ n. take n (drop p text.characters)) e
   none-beside leftwards p = let e : p - (p - 0) ≡ 0 = omega arith in ap (λ n. take n (drop (p - 0) text.characters)) e
 
-  -- no characters stand anywhere
+  -- An empty sequence of characters stands at each boundary and ends there.
   pub nothing-again : (same : ℕ → ℕ → Bool) (cs : List ℕ) (d : Direction) (at : ℕ) → IsBoundary text at → cs ≡ [] → Some at ≡ past_spelled_if_next text same cs d at
   nothing-again same cs d at on none =
       let p = IsBoundary-place text at is on in
@@ -155,15 +155,15 @@ three-differ false true false = refl
 three-differ false false true = refl
 three-differ false false false = refl
 
--- ---- Bytes
+-- ---- Literal bytes
 
 found-true : (found : Bool) (x y : ℕ) → end_if_matched found x ≡ Some y → found ≡ true
 found-true true x y e = refl
 found-true false x y e = cc
 
--- bytes stand where they are found, and the offset behind them is the machine's
+-- Bytes are found exactly where the text has them, and the offset behind them is the machine's.
 literal-found : (all bytes : List ℕ) (d : Direction) (at : ℕ) (found : Bool) (to : ℕ) → at ≤ length all → end_if_matched found to ≡ past_numbers_if_next all bytes d at
-    → (found ≡ has_bytes all d bytes at) × (found ≡ true → to ≡ moved_by d (length bytes) at)
+    → (found ≡ occurs_beside_offset all d bytes at) × (found ≡ true → to ≡ offset_moved_in_direction d (length bytes) at)
 literal-found all bytes rightwards at found to inside led = (
   same-truth found (starts_with nat_eq (drop at all) bytes)
       (λ f.
@@ -215,9 +215,9 @@ pub literal-read : (text : Text) (bytes : List ℕ) (d : Direction) (s : machine
     → go_if found (record s { ip = s.ip + 1; pos = to }) ≡ read_bytes text bytes d s
 literal-read text bytes d s found to inside led =
     let l = literal-found (encode_utf8_all text.characters) bytes d s.pos found to inside led in
-    by found refl l.1 ∙ ap (λ b. go_if b (record s { ip = s.ip + 1; pos = moved_by d (length bytes) s.pos })) l.0
+    by found refl l.1 ∙ ap (λ b. go_if b (record s { ip = s.ip + 1; pos = offset_moved_in_direction d (length bytes) s.pos })) l.0
   where
-    by : (b : Bool) → found ≡ b → (found ≡ true → to ≡ moved_by d (length bytes) s.pos)
-        → go_if found (record s { ip = s.ip + 1; pos = to }) ≡ go_if found (record s { ip = s.ip + 1; pos = moved_by d (length bytes) s.pos })
+    by : (b : Bool) → found ≡ b → (found ≡ true → to ≡ offset_moved_in_direction d (length bytes) s.pos)
+        → go_if found (record s { ip = s.ip + 1; pos = to }) ≡ go_if found (record s { ip = s.ip + 1; pos = offset_moved_in_direction d (length bytes) s.pos })
     by true e at = ap (λ p. go_if found (record s { ip = s.ip + 1; pos = p })) (at e)
-    by false e at = ap (λ b. go_if b (record s { ip = s.ip + 1; pos = to })) e ∙ sym (ap (λ b. go_if b (record s { ip = s.ip + 1; pos = moved_by d (length bytes) s.pos })) e)
+    by false e at = ap (λ b. go_if b (record s { ip = s.ip + 1; pos = to })) e ∙ sym (ap (λ b. go_if b (record s { ip = s.ip + 1; pos = offset_moved_in_direction d (length bytes) s.pos })) e)

@@ -1,5 +1,7 @@
 -- Tests of 16-bit units, many at a time, find the first unit at which a scan may end.
-use Rattle.std.proofs.Common.{◌≡◌, ℕ, zero, suc, ◌+◌, ◌-◌, ◌*◌, ◌/◌, ◌<◌, ◌≤◌, ◌==◌, ◌&&◌, ◌||◌, Bool, true, false, not, List, [], ◌∷◌, length, take, get_or, Option, Some, None, refl, ap, ap₂, sym, ◌∙◌, subst, arith, slice_get, slice_index_or, nat_eq}
+use Rattle.std.proofs.Common.{◌≡◌, ℕ, zero, suc, ◌+◌, ◌-◌, ◌*◌, ◌/◌, ◌<◌, ◌≤◌, ◌==◌, ◌&&◌, ◌||◌, Bool, true, false, not}
+use Rattle.std.proofs.Common.{List, [], ◌∷◌, length, take, get_or, Option, Some, None, refl, ap, ap₂, sym, ◌∙◌, subst}
+use Rattle.std.proofs.Common.{arith, slice_get, slice_index_or, nat_eq}
 use Rattle.std.specs.Prelude.{if◌then◌else◌, bit_and}
 use Rattle.std.proofs.lemmas.Bool.{eqb-true, eq-eqb, ne_eqb, cases_lt, cases_eq, lt-ltb, le-ltb, or_from, not_from_false}
 use Rattle.std.proofs.lemmas.Nat.Bits.{and_high_mask}
@@ -21,9 +23,9 @@ use Rattle.regress_program.specs.declared.char_class_tables.Class.{Class}
 use Rattle.regress_program.specs.declared.char_class_tables.LeadBytesWhereScanMayStop.{LeadBytesWhereScanMayStop}
 use Rattle.regress_program.specs.ClassReadLengths.{StopBytesCoverPossibleEnds, is_stop, may_end_at}
 use Rattle.regress_program.specs.TableKeysOfUnits.{key, is_16_bit_encoding, may_begin_surrogate_pair}
-use Rattle.regress_search.specs.CharLoopExits.{ClassFitsText, AcceptsTo}
-use Rattle.regress_search.specs.MarkedOffsets.{NonePasses, IsFirstPassing, MarksAllPassing}
-use Rattle.regress_search.specs.ReadsAtOffset.{unit_in}
+use Rattle.regress_search.specs.CharLoopExits.{ClassFitsText, ClassAcceptsAllCharsTo}
+use Rattle.regress_search.specs.MarkedOffsets.{TestFailsThroughoutRange, IsFirstPassingOffset, MarksAllPassing}
+use Rattle.regress_search.specs.ReadsAtOffset.{input_unit_at}
 use Rattle.regress_search.specs.StartSearch.{NoBoundaryWhere, IsFirstAllowedBoundary, AllowsOnlyLeadBytes, table_of_listed_units, table_allows_unit_or_end_at}
 use Rattle.regress_search.specs.TreePlanAndText.{SearchInput}
 use Rattle.regress_search.specs.UnitRuns.{IsKeyTestAt}
@@ -44,7 +46,7 @@ unit-wide utf8 is = cc
 unit-wide utf16 is = refl
 unit-wide ucs2 is = refl
 
--- a key of a list is at some place in it
+-- A key that a list contains is at some index of the list.
 pub listed-at : (xs : List ℕ) (n k : ℕ) → contains (take n xs) k ≡ true → (i : ℕ) × (i < n) × (get_or xs i 0 ≡ k)
 listed-at xs zero k has = cc
 listed-at [] (suc n) k has = cc
@@ -72,7 +74,7 @@ one-unless false true stop ends p s = refl
 one-unless false false stop ends p s = let never : true ≡ false = sym (ends refl) ∙ s in cc
 
 module _ (wide : Bool) (is_wide : wide ≡ true) (steps : List ℕ) (stops : LeadBytesWhereScanMayStop) (told : StopBytesCoverPossibleEnds wide steps stops) where
-  -- the key that bits do not tell is none of the stop set
+  -- The stop set does not contain the key 128.
   pub stops-not128 : contains (take stops.len stops.bytes) 128 ≡ false
   stops-not128 = not-true (contains (take stops.len stops.bytes) 128) (λ has.
       let one = listed-at stops.bytes stops.len 128 has in
@@ -80,7 +82,7 @@ module _ (wide : Bool) (is_wide : wide ≡ true) (steps : List ℕ) (stops : Lea
       let never : true ≡ false = sym ends ∙ told.told is_wide in
       cc)
 
-  -- a unit of any other key is a character of its own, unless it may begin a pair
+  -- A key that is no stop and may not begin a pair has the step one.
   pub one-beside : (k : ℕ) → k < 256 → (may_begin_surrogate_pair k || contains (take stops.len stops.bytes) k) ≡ false → (slice_index_or steps k 0 == 1) ≡ true
   one-beside k small out =
       let both = neither (may_begin_surrogate_pair k) (contains (take stops.len stops.bytes) k) out in
@@ -101,13 +103,13 @@ module _ (w : SearchInput) (has : HasUnitsForTables w.encoding w.text) (wide : i
       ∙ sym (ap (λ o. is_some_and o (λ unit. (true && may_begin_surrogate_pair (key true unit)) || contains (take stops.len stops.bytes) (key true unit))) there) ∙ out in
       (k, ap (option_map (key (is_16_bit_encoding w.encoding))) there, small, one-beside (is_16_bit_encoding w.encoding) wide class.steps stops told k small beside)
 
-  pub accepts-until : (from to : ℕ) → IsBoundary w.text from → from ≤ to → to ≤ units w.text → NonePasses (unit_has_listed_key true stops.bytes stops.len w) from to → AcceptsTo w class from to
+  pub accepts-until : (from to : ℕ) → IsBoundary w.text from → from ≤ to → to ≤ units w.text → TestFailsThroughoutRange (unit_has_listed_key true stops.bytes stops.len w) from to → ClassAcceptsAllCharsTo w class from to
   accepts-until from to on le inside none =
       let whole : from + (to - from) ≡ to = omega (arith, le) in
-      subst (AcceptsTo w class from) whole
+      subst (ClassAcceptsAllCharsTo w class from) whole
       (accepts-run w has class readable from on (to - from) (λ i less. one-there (from + i) (omega (arith, less, inside)) (none (from + i) (omega arith) (omega (arith, less)))))
 
--- ---- Keys
+-- ---- Keys of 16-bit units
 
 key-low : (unit : ℕ) → unit < 128 → key true unit ≡ unit
 key-low unit low = ap (λ (b : Bool). if b then unit else 128 + unit / 512) (lt-ltb unit 128 low)
@@ -115,15 +117,15 @@ key-low unit low = ap (λ (b : Bool). if b then unit else 128 + unit / 512) (lt-
 key-high : (unit : ℕ) → 128 ≤ unit → key true unit ≡ 128 + unit / 512
 key-high unit high = ap (λ (b : Bool). if b then unit else 128 + unit / 512) (le-ltb unit 128 high)
 
--- ---- Keys that bits tell
+-- ---- Keys that bits identify
 
--- past the units stands the end
+-- Past the last unit, the table allows what it allows at the end.
 pub past-allowed : (w : SearchInput) → HasUnitsForTables w.encoding w.text → (table : AllowedNextKeys) (at : ℕ) → units w.text ≤ at → table_allows_unit_or_end_at w table at ≡ table.end
 past-allowed w has table at past =
     ap (λ o. table_allows_key_or_end table (option_map (key (is_16_bit_encoding w.encoding)) o))
     (slice_get_past (text_units_in_encoding w.encoding w.text) at (omega (arith, past, units-length w.encoding w.text has.spelled)))
 
--- each key of a list has what all have
+-- If all keys of a list pass a test, a key in the list passes it.
 pub all-listed : (p : ℕ → Bool) (xs : List ℕ) (n k : ℕ) → list_all p xs ≡ true → contains (take n xs) k ≡ true → p k ≡ true
 all-listed p xs zero k all has = cc
 all-listed p [] (suc n) k all has = cc
@@ -141,7 +143,7 @@ listed-told keys len all = not-true (contains (take len keys) 128) (λ has.
 pub wide-leads : (e : Encoding) → is_16_bit_encoding e ≡ true → (keys : List ℕ) (len : ℕ) → AllowsOnlyLeadBytes (is_16_bit_encoding e) (table_of_listed_units keys len)
 wide-leads e wide keys len narrow = let never : true ≡ false = sym wide ∙ narrow in cc
 
--- bits tell a unit below 128
+-- Bits identify each key below 128.
 pub low-told : (k : ℕ) → k < 128 → bits_identify_key k ≡ true
 low-told k low =
     not_from_false (k == 128 || k == 238 || k == 239)
@@ -149,7 +151,7 @@ low-told k low =
     (or_from (k == 128) (k == 238) (ne_eqb k 128 (λ same. omega (arith, low, same))) (ne_eqb k 238 (λ same. omega (arith, low, same))))
     (ne_eqb k 239 (λ same. omega (arith, low, same))))
 
--- a unit with such a key ends no pair
+-- A unit whose key is identified by bits is not the second one of a pair.
 ends-no-pair : (unit : ℕ) → bits_identify_key (key true unit) ≡ true → EndsNoPair unit
 ends-no-pair unit told = elim (cases_lt unit 0xDC00) [
   | inl less ↦ inl less
@@ -183,7 +185,7 @@ module _ (w : SearchInput) (has : HasUnitsForTables w.encoding w.text) (wide : i
       by None = refl
       by (Some u) = ap (λ b. contains (take len keys) (key b u)) wide
 
-  none-before : (from to : ℕ) → to ≤ units w.text → NonePasses (unit_has_listed_key false keys len w) from to → NoBoundaryWhere w (λ at. table_allows_unit_or_end_at w table at) from to
+  none-before : (from to : ℕ) → to ≤ units w.text → TestFailsThroughoutRange (unit_has_listed_key false keys len w) from to → NoBoundaryWhere w (λ at. table_allows_unit_or_end_at w table at) from to
   none-before from to inside none at on le less = same-test at ∙ none at le less
 
   hit-boundary : (at : ℕ) → unit_has_listed_key false keys len w at ≡ true → IsBoundary w.text at
@@ -194,7 +196,7 @@ module _ (w : SearchInput) (has : HasUnitsForTables w.encoding w.text) (wide : i
       by None there h = cc
       by (Some u) there h = beside-boundary w.encoding wide w.text has at u there (ends-no-pair u (told (key true u) h))
 
-  pub wide-found : (from : ℕ) (found : Option ℕ) → IsFirstPassing (unit_has_listed_key false keys len w) from (units w.text) found → IsFirstAllowedBoundary w table from found
+  pub wide-found : (from : ℕ) (found : Option ℕ) → IsFirstPassingOffset (unit_has_listed_key false keys len w) from (units w.text) found → IsFirstAllowedBoundary w table from found
   wide-found from None none = λ at on le less. elim (cases_lt at (units w.text)) [
     | inl inside ↦ same-test at ∙ none at le inside
     | inr past ↦ past-allowed w has table at past
@@ -228,9 +230,9 @@ pair-told unit small =
 
 -- ---- Tests of units
 
--- a unit of a kind
+-- `is_of_kind` says whether the unit at an offset has the given bits under the mask.
 abbrev pub is_of_kind : (mask bits : ℕ) → SearchInput → (at : ℕ) → Bool
-is_of_kind mask bits w at = is_some_and (unit_in w at) (has_bits mask bits)
+is_of_kind mask bits w at = is_some_and (input_unit_at w at) (has_bits mask bits)
 
 pub bits-mark : (w : SearchInput) → HasUnitsForTables w.encoding w.text → (mask bits at marks : ℕ) → at + 32 ≤ units w.text
     → MarksUnitsWithBits (text_units_in_encoding w.encoding w.text) at mask bits marks → MarksAllPassing (is_of_kind mask bits w) at marks
@@ -255,7 +257,7 @@ take-none : (n k : ℕ) → contains (take n []) k ≡ false
 take-none zero k = refl
 take-none (suc n) k = refl
 
--- the first of three keys
+-- The first key alone is contained exactly if the key equals it.
 listed-one : (keys : List ℕ) (k : ℕ) → length keys ≡ 3 → contains (take 1 keys) k ≡ (k == get_or keys 0 0)
 listed-one [] k three = absurd (omega (arith, three))
 listed-one (x ∷ xs) k three = sym (or-none (k == x))
@@ -292,45 +294,45 @@ module _ (w : SearchInput) (has : HasUnitsForTables w.encoding w.text) (wide : i
   has_kind kind = has_bits kind.mask kind.bits
 
   abbrev at_kind : UnitBits → ℕ → Bool
-  at_kind kind at = is_some_and (unit_in w at) (has_kind kind)
+  at_kind kind at = is_some_and (input_unit_at w at) (has_kind kind)
 
-  -- tests that agree for each unit of 16 bits find the same
-  first-agree : (pairs : Bool) (test asks : ℕ → Bool) (len from end : ℕ) (found : Option ℕ) → end ≡ units w.text → ((at : ℕ) → test at ≡ is_some_and (unit_in w at) asks)
+  -- Tests that agree with the listed keys on each 16-bit unit find the same first offset.
+  first-agree : (pairs : Bool) (test asks : ℕ → Bool) (len from end : ℕ) (found : Option ℕ) → end ≡ units w.text → ((at : ℕ) → test at ≡ is_some_and (input_unit_at w at) asks)
       → ((unit : ℕ) → unit < 0x1_0000 → asks unit ≡ ((pairs && may_begin_surrogate_pair (key true unit)) || contains (take len keys) (key true unit)))
-      → IsFirstPassing test from end found → IsFirstPassing (unit_has_listed_key pairs keys len w) from (units w.text) found
+      → IsFirstPassingOffset test from end found → IsFirstPassingOffset (unit_has_listed_key pairs keys len w) from (units w.text) found
   first-agree pairs test asks len from end found ends is same first =
-      first-same test (unit_has_listed_key pairs keys len w) from (units w.text) found (λ at less. is at ∙ by at (unit_in w at) refl)
-      (subst (λ to. IsFirstPassing test from to found) ends first)
+      first-same test (unit_has_listed_key pairs keys len w) from (units w.text) found (λ at less. is at ∙ by at (input_unit_at w at) refl)
+      (subst (λ to. IsFirstPassingOffset test from to found) ends first)
     where
-      by : (at : ℕ) (o : Option ℕ) → unit_in w at ≡ o
+      by : (at : ℕ) (o : Option ℕ) → input_unit_at w at ≡ o
           → is_some_and o asks ≡ is_some_and o (λ unit. (pairs && may_begin_surrogate_pair (key true unit)) || contains (take len keys) (key true unit))
       by at None there = refl
       by at (Some u) there = same u (subst (λ b. u < (if b then 0x1_0000 else 0x100)) wide (unit-fits w.encoding w.text has at u there))
 
   module _ (from end : ℕ) (found : Option ℕ) (ends : end ≡ units w.text) where
-    pub first-one : (a : UnitBits) → contains (take 1 keys) 128 ≡ false → Tells a 0 → IsFirstPassing (at_kind a) from end found
-        → IsFirstPassing (unit_has_listed_key false keys 1 w) from (units w.text) found
+    pub first-one : (a : UnitBits) → contains (take 1 keys) 128 ≡ false → Tells a 0 → IsFirstPassingOffset (at_kind a) from end found
+        → IsFirstPassingOffset (unit_has_listed_key false keys 1 w) from (units w.text) found
     first-one a out tells =
         let a128 = not128 (get_or keys 0 0) (sym (listed-one keys 128 three) ∙ out) in
         first-agree false (at_kind a) (has_kind a) 1 from end found ends (λ at. refl)
         (λ unit small. tells a128 unit small ∙ sym (listed-one keys (key true unit) three))
 
-    pub first-two : (a b : UnitBits) → contains (take 2 keys) 128 ≡ false → Tells a 0 → Tells b 1 → IsFirstPassing (λ at. at_kind a at || at_kind b at) from end found
-        → IsFirstPassing (unit_has_listed_key false keys 2 w) from (units w.text) found
+    pub first-two : (a b : UnitBits) → contains (take 2 keys) 128 ≡ false → Tells a 0 → Tells b 1 → IsFirstPassingOffset (λ at. at_kind a at || at_kind b at) from end found
+        → IsFirstPassingOffset (unit_has_listed_key false keys 2 w) from (units w.text) found
     first-two a b out tells_a tells_b =
         let outs = neither (128 == get_or keys 0 0) (128 == get_or keys 1 0) (sym (listed-two keys 128 three) ∙ out) in
         first-agree false (λ at. at_kind a at || at_kind b at) (λ u. has_kind a u || has_kind b u) 2 from end found ends
-        (λ at. either-of (unit_in w at) (has_kind a) (has_kind b))
+        (λ at. either-of (input_unit_at w at) (has_kind a) (has_kind b))
         (λ unit small. (λ i. tells_a (not128 (get_or keys 0 0) outs.0) unit small i || tells_b (not128 (get_or keys 1 0) outs.1) unit small i)
         ∙ sym (listed-two keys (key true unit) three))
 
     pub first-three : (len : ℕ) → 3 ≤ len → (a b c : UnitBits) → contains (take len keys) 128 ≡ false → Tells a 0 → Tells b 1 → Tells c 2
-        → IsFirstPassing (λ at. (at_kind a at || at_kind b at) || at_kind c at) from end found → IsFirstPassing (unit_has_listed_key false keys len w) from (units w.text) found
+        → IsFirstPassingOffset (λ at. (at_kind a at || at_kind b at) || at_kind c at) from end found → IsFirstPassingOffset (unit_has_listed_key false keys len w) from (units w.text) found
     first-three len most a b c out tells_a tells_b tells_c =
         let outs = neither (128 == get_or keys 0 0) (128 == get_or keys 1 0 || 128 == get_or keys 2 0) (sym (listed-three keys len 128 three most) ∙ out) in
         let last = neither (128 == get_or keys 1 0) (128 == get_or keys 2 0) outs.1 in
         first-agree false (λ at. (at_kind a at || at_kind b at) || at_kind c at) (λ u. (has_kind a u || has_kind b u) || has_kind c u) len from end found ends
-        (λ at. ap (λ x. x || at_kind c at) (either-of (unit_in w at) (has_kind a) (has_kind b)) ∙ either-of (unit_in w at) (λ u. has_kind a u || has_kind b u) (has_kind c))
+        (λ at. ap (λ x. x || at_kind c at) (either-of (input_unit_at w at) (has_kind a) (has_kind b)) ∙ either-of (input_unit_at w at) (λ u. has_kind a u || has_kind b u) (has_kind c))
         (λ unit small. (λ i. (tells_a (not128 (get_or keys 0 0) outs.0) unit small i || tells_b (not128 (get_or keys 1 0) last.0) unit small i) || tells_c (not128 (get_or keys 2 0) last.1) unit small i)
         ∙ or-assoc (key true unit == get_or keys 0 0) (key true unit == get_or keys 1 0) (key true unit == get_or keys 2 0)
         ∙ sym (listed-three keys len (key true unit) three most))
@@ -341,39 +343,39 @@ module _ (w : SearchInput) (has : HasUnitsForTables w.encoding w.text) (wide : i
     has_pair = has_bits 0xFC00 0xD800
 
     abbrev at_pair : ℕ → Bool
-    at_pair at = is_some_and (unit_in w at) has_pair
+    at_pair at = is_some_and (input_unit_at w at) has_pair
 
-    pub pair-none : IsFirstPassing at_pair from end found → IsFirstPassing (unit_has_listed_key true keys 0 w) from (units w.text) found
+    pub pair-none : IsFirstPassingOffset at_pair from end found → IsFirstPassingOffset (unit_has_listed_key true keys 0 w) from (units w.text) found
     pair-none =
         first-agree true at_pair has_pair 0 from end found ends (λ at. refl)
         (λ unit small. pair-told unit small ∙ or-none (may_begin_surrogate_pair (key true unit)))
 
-    pub pair-one : (a : UnitBits) → contains (take 1 keys) 128 ≡ false → Tells a 0 → IsFirstPassing (λ at. at_pair at || at_kind a at) from end found
-        → IsFirstPassing (unit_has_listed_key true keys 1 w) from (units w.text) found
+    pub pair-one : (a : UnitBits) → contains (take 1 keys) 128 ≡ false → Tells a 0 → IsFirstPassingOffset (λ at. at_pair at || at_kind a at) from end found
+        → IsFirstPassingOffset (unit_has_listed_key true keys 1 w) from (units w.text) found
     pair-one a out tells =
         let a128 = not128 (get_or keys 0 0) (sym (listed-one keys 128 three) ∙ out) in
-        first-agree true (λ at. at_pair at || at_kind a at) (λ u. has_pair u || has_kind a u) 1 from end found ends (λ at. either-of (unit_in w at) has_pair (has_kind a))
+        first-agree true (λ at. at_pair at || at_kind a at) (λ u. has_pair u || has_kind a u) 1 from end found ends (λ at. either-of (input_unit_at w at) has_pair (has_kind a))
         (λ unit small. (λ i. pair-told unit small i || (tells a128 unit small ∙ sym (listed-one keys (key true unit) three)) i))
 
-    pub pair-two : (a b : UnitBits) → contains (take 2 keys) 128 ≡ false → Tells a 0 → Tells b 1 → IsFirstPassing (λ at. (at_pair at || at_kind a at) || at_kind b at) from end found
-        → IsFirstPassing (unit_has_listed_key true keys 2 w) from (units w.text) found
+    pub pair-two : (a b : UnitBits) → contains (take 2 keys) 128 ≡ false → Tells a 0 → Tells b 1 → IsFirstPassingOffset (λ at. (at_pair at || at_kind a at) || at_kind b at) from end found
+        → IsFirstPassingOffset (unit_has_listed_key true keys 2 w) from (units w.text) found
     pair-two a b out tells_a tells_b =
         let outs = neither (128 == get_or keys 0 0) (128 == get_or keys 1 0) (sym (listed-two keys 128 three) ∙ out) in
         first-agree true (λ at. (at_pair at || at_kind a at) || at_kind b at) (λ u. (has_pair u || has_kind a u) || has_kind b u) 2 from end found ends
-        (λ at. ap (λ x. x || at_kind b at) (either-of (unit_in w at) has_pair (has_kind a)) ∙ either-of (unit_in w at) (λ u. has_pair u || has_kind a u) (has_kind b))
+        (λ at. ap (λ x. x || at_kind b at) (either-of (input_unit_at w at) has_pair (has_kind a)) ∙ either-of (input_unit_at w at) (λ u. has_pair u || has_kind a u) (has_kind b))
         (λ unit small. (λ i. (pair-told unit small i || tells_a (not128 (get_or keys 0 0) outs.0) unit small i) || tells_b (not128 (get_or keys 1 0) outs.1) unit small i)
         ∙ or-assoc (may_begin_surrogate_pair (key true unit)) (key true unit == get_or keys 0 0) (key true unit == get_or keys 1 0)
         ∙ ap (λ x. may_begin_surrogate_pair (key true unit) || x) (sym (listed-two keys (key true unit) three)))
 
     pub pair-three : (len : ℕ) → 3 ≤ len → (a b c : UnitBits) → contains (take len keys) 128 ≡ false → Tells a 0 → Tells b 1 → Tells c 2
-        → IsFirstPassing (λ at. ((at_pair at || at_kind a at) || at_kind b at) || at_kind c at) from end found → IsFirstPassing (unit_has_listed_key true keys len w) from (units w.text) found
+        → IsFirstPassingOffset (λ at. ((at_pair at || at_kind a at) || at_kind b at) || at_kind c at) from end found → IsFirstPassingOffset (unit_has_listed_key true keys len w) from (units w.text) found
     pair-three len most a b c out tells_a tells_b tells_c =
         let outs = neither (128 == get_or keys 0 0) (128 == get_or keys 1 0 || 128 == get_or keys 2 0) (sym (listed-three keys len 128 three most) ∙ out) in
         let last = neither (128 == get_or keys 1 0) (128 == get_or keys 2 0) outs.1 in
         first-agree true (λ at. ((at_pair at || at_kind a at) || at_kind b at) || at_kind c at) (λ u. ((has_pair u || has_kind a u) || has_kind b u) || has_kind c u) len from end found ends
-        (λ at. ap (λ x. (x || at_kind b at) || at_kind c at) (either-of (unit_in w at) has_pair (has_kind a))
-        ∙ ap (λ x. x || at_kind c at) (either-of (unit_in w at) (λ u. has_pair u || has_kind a u) (has_kind b))
-        ∙ either-of (unit_in w at) (λ u. (has_pair u || has_kind a u) || has_kind b u) (has_kind c))
+        (λ at. ap (λ x. (x || at_kind b at) || at_kind c at) (either-of (input_unit_at w at) has_pair (has_kind a))
+        ∙ ap (λ x. x || at_kind c at) (either-of (input_unit_at w at) (λ u. has_pair u || has_kind a u) (has_kind b))
+        ∙ either-of (input_unit_at w at) (λ u. (has_pair u || has_kind a u) || has_kind b u) (has_kind c))
         (λ unit small. (λ i. ((pair-told unit small i || tells_a (not128 (get_or keys 0 0) outs.0) unit small i) || tells_b (not128 (get_or keys 1 0) last.0) unit small i) || tells_c (not128 (get_or keys 2 0) last.1) unit small i)
         ∙ or-assoc (may_begin_surrogate_pair (key true unit) || key true unit == get_or keys 0 0) (key true unit == get_or keys 1 0) (key true unit == get_or keys 2 0)
         ∙ or-assoc (may_begin_surrogate_pair (key true unit)) (key true unit == get_or keys 0 0) (key true unit == get_or keys 1 0 || key true unit == get_or keys 2 0)

@@ -1,4 +1,5 @@
--- Between two word characters there is no word boundary, so no match begins there that begins with one.
+-- Between two word characters there is no word boundary, so no match that begins with a word
+-- boundary begins there.
 use Rattle.std.proofs.Common.{◌≡◌, ℕ, zero, suc, ◌+◌, ◌-◌, ◌<◌, ◌≤◌, Bool, true, false, not, ◌&&◌, ◌||◌, length, Option, Some, None, refl, ap, ap₂, sym, ◌∙◌, subst, arith, slice_get}
 use Rattle.std.specs.Prelude.{option_map, ◌==◌, nat_lt, if◌then◌else◌}
 use Rattle.std.proofs.lemmas.Bool.{cases_lt, lt-ltb, eqb-true}
@@ -8,7 +9,7 @@ use Rattle.regex_meaning.specs.Text.{Text, rightwards, last_place, is_word_char,
 use Rattle.std.specs.Int.{is_in_range}
 use Rattle.regex_meaning.proofs.FirstByteOfCharacter.{true-in_range}
 use Rattle.regex_meaning.specs.CodeUnitOffsets.{HasRisingPlaceOffsets, IsBoundary, offset, place_at}
-use Rattle.regex_meaning.specs.CodeUnits.{Encoding, utf8, utf16, ucs2, spelled_in, text_units_in_encoding}
+use Rattle.regex_meaning.specs.CodeUnits.{Encoding, utf8, utf16, ucs2, code_units_of_character, text_units_in_encoding}
 use Rattle.regex_meaning.specs.CompilationRelation.{Program, WordBoundary, WordBoundaryUnicodeICase}
 use Rattle.regex_meaning.specs.Outcomes.{exclusive_or, is_at_word_boundary, is_some_and}
 use Rattle.regex_meaning.proofs.CodeUnitOffsetsLemmas.{IsBoundary-place, place_at-offset, offset-place_at, offset-IsBoundary}
@@ -25,7 +26,7 @@ use Rattle.regress_program.specs.declared.ops.WordBoundaryKind.{WordBoundaryKind
 use Rattle.regress_program.specs.Plans.{IsPlanOf}
 use Rattle.regress_program.specs.TableKeysOfUnits.{key, is_16_bit_encoding}
 use Rattle.regress_program.proofs.AppendedEntryLemmas.{get-below}
-use Rattle.regress_search.specs.DeadThreads.{BeginsNoMatch, MatchFailureExtendsUntil}
+use Rattle.regress_search.specs.DeadThreads.{NoMatchOfInputAt, MatchFailureExtendsUntil}
 use Rattle.regress_search.specs.TreePlanAndText.{SearchInput, program_of, single_unit_begins_its_char}
 use Rattle.regress_search.specs.UnitRuns.{IsKeyTestAt}
 use Rattle.regress_search.proofs.AsciiUnitLemmas.{low-boundary, key-own}
@@ -33,7 +34,7 @@ use Rattle.regress_search.proofs.NextCharByUnit.{next-is, own-only, own-spelled}
 
 -- ---- Word characters
 
--- a word character is one however case counts
+-- A word character is one whether or not case is ignored.
 pub word-always : (icase : Bool) (c : ℕ) → is_word_char false c ≡ true → is_word_char icase c ≡ true
 word-always false c is = is
 word-always true c is = by (is_ascii_lowercase c) (is_ascii_uppercase c) (is_in_range 48 57 c) (c == 95) (nonascii_folds_to_ascii_word_char c) is
@@ -45,7 +46,7 @@ word-always true c is = by (is_ascii_lowercase c) (is_ascii_uppercase c) (is_in_
     by false false false true x h = refl
     by false false false false x h = cc
 
--- it is below 128
+-- A word character is less than 128.
 pub word-low : (c : ℕ) → is_word_char false c ≡ true → c < 128
 word-low c is = by (is_ascii_lowercase c) refl (is_ascii_uppercase c) refl (is_in_range 48 57 c) refl (c == 95) refl is
   where
@@ -57,7 +58,7 @@ word-low c is = by (is_ascii_lowercase c) refl (is_ascii_uppercase c) refl (is_i
     by false p false q false r true t h = let same = eqb-true c 95 t in omega (arith, same)
     by false p false q false r false t h = cc
 
--- ---- In a text
+-- ---- Word characters in a text
 
 none-some : (x : ℕ × ℕ) → None ≡ Some x → ⊥
 none-some x h = cc
@@ -71,7 +72,7 @@ module _ (e : Encoding) (text : Text) (has : HasUnitsForTables e text) where
       by utf16 = ap (λ b. b || (nat_lt 0xDFFF u && nat_lt u 0x1_0000)) (lt-ltb u 0xD800 (omega (arith, low)))
       by ucs2 = lt-ltb u 0x1_0000 (omega (arith, low))
 
-  -- a unit below 128 is a character
+  -- A unit below 128 is the character at its place, and the next place is one unit on.
   pub record LowUnit (at u : ℕ) : Type 0 where
     pub at_place : ℕ
     pub there : place_at text at ≡ Some at_place
@@ -94,7 +95,7 @@ module _ (e : Encoding) (text : Text) (has : HasUnitsForTables e text) where
       reads : option_map {U = ℕ × ℕ} (λ c. (c, offset text (p.0 + 1))) (slice_get text.characters p.0) ≡ Some (u, at + 1)
       reads =
           let n = next-is e text has at u on unit in
-          let one : length (spelled_in e n.0) ≡ 1 = ap (λ c. length (spelled_in e c)) same ∙ ap length (own-spelled e u (low-own u low)) in
+          let one : length (code_units_of_character e n.0) ≡ 1 = ap (λ c. length (code_units_of_character e c)) same ∙ ap length (own-spelled e u (low-own u low)) in
           sym (read-place text rightwards at p.0 p.1) ∙ n.1.read_is ∙ ap₂ (λ c n. Some (c, at + n)) same one
 
       by : (o : Option ℕ) → slice_get text.characters p.0 ≡ o → LowUnit at u
@@ -113,11 +114,11 @@ module _ (e : Encoding) (text : Text) (has : HasUnitsForTables e text) where
             within = omega (arith, below);
           }
 
-  -- behind it there is a boundary
+  -- A boundary is behind a unit below 128.
   pub low-behind : (at u : ℕ) → slice_get (text_units_in_encoding e text) at ≡ Some u → u < 128 → IsBoundary text (at + 1)
   low-behind at u unit low = let a = low-unit at u unit low in subst (IsBoundary text) a.behind (offset-IsBoundary text (a.at_place + 1) has.is_text a.within)
 
-  -- between two units of words
+  -- There is no word boundary between two units that are word characters.
   pub no-edge : (at u v p : ℕ) (icase : Bool) → slice_get (text_units_in_encoding e text) at ≡ Some u → slice_get (text_units_in_encoding e text) (at + 1) ≡ Some v
       → is_word_char false u ≡ true → is_word_char false v ≡ true → place_at text (at + 1) ≡ Some p → is_at_word_boundary text icase p ≡ false
   no-edge at u v p icase first second before after there =
@@ -131,7 +132,7 @@ module _ (e : Encoding) (text : Text) (has : HasUnitsForTables e text) where
       (ap (λ p. is_some_and (character_before text p) (is_word_char icase)) same_a ∙ ap (λ o. is_some_and o (is_word_char icase)) a.char ∙ word-always icase u before)
       (ap (λ p. is_some_and (character_after text p) (is_word_char icase)) same_b ∙ ap (λ o. is_some_and o (is_word_char icase)) b.char ∙ word-always icase v after)
 
--- ---- Searches
+-- ---- Searches for a word boundary
 
 module _ (program : Program) (text : Text) (has_text : HasRisingPlaceOffsets text) (icase : Bool)
     (edge : slice_get program.insns 0 ≡ Some (if icase then WordBoundaryUnicodeICase false else WordBoundary false)) where
@@ -172,7 +173,7 @@ module _ (w : SearchInput) (has : HasUnitsForTables w.encoding w.text) (plan : I
       insn.1 ∙ ap Some (plan.each 0 (variant.WordEdge edge) insn.0 there insn.1)
       ∙ ap (λ b. Some (if edge.unicode_icase then WordBoundaryUnicodeICase b else WordBoundary b)) straight
 
-  -- a unit of a word is there
+  -- If the key at an offset is a word character, the unit there is one.
   unit-there : (at : ℕ) → IsKeyTestAt w (is_word_char false) at true → (u : ℕ) × (slice_get (text_units_in_encoding w.encoding w.text) at ≡ Some u) × (is_word_char false u ≡ true)
   unit-there at (k, is, below, word) = by (slice_get (text_units_in_encoding w.encoding w.text) at) refl is
     where
@@ -184,17 +185,17 @@ module _ (w : SearchInput) (has : HasUnitsForTables w.encoding w.text) (plan : I
           let own : u ≡ k = key-own (is_16_bit_encoding w.encoding) u (subst (λ k. k < 128) (sym same) (word-low k word)) ∙ same in
           (u, at, ap (is_word_char false) own ∙ word)
 
-  -- they end at a boundary
+  -- A sequence of units that are word characters ends at a boundary.
   pub word-end : (from count : ℕ) → IsBoundary w.text from → ((i : ℕ) → i < count → IsKeyTestAt w (is_word_char false) (from + i) true) → IsBoundary w.text (from + count)
   word-end from zero on each = subst (IsBoundary w.text) (let z : from ≡ from + 0 = omega arith in z) on
   word-end from (suc n) on each =
       let last = unit-there (from + n) (each n (omega arith)) in
       subst (IsBoundary w.text) (let z : from + n + 1 ≡ from + suc n = omega arith in z) (low-behind w.encoding w.text has (from + n) last.0 last.1 (word-low last.0 last.2))
 
-  -- no match begins between characters of a word
+  -- If no match begins at its start, none begins within a sequence of word characters.
   pub word-vain : (from count : ℕ) → ((i : ℕ) → i < count → IsKeyTestAt w (is_word_char false) (from + i) true) → MatchFailureExtendsUntil w from (from + count)
   word-vain from count each none at on le less = elim (cases_lt from at) [
-    | inr here ↦ let same : from ≡ at = omega (arith, le, here) in subst (BeginsNoMatch w) same none
+    | inr here ↦ let same : from ≡ at = omega (arith, le, here) in subst (NoMatchOfInputAt w) same none
     | inl inner ↦ λ place is.
         let before : from + (at - from - 1) ≡ at - 1 = omega (arith, inner) in
         let here : from + (at - from) ≡ at = omega (arith, inner) in

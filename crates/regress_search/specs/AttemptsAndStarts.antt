@@ -10,13 +10,13 @@ use Rattle.regex_meaning.specs.StartPredicate.{StartPredicate, start_anchored, s
 use Rattle.regex_meaning.specs.OutcomesWithStepTicks.{items_at, ticks_to_first, tried_places}
 use Rattle.regress_program.specs.CompilationOfTreesAsFunction.{compiled}
 use Rattle.regress_machine.specs.Machine.{State, running, Found, search}
-use Rattle.regress_machine.specs.SearchFindsFirstOutcomeAtPlace.{first_pair, end_in_offsets, sufficient_turns_at}
+use Rattle.regress_machine.specs.SearchFindsFirstOutcomeAtPlace.{first_outcome_among_ticks, end_in_offsets, sufficient_turns_at}
 
 -- The end (an offset) and the groups of the first outcome at an offset. `None` if there is no
 -- outcome.
 abbrev pub match_end_and_groups_at : Tree → Text → (at : ℕ) → Option (ℕ × Groups)
 match_end_and_groups_at tree text at =
-    option_and_then (λ place. option_map (end_in_offsets text) (first_pair (items_at tree text place)))
+    option_and_then (λ place. option_map (end_in_offsets text) (first_outcome_among_ticks (items_at tree text place)))
     (place_at text at)
 
 -- The offset at which the list of matches continues after a match. It is the end of the match, or
@@ -69,14 +69,14 @@ ticks_of_attempt_at tree text at =
     option_map_or (λ place. ticks_to_first (items_at tree text place)) (place_at text at) 0
 
 -- The offset of the first place in a list.
-abbrev pub first_of_places : Text → List ℕ → Option ℕ
-first_of_places text [] = None
-first_of_places text (place ∷ places) = Some (offset text place)
+abbrev pub offset_of_first_place : Text → List ℕ → Option ℕ
+offset_of_first_place text [] = None
+offset_of_first_place text (place ∷ places) = Some (offset text place)
 
 -- The first offset at `at` or later that a search with counted steps tries.
 abbrev pub first_filtered_start : Tree → Text → (at : ℕ) → Option ℕ
 first_filtered_start tree text at = option_and_then
-    (λ place. first_of_places text (tried_places tree text (start_predicate tree) place)) (place_at text at)
+    (λ place. offset_of_first_place text (tried_places tree text (start_predicate tree) place)) (place_at text at)
 
 -- The next offset that a search with counted steps tries after an attempt without a match.
 abbrev pub filtered_start_after : StartPredicate → Tree → Text → (at : ℕ) → Option ℕ

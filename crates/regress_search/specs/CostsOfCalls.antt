@@ -36,13 +36,13 @@ CostsInWork costs left (Some (Err WorkLimit)) left' after = CostsMoreThanLeft co
 module _ {P : Type 0} (attempt_costs : Tree → Text → (before : Failures) → (at cost : ℕ) → (after : Option Failures)
     → Type 0) (tree : P → Tree) (text : P → Text) (failures : P → Failures) where
   -- The cost of the next call: a search from the offset at which the list continues.
-  abbrev pub NextCosts : WorkMatchesView P → (cost : ℕ) → (after : Option Failures) → Type 0
-  NextCosts s = SearchCosts attempt_costs (tree s.producer) (text s.producer) (failures s.producer) s.position
+  abbrev pub NextCallCosts : WorkMatchesView P → (cost : ℕ) → (after : Option Failures) → Type 0
+  NextCallCosts s = SearchCosts attempt_costs (tree s.producer) (text s.producer) (failures s.producer) s.position
 
   -- The effect of one call: what it returns, what it costs, and where the list continues.
   abbrev pub NextYieldsAtCost : WorkMatchesView P → Option (Result Match WorkError) → WorkMatchesView P → Type 0
   NextYieldsAtCost s result t =
       NextYieldsWithinWork (without_costs s) result (without_costs t)
-      × CostsInWork (NextCosts s) s.left result t.left (failures t.producer)
+      × CostsInWork (NextCallCosts s) s.left result t.left (failures t.producer)
       × ContinuesAfterCall (tree s.producer) (text s.producer) s.position result t.position
       × (tree t.producer ≡ tree s.producer) × (text t.producer ≡ text s.producer)

@@ -58,16 +58,17 @@ TakesExactCost costs left left' after = (cost : ℕ) × costs cost (Some after) 
 
 -- The work left after a computation that gives no result. If the work limit was reached (`out`), a
 -- first part of the computation costs more than was left. An allocation may fail at any time.
-abbrev pub MayStopShort : (costs : (cost : ℕ) → (after : Option Failures) → Type 0) → (left : ℕ) → (out : Bool)
+abbrev pub LeavesWorkWithoutResult : (costs : (cost : ℕ) → (after : Option Failures) → Type 0) → (left : ℕ)
+    → (out : Bool)
     → (left' : ℕ) → Type 0
-MayStopShort costs left false left' = left' ≤ left
-MayStopShort costs left true left' = CostsMoreThanLeft costs left
+LeavesWorkWithoutResult costs left false left' = left' ≤ left
+LeavesWorkWithoutResult costs left true left' = CostsMoreThanLeft costs left
 
 -- How much work an attempt or a search takes from the work that was left.
 abbrev pub SpendsExactCost : {X E : Type 0} → (costs : (cost : ℕ) → (after : Option Failures) → Type 0) → (left : ℕ)
     → Result X E → (out : Bool) → (left' : ℕ) (after : Failures) → Type 0
 SpendsExactCost costs left (Ok x) out left' after = TakesExactCost costs left left' after
-SpendsExactCost costs left (Err e) out left' after = MayStopShort costs left out left'
+SpendsExactCost costs left (Err e) out left' after = LeavesWorkWithoutResult costs left out left'
 
 -- How much work one call of an iterator takes from the work that was left.
 abbrev pub CallSpendsExactCost : {X E : Type 0} → (costs : (cost : ℕ) → (after : Option Failures) → Type 0) → (left : ℕ)

@@ -8,9 +8,9 @@ abbrev pub all_groups : Answer → List (Option (ℕ × ℕ))
 all_groups m = Some m.range ∷ m.captures
 
 -- The name is not empty and does not occur in the list `before`.
-abbrev pub is_new : (name : List ℕ) (before : List (List ℕ)) → Bool
-is_new [] before = false
-is_new (c ∷ name) before = not (list_any (bytes_eq (c ∷ name)) before)
+abbrev pub is_new_group_name : (name : List ℕ) (before : List (List ℕ)) → Bool
+is_new_group_name [] before = false
+is_new_group_name (c ∷ name) before = not (list_any (bytes_eq (c ∷ name)) before)
 
 -- The names at id `from` or later that do not occur at an earlier id.
 abbrev pub distinct_names_from : List (List ℕ) → (from : ℕ) → List (List ℕ)

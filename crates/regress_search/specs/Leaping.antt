@@ -9,21 +9,21 @@ use Rattle.regress_search.specs.declared.leaping.LeapTarget.{LeapTarget}
 
 module _ (w : SearchInput) (leap : Leap) where
   -- Whether a match may read the unit at an offset before it reaches the goal.
-  abbrev pub is_passed_at : (at : ℕ) → Bool
-  is_passed_at at = may_read_before_goal (leap_to_goal leap) w.encoding w.text at
+  abbrev pub may_read_unit_before_goal : (at : ℕ) → Bool
+  may_read_unit_before_goal at = may_read_before_goal (leap_to_goal leap) w.encoding w.text at
 
 module _ (w : SearchInput) (leap : Leap) (from goal : ℕ) where
   -- `at` is the first offset at `from` or later such that a match may read all units between `at`
   -- and the goal.
-  pub record IsFirstOfPassedUnits (at : ℕ) : Type 0 where
+  pub record IsFirstOffsetReadableUpToGoal (at : ℕ) : Type 0 where
     pub ahead : from ≤ at
     pub before : at ≤ goal
-    pub passed : at < goal → is_passed_at w leap at ≡ true
-    pub barred : from < at → is_passed_at w leap (at - 1) ≡ false
+    pub passed : at < goal → may_read_unit_before_goal w leap at ≡ true
+    pub barred : from < at → may_read_unit_before_goal w leap (at - 1) ≡ false
 
   -- Between each offset from `from` up to `to` and the goal, there is a barrier: a unit that a
   -- match may not read before the goal.
-  pub record IsPastBarrier (to : ℕ) : Type 0 where
+  pub record IsPastBarriersBeforeGoal (to : ℕ) : Type 0 where
     pub boundary : IsBoundary w.text to
     pub ahead : from ≤ to
     pub barred : (at : ℕ) → from ≤ at → at < to → HasBarrierBetween (leap_to_goal leap) w.encoding w.text at goal
@@ -33,9 +33,9 @@ module _ (w : SearchInput) (leap : Leap) (from : ℕ) where
   pub record LeadsTo (target : LeapTarget) : Type 0 where
     pub occurs : goal_occurs_at (leap_to_goal leap) w.encoding w.text target.goal ≡ true
     pub absent : GoalIsAbsentBetween (leap_to_goal leap) w.encoding w.text from target.goal
-    pub behind : IsPastBarrier w leap from target.goal target.to
+    pub behind : IsPastBarriersBeforeGoal w leap from target.goal target.to
 
   -- The target of a leap. `None` if there is no goal at `from` or later.
-  abbrev pub LeapLeads : Option LeapTarget → Type 0
-  LeapLeads None = GoalIsAbsentFrom (leap_to_goal leap) w.encoding w.text from
-  LeapLeads (Some target) = LeadsTo target
+  abbrev pub IsTargetOfLeap : Option LeapTarget → Type 0
+  IsTargetOfLeap None = GoalIsAbsentFrom (leap_to_goal leap) w.encoding w.text from
+  IsTargetOfLeap (Some target) = LeadsTo target

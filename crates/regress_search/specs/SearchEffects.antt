@@ -3,7 +3,7 @@ use Rattle.std.specs.Prelude.{◌≡◌, ℕ, ◌+◌, Bool, true, false, IsTrue
 use Rattle.regex_meaning.specs.Tree.{Tree}
 use Rattle.regex_meaning.specs.Text.{Text}
 use Rattle.regex_meaning.specs.SearchAnswers.{next_start}
-use Rattle.regex_meaning.specs.StepBudget.{IsBudgetAtMost, is_within, remaining_budget}
+use Rattle.regex_meaning.specs.StepBudget.{IsBudgetAtMost, budget_suffices, remaining_budget}
 use Rattle.regress_search.specs.declared.exec.SearchError.{SearchError}
 use Rattle.regress_search.specs.declared.exec.SearchError.TheVariants.{Memory, StepLimit}
 
@@ -13,11 +13,11 @@ use Rattle.regress_search.specs.declared.exec.SearchError.TheVariants.{Memory, S
 -- least as much is left as after a result.
 abbrev pub SpendsNeedOrReachesLimit : {X : Type 0} → (need : ℕ) → (before : Option ℕ) → Result X SearchError
     → (after : Option ℕ) → Type 0
-SpendsNeedOrReachesLimit need before (Ok x) after = IsTrue (is_within before need)
+SpendsNeedOrReachesLimit need before (Ok x) after = IsTrue (budget_suffices before need)
     × (after ≡ remaining_budget before need)
 SpendsNeedOrReachesLimit need before (Err Memory) after = IsBudgetAtMost after before
     × IsBudgetAtMost (remaining_budget before need) after
-SpendsNeedOrReachesLimit need before (Err StepLimit) after = (is_within before need ≡ false) × (after ≡ Some 0)
+SpendsNeedOrReachesLimit need before (Err StepLimit) after = (budget_suffices before need ≡ false) × (after ≡ Some 0)
 
 -- The cause of an error: the step limit was reached, or otherwise an allocation failed.
 abbrev pub cause_of_error : (out_of_steps : Bool) → SearchError

@@ -32,8 +32,8 @@ IsFirstBoundaryWhere w test from (Some to) = IsBoundary w.text to × (from ≤ t
     × NoBoundaryWhere w test from to
 
 -- The table excludes each boundary that is `from` or more and less than `to`.
-abbrev pub AllowsNone : SearchInput → AllowedNextKeys → (from to : ℕ) → Type 0
-AllowsNone w table from to = NoBoundaryWhere w (λ at. table_allows_unit_or_end_at w table at) from to
+abbrev pub TableAllowsNoBoundary : SearchInput → AllowedNextKeys → (from to : ℕ) → Type 0
+TableAllowsNoBoundary w table from to = NoBoundaryWhere w (λ at. table_allows_unit_or_end_at w table at) from to
 
 -- The first boundary at `from` or later where the table allows the code unit or the end of the
 -- text.

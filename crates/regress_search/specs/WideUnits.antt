@@ -6,7 +6,7 @@ use Rattle.regress_input.specs.TextCodeUnits.{has_bits}
 use Rattle.regress_program.specs.TableKeysOfUnits.{key, may_begin_surrogate_pair}
 use Rattle.regress_search.specs.declared.few_wide_units.UnitBits.{UnitBits}
 use Rattle.regress_search.specs.TreePlanAndText.{SearchInput}
-use Rattle.regress_search.specs.ReadsAtOffset.{unit_in}
+use Rattle.regress_search.specs.ReadsAtOffset.{input_unit_at}
 
 -- A 16-bit unit has these bits exactly if it has the key `k`.
 abbrev pub BitsIdentifyUnitsOfKey : UnitBits → (k : ℕ) → Type 0
@@ -21,7 +21,8 @@ bits_identify_key k = not (k == 128 || k == 238 || k == 239)
 -- set, units that may begin a surrogate pair count too.
 abbrev pub unit_has_listed_key : (pairs : Bool) (keys : List ℕ) (len : ℕ) → SearchInput → (at : ℕ) → Bool
 unit_has_listed_key pairs keys len w at =
-    is_some_and (unit_in w at) (λ unit. (pairs && may_begin_surrogate_pair (key true unit)) || contains (take len keys)
+    is_some_and (input_unit_at w at) (λ unit. (pairs && may_begin_surrogate_pair (key true unit)) || contains
+    (take len keys)
     (key true unit))
 
 -- The first `len` keys of the list do not include 128, whose units no bits identify.

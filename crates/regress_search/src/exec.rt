@@ -96,29 +96,33 @@ impl Match {
     }
 }
 
-/// A searcher that finds the matches of a pattern in a text, one at a time. Contracts see the
-/// pattern's tree, the text, the steps that are left (`None` without a limit), and whether the last
-/// search reached the step limit.
+/// A searcher that finds the matches of a pattern in a text, one at a time.
 pub trait MatchProducer {
     ghost use Rattle.regress_search.specs.MatchesAsSpecAnswers.{answer_of};
 
     /// A position at which a search can continue.
     type Position: PositionType;
 
+    // The tree of the pattern.
     ghost tree: { Self → Tree };
 
+    // The text.
     ghost text: { Self → Text };
 
+    // The steps that are left; `None` if they are not counted.
     ghost budget: { Self → Option ℕ } = { λ _. None };
 
+    // Whether the last search reached the step limit.
     ghost out_of_steps: { Self → Bool } = { λ _. false };
 
     // Whether the work limit suffices for attempts in ascending order of offsets, each at `ahead`
     // or later.
     ghost enough: { Self → Bool } = { λ _. true };
 
+    // The least offset of the next such attempt.
     ghost ahead: { Self → ℕ } = { λ _. 0 };
 
+    // Whether the last search reached the work limit.
     ghost out_of_work: { Self → Bool } = { λ _. false };
 
     // The work that is left, if work is counted.
@@ -143,6 +147,11 @@ pub trait MatchProducer {
     /// Finds the first match at a position or later. `next_start` becomes the position at which the
     /// list of matches continues, or `None` if the list ends. It is unchanged if there is no match
     /// or an error occurs.
+    ///
+    /// The clauses `found` and `stays` say which match is returned and what `next_start` becomes.
+    /// The clauses `steps` and `cause` say which steps are spent and which error is returned. The
+    /// clauses `work`, `left` and `cost` say whether the work limit suffices and how much work is
+    /// taken, and `same` says that the tree and the text stay the same.
     ///
     /// # Errors
     ///
@@ -255,6 +264,10 @@ impl<P: MatchProducer + Drop> Iterator for Matches<P> {
 
 // Returns the first match at a position or later. The position becomes the one at which the list of
 // matches continues, or `None` if the list ends.
+// Contract: `gives` and `continues` say what is returned and where the list continues. `work` and
+// `cost` say whether the work limit suffices and how much work is taken; `left` says that the work
+// that is left does not grow. `at` and `same` say that the position stays a boundary of the same
+// text.
 fn advance_matches<P: MatchProducer>(
     producer: &mut P,
     position: &mut Option<P::Position>,

@@ -6,8 +6,8 @@ ghost use Rattle.regex_meaning.specs.Outcomes.{is_some_and};
 ghost use Rattle.regex_meaning.specs.CodeUnitOffsets.{units};
 ghost use Rattle.regress_input.specs.TextCodeUnits.{has_bits};
 ghost use Rattle.regress_program.specs.TableKeysOfUnits.{is_16_bit_encoding};
-ghost use Rattle.regress_search.specs.MarkedOffsets.{IsFirstPassing};
-ghost use Rattle.regress_search.specs.ReadsAtOffset.{unit_in};
+ghost use Rattle.regress_search.specs.MarkedOffsets.{IsFirstPassingOffset};
+ghost use Rattle.regress_search.specs.ReadsAtOffset.{input_unit_at};
 ghost use Rattle.regress_search.specs.WideUnits.{BitsIdentifyUnitsOfKey, BitsIdentifyListedKeys, unit_has_listed_key, bits_identify_key as is_told};
 
 use crate::class_char_and_table_lookups::unit_at_offset;
@@ -23,7 +23,7 @@ struct UnitBits {
 }
 
 impl<W: SearchContext> OffsetTest<W> for UnitBits {
-    ghost passes_at = { λ kind w at. is_some_and (unit_in w at) (has_bits kind.mask kind.bits) };
+    ghost passes_at = { λ kind w at. is_some_and (input_unit_at w at) (has_bits kind.mask kind.bits) };
 
     ghost reach = { λ _. 1 };
 
@@ -40,12 +40,12 @@ impl<W: SearchContext> OffsetTest<W> for UnitBits {
 
 /// The test for one unit. Its mask is known at compile time, which takes fewer instructions.
 #[derive(Clone, Copy)]
-struct OneUnit {
+struct SingleUnitTest {
     unit: u16,
 }
 
-impl<W: SearchContext> OffsetTest<W> for OneUnit {
-    ghost passes_at = { λ one w at. is_some_and (unit_in w at) (has_bits 0xFFFF one.unit) };
+impl<W: SearchContext> OffsetTest<W> for SingleUnitTest {
+    ghost passes_at = { λ one w at. is_some_and (input_unit_at w at) (has_bits 0xFFFF one.unit) };
 
     ghost reach = { λ _. 1 };
 
@@ -84,7 +84,7 @@ impl<W: SearchContext, A: OffsetTest<W>, B: OffsetTest<W>> OffsetTest<W> for Eit
 }
 
 /// The units that may begin a surrogate pair: those from 0xD800 to 0xDBFF.
-const PAIRS: UnitBits = UnitBits {
+const LEAD_SURROGATE_BITS: UnitBits = UnitBits {
     mask: 0xFC00,
     bits: 0xD800,
 };
@@ -111,7 +111,7 @@ fn units_of_key(key: u8) -> UnitBits
 /// Checks whether bits identify the 16-bit units with each of these keys, and none of these units
 /// ends a surrogate pair.
 #[inline(always)]
-pub(crate) fn are_told_by_bits(few: FewUnitsFinder) -> bool
+pub(crate) fn do_bits_identify_units(few: FewUnitsFinder) -> bool
     ensures { result ≡ list_all is_told few.units }
 {
     let [a, b, c] = few.units;
@@ -128,7 +128,7 @@ fn bits_identify_key(key: u8) -> bool
 
 // Returns the offset of the first unit in `from..to` with these bits.
 #[inline(always)]
-fn first_with_bits<W: SearchContext>(
+fn first_unit_with_bits<W: SearchContext>(
     context: &W,
     kind: UnitBits,
     from: usize,
@@ -137,10 +137,10 @@ fn first_with_bits<W: SearchContext>(
     requires order { from ≤ to }
     requires inside { to ≤ units (W.searching context.now).text }
     ensures { let w = W.searching context.now in
-        IsFirstPassing (λ at. is_some_and (unit_in w at) (has_bits kind.mask kind.bits)) from to result }
+        IsFirstPassingOffset (λ at. is_some_and (input_unit_at w at) (has_bits kind.mask kind.bits)) from to result }
 {
     if kind.mask == 0xFFFF {
-        first_by_marks(context, &OneUnit { unit: kind.bits }, from, to)
+        first_by_marks(context, &SingleUnitTest { unit: kind.bits }, from, to)
     } else {
         first_by_marks(context, &kind, from, to)
     }
@@ -148,7 +148,7 @@ fn first_with_bits<W: SearchContext>(
 
 /// Returns the offset of the first 16-bit unit at `from` or later that has one of these keys.
 #[inline(always)]
-pub(crate) fn next_wide<W: SearchContext>(
+pub(crate) fn next_16_bit_unit_with_key<W: SearchContext>(
     context: &W,
     few: FewUnitsFinder,
     from: usize,
@@ -157,13 +157,13 @@ pub(crate) fn next_wide<W: SearchContext>(
     requires told { BitsIdentifyListedKeys few.units few.len }
     requires at { from ≤ units (W.searching context.now).text }
     ensures { let w = W.searching context.now in
-        IsFirstPassing (unit_has_listed_key false few.units few.len w) from (units w.text) result }
+        IsFirstPassingOffset (unit_has_listed_key false few.units few.len w) from (units w.text) result }
 {
     let end = text_end(context);
     let [a, b, c] = few.units;
     match few.len {
         0 => None,
-        1 => first_with_bits(context, units_of_key(a), from, end),
+        1 => first_unit_with_bits(context, units_of_key(a), from, end),
         2 => {
             let a = units_of_key(a);
             let b = units_of_key(b);
@@ -182,7 +182,7 @@ pub(crate) fn next_wide<W: SearchContext>(
 /// Returns the offset of the first 16-bit unit at `from` or later that has one of these keys or may
 /// begin a surrogate pair.
 #[inline(always)]
-pub(crate) fn next_wide_or_pair<W: SearchContext>(
+pub(crate) fn next_16_bit_unit_or_pair_with_key<W: SearchContext>(
     context: &W,
     few: FewUnitsFinder,
     from: usize,
@@ -191,18 +191,18 @@ pub(crate) fn next_wide_or_pair<W: SearchContext>(
     requires told { BitsIdentifyListedKeys few.units few.len }
     requires at { from ≤ units (W.searching context.now).text }
     ensures { let w = W.searching context.now in
-        IsFirstPassing (unit_has_listed_key true few.units few.len w) from (units w.text) result }
+        IsFirstPassingOffset (unit_has_listed_key true few.units few.len w) from (units w.text) result }
 {
     let end = text_end(context);
     let [a, b, c] = few.units;
     let a = Either {
-        a: PAIRS,
+        a: LEAD_SURROGATE_BITS,
         b: units_of_key(a),
     };
     let b = units_of_key(b);
     let c = units_of_key(c);
     match few.len {
-        0 => first_by_marks(context, &PAIRS, from, end),
+        0 => first_by_marks(context, &LEAD_SURROGATE_BITS, from, end),
         1 => first_by_marks(context, &a, from, end),
         2 => first_by_marks(context, &Either { a, b }, from, end),
         _ => {

@@ -9,7 +9,7 @@ ghost use Rattle.regex_pattern_front.specs.AstToSpecTree.{spec_sameness_of, tree
 ghost use Rattle.regress_input.specs.CharAndByteReadsFromOffset.{end_if_matched, place};
 ghost use Rattle.regress_program.specs.{CompilationOfTreesAsFunction.{compiled}, InsnsAsSpec.{insn_as_spec_insn}};
 ghost use Rattle.regress_machine.specs.{Machine.{test_of}, InsnEffects.{is_byte_sequence_insn}};
-ghost use Rattle.regress_search.specs.OffsetsAfterMatchedInsns.{anchor_matches_at, past_backref, char_test_of_insn};
+ghost use Rattle.regress_search.specs.OffsetsAfterMatchedInsns.{anchor_matches_at, offset_after_repeated_text, char_test_of_insn};
 
 use regress_input::cursor::Direction;
 use regress_input::front::{ByteSet, Sameness};
@@ -33,7 +33,7 @@ pub fn bytes_of_literal_insn(insn: &Insn) -> &[u8]
 }
 
 // Checks whether `bytes` are the UTF-8 encoding of the character.
-fn spells(c: u32, bytes: &[u8]) -> bool
+fn is_utf8_encoding_of_char(c: u32, bytes: &[u8]) -> bool
     requires { IsTrue (is_scalar c) }
     ensures { result ≡ pointwise nat_eq (encode_utf8_all (c ∷ [])) bytes.now }
 {
@@ -47,7 +47,11 @@ fn spells(c: u32, bytes: &[u8]) -> bool
 }
 
 // Checks whether the bracket with this number contains the character.
-fn bracket_has<Input: InputIndexer>(program: &Program, index: usize, c: Input::Element) -> bool
+fn bracket_contains_char<Input: InputIndexer>(
+    program: &Program,
+    index: usize,
+    c: Input::Element,
+) -> bool
     requires { IsSome (test_of (compiled (tree_of program.now)) (Some (Bracket index))) }
     ensures { Some result ≡ option_map (λ test. test (Input.Element.number c))
         (test_of (compiled (tree_of program.now)) (Some (Bracket index))) }
@@ -56,6 +60,8 @@ fn bracket_has<Input: InputIndexer>(program: &Program, index: usize, c: Input::E
 }
 
 /// Checks whether an instruction that reads one character accepts `c`.
+///
+/// If the instruction reads byte sequences, `c` is a scalar value.
 #[inline(always)]
 pub fn accepts<Input: InputIndexer>(insn: Insn, program: &Program, c: Input::Element) -> bool
     requires test { IsSome (char_test_of_insn program.now insn) }
@@ -73,10 +79,10 @@ pub fn accepts<Input: InputIndexer>(insn: Insn, program: &Program, c: Input::Ele
         Insn::ByteSet3(set) => set.byte_set_has_char(code),
         Insn::ByteSet4(set) => set.byte_set_has_char(code),
         Insn::AsciiBracket(set) => set.byte_set_has_char(code),
-        Insn::Bracket(index) => bracket_has::<Input>(program, index, c),
+        Insn::Bracket(index) => bracket_contains_char::<Input>(program, index, c),
         Insn::MatchAny => true,
         Insn::MatchAnyExceptLineTerminator => !Input::CharProps::is_line_terminator(c),
-        _ => spells(code, bytes_of_literal_insn(&insn)),
+        _ => is_utf8_encoding_of_char(code, bytes_of_literal_insn(&insn)),
     }
 }
 
@@ -85,7 +91,10 @@ pub fn accepts<Input: InputIndexer>(insn: Insn, program: &Program, c: Input::Ele
 // Checks whether `beside`, the character next to a position, is missing or, with `multiline`, a
 // line terminator.
 #[inline(always)]
-fn is_line_edge<Input: InputIndexer>(beside: Option<Input::Element>, multiline: bool) -> bool
+fn is_missing_or_line_terminator<Input: InputIndexer>(
+    beside: Option<Input::Element>,
+    multiline: bool,
+) -> bool
     ensures { result ≡ is_line_boundary (option_map (λ e. Input.Element.number e) beside) multiline }
 {
     match beside {
@@ -96,7 +105,10 @@ fn is_line_edge<Input: InputIndexer>(beside: Option<Input::Element>, multiline: 
 
 // Checks whether `beside`, the character next to a position, is a word character.
 #[inline(always)]
-fn is_word<Input: InputIndexer>(beside: Option<Input::Element>, unicode_icase: bool) -> bool
+fn is_present_word_char<Input: InputIndexer>(
+    beside: Option<Input::Element>,
+    unicode_icase: bool,
+) -> bool
     ensures { result ≡ is_some_and (option_map (λ e. Input.Element.number e) beside) (is_word_char unicode_icase) }
 {
     match beside {
@@ -121,7 +133,7 @@ pub fn at_line_start<Input: InputIndexer>(
     requires { IsBoundary (Input.text input.now) (Input.Position.offset pos) }
     ensures { result ≡ anchor_matches_at (Input.text input.now) start_of_line multiline (Input.Position.offset pos) }
 {
-    is_line_edge::<Input>(input.peek_left(pos), multiline)
+    is_missing_or_line_terminator::<Input>(input.peek_left(pos), multiline)
 }
 
 /// Checks whether the position is the end of the text or, with `multiline`, of a line.
@@ -134,7 +146,7 @@ pub fn at_line_end<Input: InputIndexer>(
     requires { IsBoundary (Input.text input.now) (Input.Position.offset pos) }
     ensures { result ≡ anchor_matches_at (Input.text input.now) end_of_line multiline (Input.Position.offset pos) }
 {
-    is_line_edge::<Input>(input.peek_right(pos), multiline)
+    is_missing_or_line_terminator::<Input>(input.peek_right(pos), multiline)
 }
 
 /// Checks whether the position is a word boundary. With `invert`, checks that it is not one.
@@ -149,8 +161,8 @@ pub fn passes_word_boundary<Input: InputIndexer>(
     ensures { result ≡ exclusive_or invert (is_at_word_boundary (Input.text input.now)
         unicode_icase (place (Input.text input.now) (Input.Position.offset pos))) }
 {
-    let before = is_word::<Input>(input.peek_left(pos), unicode_icase);
-    let behind = is_word::<Input>(input.peek_right(pos), unicode_icase);
+    let before = is_present_word_char::<Input>(input.peek_left(pos), unicode_icase);
+    let behind = is_present_word_char::<Input>(input.peek_right(pos), unicode_icase);
     (before != behind) != invert
 }
 
@@ -160,7 +172,7 @@ pub fn passes_word_boundary<Input: InputIndexer>(
 /// position is moved past them; otherwise it is unspecified. If `end` is not after `start`, there
 /// are no characters.
 #[inline(always)]
-pub fn backref_matches<Input: InputIndexer, Dir: Direction>(
+pub fn read_backref_text<Input: InputIndexer, Dir: Direction>(
     start: Input::Position,
     end: Input::Position,
     same: Sameness,
@@ -172,7 +184,7 @@ pub fn backref_matches<Input: InputIndexer, Dir: Direction>(
     requires from { IsBoundary (Input.text input.now) (Input.Position.offset start) }
     requires to { IsBoundary (Input.text input.now) (Input.Position.offset end) }
     ensures { let at = Input.Position.offset in end_if_matched result (at pos.new)
-        ≡ past_backref (Input.text input.now) Dir.FORWARD (spec_sameness_of same) (at start) (at end) (at pos.old) }
+        ≡ offset_after_repeated_text (Input.text input.now) Dir.FORWARD (spec_sameness_of same) (at start) (at end) (at pos.old) }
 {
     if input.pos_to_offset(end) < input.pos_to_offset(start) {
         return true;
@@ -182,7 +194,7 @@ pub fn backref_matches<Input: InputIndexer, Dir: Direction>(
         Sameness::Folded => matchers::backref_icase(input, dir, start..end, pos),
         Sameness::Alike { unicode } => {
             let mut at = *pos;
-            let matches = matchers::backref_alike(input, dir, start..end, unicode, &mut at);
+            let matches = matchers::backref_canonical(input, dir, start..end, unicode, &mut at);
             *pos = at;
             matches
         }

@@ -5,7 +5,7 @@ ghost use Rattle.std.specs.Prelude.{◌≡◌, ◌≤◌, ◌<◌, ◌+◌, ℕ,
 ghost use Rattle.regex_meaning.specs.CodeUnitOffsets.{IsBoundary, units};
 ghost use Rattle.regress_machine.specs.SearchFindsFirstOutcomeAtPlace.{TreeProgramCanSearchText};
 ghost use Rattle.regress_program.specs.{Plans.{op_as_char_loop}, LeadingCharLoops.{OnlyOpensGroups}};
-ghost use Rattle.regress_search.specs.{DeadThreads.{MatchFailureExtendsUntil, BeginsWithRepeatedChar, IsUnrepeated}, CharLoopExits.{HasAdvancedTo, ClassFitsText}, TreePlanAndText.{program_of}};
+ghost use Rattle.regress_search.specs.{DeadThreads.{MatchFailureExtendsUntil, BeginsWithRepeatedChar, NextUnitDoesNotRepeatAsciiUnit}, CharLoopExits.{HasScannedClassCharsTo, ClassFitsText}, TreePlanAndText.{program_of}};
 
 use crate::class_char_and_table_lookups::unit_at_offset;
 use crate::class_scan::{scan_chars_of_class_end, scan_single_unit_chars};
@@ -35,13 +35,17 @@ pub fn skip_leading_char_loop<W: SearchContext>(context: &W, opens: usize, from:
         return from;
     };
     if let Op::WordEdge(edge) = *op {
-        return past_word(context, opens, edge, from);
+        return if opens == 0 {
+            end_of_leading_word_chars(context, edge, from)
+        } else {
+            from
+        };
     }
     if let Op::OpenGroup(_) = *op {
-        return past_unrepeated(context, from);
+        return skip_to_repeated_unit(context, from);
     }
     match op.as_char_loop() {
-        Some(run) => past_run(context, opens, run, from),
+        Some(run) => skip_run_of_leading_char_loop(context, opens, run, from),
         None => from,
     }
 }
@@ -63,24 +67,20 @@ impl KeyTest for WordKeys {
     }
 }
 
-// Returns the end of the word characters from `from` on, if each match begins with a word boundary,
-// and no group is opened before it. No word boundary is between two of the characters.
+// Returns the end of the word characters from `from` on, if each match begins with a word boundary.
+// No word boundary is between two of the characters.
 #[inline(always)]
-fn past_word<W: SearchContext>(
+fn end_of_leading_word_chars<W: SearchContext>(
     context: &W,
-    opens: usize,
     edge: WordBoundaryKind,
     from: usize,
 ) -> usize
-    requires edge { slice_get (W.searching context.now).plan.ops.items opens ≡ Some (Op.WordEdge edge) }
+    requires edge { slice_get (W.searching context.now).plan.ops.items 0 ≡ Some (Op.WordEdge edge) }
     requires at { IsBoundary (W.searching context.now).text from }
     requires executable { let w = W.searching context.now in TreeProgramCanSearchText (program_of w) w.tree w.text }
     ensures at { IsBoundary (W.searching context.now).text result }
     ensures no_match { MatchFailureExtendsUntil (W.searching context.now) from result }
 {
-    if opens != 0 {
-        return from;
-    }
     if edge.invert {
         return from;
     }
@@ -92,7 +92,7 @@ fn past_word<W: SearchContext>(
 // Returns the first offset from `from` on of a unit that the next one repeats, or the end of the
 // text, if each match begins with a group of a character of one byte that a backreference repeats.
 #[inline(always)]
-fn past_unrepeated<W: SearchContext>(context: &W, from: usize) -> usize
+fn skip_to_repeated_unit<W: SearchContext>(context: &W, from: usize) -> usize
     requires at { IsBoundary (W.searching context.now).text from }
     requires executable { let w = W.searching context.now in TreeProgramCanSearchText (program_of w) w.tree w.text }
     ensures at { IsBoundary (W.searching context.now).text result }
@@ -101,10 +101,10 @@ fn past_unrepeated<W: SearchContext>(context: &W, from: usize) -> usize
     if !<<W::Input as HasUnitType>::Units as CodeUnitEncoding>::ARE_BYTES {
         return from;
     }
-    let Some(number) = repeated_class(context) else {
+    let Some(number) = number_of_repeated_leading_class(context) else {
         return from;
     };
-    let Some(class) = class_at(context, number) else {
+    let Some(class) = class_by_number(context, number) else {
         return from;
     };
     if !class.single_unit {
@@ -116,7 +116,7 @@ fn past_unrepeated<W: SearchContext>(context: &W, from: usize) -> usize
 
 // Returns the class with this number, or `None` if there is none.
 #[inline(always)]
-fn class_at<W: SearchContext>(context: &W, number: u32) -> Option<&Class>
+fn class_by_number<W: SearchContext>(context: &W, number: u32) -> Option<&Class>
     ensures { let classes = (W.searching context.now).plan.classes.items in
         option_map (λ class. class.now) result ≡ slice_get classes number }
 {
@@ -126,7 +126,7 @@ fn class_at<W: SearchContext>(context: &W, number: u32) -> Option<&Class>
 // Returns the number of the class of one character in a group with which each match begins, and
 // which a backreference repeats; `None` if matches begin otherwise.
 #[inline(always)]
-fn repeated_class<W: SearchContext>(context: &W) -> Option<u32>
+fn number_of_repeated_leading_class<W: SearchContext>(context: &W) -> Option<u32>
     ensures { IfSome result (BeginsWithRepeatedChar (W.searching context.now).plan) }
 {
     let Some(Op::OpenGroup(group)) = context.op_at(0) else {
@@ -157,12 +157,12 @@ fn repeated_class<W: SearchContext>(context: &W) -> Option<u32>
 fn next_repeated_unit<W: SearchContext>(context: &W, from: usize) -> usize
     requires { IsBoundary (W.searching context.now).text from }
     ensures at { IsBoundary (W.searching context.now).text result }
-    ensures alone { (at : ℕ) → from ≤ at → at < result → IsUnrepeated (W.searching context.now) at }
+    ensures alone { (at : ℕ) → from ≤ at → at < result → NextUnitDoesNotRepeatAsciiUnit (W.searching context.now) at }
 {
     let end = text_end(context);
     let mut at = from;
     'units: while end - at > 1 {
-        if is_repeated(context, at) {
+        if is_ascii_unit_repeated_next(context, at) {
             return at;
         }
         at += 1;
@@ -172,10 +172,10 @@ fn next_repeated_unit<W: SearchContext>(context: &W, from: usize) -> usize
 
 // Checks whether the unit at an offset is below 128, and the next one repeats it.
 #[inline(always)]
-fn is_repeated<W: SearchContext>(context: &W, at: usize) -> bool
+fn is_ascii_unit_repeated_next<W: SearchContext>(context: &W, at: usize) -> bool
     requires { at + 1 < units (W.searching context.now).text }
     ensures boundary { result ≡ true → IsBoundary (W.searching context.now).text at }
-    ensures alone { result ≡ false → IsUnrepeated (W.searching context.now) at }
+    ensures alone { result ≡ false → NextUnitDoesNotRepeatAsciiUnit (W.searching context.now) at }
 {
     let unit = unit_at_offset(context, at);
     if unit >= 128 {
@@ -185,8 +185,16 @@ fn is_repeated<W: SearchContext>(context: &W, at: usize) -> bool
 }
 
 // Does the same for a char loop that exists.
+// Contract: the loop `run` follows `opens` operations that open groups. `executable` says that the
+// program can search the text. `no_match` says that if no match begins at the boundary `from`, none
+// begins between it and the result, which is a boundary too.
 #[inline(always)]
-fn past_run<W: SearchContext>(context: &W, opens: usize, run: CharLoop, from: usize) -> usize
+fn skip_run_of_leading_char_loop<W: SearchContext>(
+    context: &W,
+    opens: usize,
+    run: CharLoop,
+    from: usize,
+) -> usize
     requires opens { OnlyOpensGroups (W.searching context.now).plan opens }
     requires run { let ops = (W.searching context.now).plan.ops.items in
         option_and_then op_as_char_loop (slice_get ops opens) ≡ Some run }
@@ -202,15 +210,15 @@ fn past_run<W: SearchContext>(context: &W, opens: usize, run: CharLoop, from: us
         return from;
     }
     let class = context.class_with_number(run.class);
-    far_end(context, class, from)
+    end_of_class_chars(context, class, from)
 }
 
 // Returns the offset after all characters of a class to the right.
 #[inline(always)]
-fn far_end<W: SearchContext>(context: &W, class: &Class, from: usize) -> usize
+fn end_of_class_chars<W: SearchContext>(context: &W, class: &Class, from: usize) -> usize
     requires class { ClassFitsText (W.searching context.now) class.now }
     requires at { IsBoundary (W.searching context.now).text from }
-    ensures { let w = W.searching context.now in HasAdvancedTo w true class.now from (units w.text) result }
+    ensures { let w = W.searching context.now in HasScannedClassCharsTo w true class.now from (units w.text) result }
 {
     let end = text_end(context);
     if !class.single_unit {

@@ -3,12 +3,12 @@
 ghost use Rattle.std.specs.Prelude.{◌≤◌, ◌≡◌, ◌<◌, true};
 ghost use Rattle.regex_meaning.specs.CodeUnitOffsets.{IsBoundary, units};
 ghost use Rattle.regress_program.specs.Leaps.{AreGoalsFewAscii, AreHighKeysAlike};
-ghost use Rattle.regress_search.specs.Leaping.{is_passed_at, IsPastBarrier, IsFirstOfPassedUnits, LeapLeads};
+ghost use Rattle.regress_search.specs.Leaping.{may_read_unit_before_goal, IsPastBarriersBeforeGoal, IsFirstOffsetReadableUpToGoal, IsTargetOfLeap};
 ghost use Rattle.regress_search.specs.StartSearch.{IsFirstAllowedBoundary, table_of_listed_units};
 
 use crate::class_char_and_table_lookups::{unit_at_offset, unit_key_at_offset};
 use crate::few_units_finder::FewUnitsFinder;
-use crate::few_wide_units::next_wide;
+use crate::few_wide_units::next_16_bit_unit_with_key;
 use crate::search_context::SearchContext;
 use crate::start_search::next_of_few_units;
 use regress_input::indexing::{CodeUnitEncoding, HasUnitType};
@@ -26,15 +26,19 @@ pub struct LeapTarget {
 /// Returns where a leap from an offset leads. Returns `None` if there is no goal at that offset or
 /// later.
 #[inline(never)]
-pub fn leap_from<W: SearchContext>(context: &W, leap: &Leap, from: usize) -> Option<LeapTarget>
+pub fn leap_target_from<W: SearchContext>(
+    context: &W,
+    leap: &Leap,
+    from: usize,
+) -> Option<LeapTarget>
     requires at { IsBoundary (W.searching context.now).text from }
     requires ascii { AreGoalsFewAscii leap.now }
     requires alike { AreHighKeysAlike leap.now }
-    ensures { LeapLeads (W.searching context.now) leap.now from result }
+    ensures { IsTargetOfLeap (W.searching context.now) leap.now from result }
 {
     match next_goal(context, leap, from) {
         Some(goal) => {
-            let to = behind_barrier(context, leap, from, goal);
+            let to = offset_past_barrier_before_goal(context, leap, from, goal);
             Some(LeapTarget { to, goal })
         }
         None => None,
@@ -56,23 +60,30 @@ fn next_goal<W: SearchContext>(context: &W, leap: &Leap, from: usize) -> Option<
     if <<W::Input as HasUnitType>::Units as CodeUnitEncoding>::ARE_BYTES {
         next_of_few_units(context, few, from)
     } else {
-        next_wide(context, few, from)
+        next_16_bit_unit_with_key(context, few, from)
     }
 }
 
 // Returns an offset at `from` or later. A match that begins at `from` or later and before it does
 // not reach `goal`, because it would have to read a barrier: a unit that it may not read on its way
 // to the goal. The barrier is at the returned offset or just before it.
+// Contract: `from` and `goal` are boundaries of the text, in this order. `alike` says that the leap
+// does not distinguish the keys from 128 on.
 #[inline(always)]
-fn behind_barrier<W: SearchContext>(context: &W, leap: &Leap, from: usize, goal: usize) -> usize
+fn offset_past_barrier_before_goal<W: SearchContext>(
+    context: &W,
+    leap: &Leap,
+    from: usize,
+    goal: usize,
+) -> usize
     requires from { IsBoundary (W.searching context.now).text from }
     requires goal { IsBoundary (W.searching context.now).text goal }
     requires ahead { from ≤ goal }
     requires inside { goal ≤ units (W.searching context.now).text }
     requires alike { AreHighKeysAlike leap.now }
-    ensures { IsPastBarrier (W.searching context.now) leap.now from goal result }
+    ensures { IsPastBarriersBeforeGoal (W.searching context.now) leap.now from goal result }
 {
-    let at = first_passed(context, leap, from, goal);
+    let at = first_offset_readable_up_to_goal(context, leap, from, goal);
     if at <= from {
         return at;
     }
@@ -83,15 +94,20 @@ fn behind_barrier<W: SearchContext>(context: &W, leap: &Leap, from: usize, goal:
 // Returns the first offset at `from` or later such that a match may read all units between it and
 // `goal`.
 #[inline(always)]
-fn first_passed<W: SearchContext>(context: &W, leap: &Leap, from: usize, goal: usize) -> usize
+fn first_offset_readable_up_to_goal<W: SearchContext>(
+    context: &W,
+    leap: &Leap,
+    from: usize,
+    goal: usize,
+) -> usize
     requires ahead { from ≤ goal }
     requires inside { goal ≤ units (W.searching context.now).text }
     requires alike { AreHighKeysAlike leap.now }
-    ensures { IsFirstOfPassedUnits (W.searching context.now) leap.now from goal result }
+    ensures { IsFirstOffsetReadableUpToGoal (W.searching context.now) leap.now from goal result }
 {
     let mut at = goal;
     'back: while at > from {
-        if !is_passed(context, leap, at - 1) {
+        if !may_read_unit_on_way_to_goal(context, leap, at - 1) {
             return at;
         }
         at -= 1;
@@ -102,10 +118,10 @@ fn first_passed<W: SearchContext>(context: &W, leap: &Leap, from: usize, goal: u
 // Checks whether a match may read the unit at an offset on its way to the goal. For 16-bit units,
 // the entry of 128 stands for all units from 128 on.
 #[inline(always)]
-fn is_passed<W: SearchContext>(context: &W, leap: &Leap, at: usize) -> bool
+fn may_read_unit_on_way_to_goal<W: SearchContext>(context: &W, leap: &Leap, at: usize) -> bool
     requires inside { at < units (W.searching context.now).text }
     requires alike { AreHighKeysAlike leap.now }
-    ensures { result ≡ is_passed_at (W.searching context.now) leap.now at }
+    ensures { result ≡ may_read_unit_before_goal (W.searching context.now) leap.now at }
 {
     if <<W::Input as HasUnitType>::Units as CodeUnitEncoding>::ARE_BYTES {
         leap.over[unit_key_at_offset(context, at)]

@@ -40,7 +40,7 @@ impl<'p> StartLiteralFinder<'p> {
                 return finder.find(bytes);
             }
         }
-        find_anew(row, bytes)
+        find_literal_without_cached_finder(row, bytes)
     }
 }
 
@@ -58,7 +58,7 @@ fn known_start_literal(start: &CandidateStarts) -> Option<&[u8]> {
 // Returns the first index at which a literal occurs, without a cached finder.
 #[cold]
 #[inline(never)]
-fn find_anew(row: &[u8], bytes: &[u8]) -> Option<usize>
+fn find_literal_without_cached_finder(row: &[u8], bytes: &[u8]) -> Option<usize>
     ensures { FindsNeedle bytes.now row.now 0 result }
 {
     memmem::find(bytes, row)

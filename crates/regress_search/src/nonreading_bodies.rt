@@ -9,7 +9,7 @@ use crate::search_context::SearchContext;
 use regress_program::ops::Op;
 
 /// The maximum length of a body, in operations, that is checked. It limits the time of the check.
-const MOST: usize = 64;
+const MAX_CHECKED_BODY_LENGTH: usize = 64;
 
 /// Checks whether the body of a loop, from `head` to `end`, is short and reads nothing. A body that
 /// changes groups has to have a single path.
@@ -19,15 +19,21 @@ pub fn loop_body_reads_nothing<W: SearchContext>(context: &W, head: usize, end: 
     ensures body { result ≡ true
         → (forks : Bool) × ReadsNothingUntil forks (program_of (W.searching context.now)) (head + 1) end }
 {
-    if head >= end || end - head > MOST {
+    if head >= end || end - head > MAX_CHECKED_BODY_LENGTH {
         return false;
     }
-    all_lead_on(context, false, head + 1, end) || all_lead_on(context, true, head + 1, end)
+    are_nonreading_forward_ops(context, false, head + 1, end)
+        || are_nonreading_forward_ops(context, true, head + 1, end)
 }
 
 // Checks whether each operation in `from..end` reads nothing and continues at a later operation, up
 // to `end`.
-fn all_lead_on<W: SearchContext>(context: &W, forks: bool, from: usize, end: usize) -> bool
+fn are_nonreading_forward_ops<W: SearchContext>(
+    context: &W,
+    forks: bool,
+    from: usize,
+    end: usize,
+) -> bool
     ensures { result ≡ true → ReadsNothingUntil forks (program_of (W.searching context.now)) from end }
 {
     for ip in from..end {
@@ -50,8 +56,8 @@ fn reads_nothing_toward_end<W: SearchContext>(
 {
     context.lemma_plan_fits_program();
     match context.op_at(ip) {
-        Some(Op::Goto(to)) => is_nearer(ip, *to, end),
-        Some(Op::Either(other)) => forks && is_nearer(ip, *other, end),
+        Some(Op::Goto(to)) => is_jump_forward_up_to_end(ip, *to, end),
+        Some(Op::Either(other)) => forks && is_jump_forward_up_to_end(ip, *other, end),
         Some(Op::ResetGroup(_)) => !forks,
         Some(Op::OpenGroup(_)) => !forks,
         Some(Op::CloseGroup(_)) => !forks,
@@ -60,7 +66,7 @@ fn reads_nothing_toward_end<W: SearchContext>(
 }
 
 // Checks whether `to` is after `ip` and not after `end`.
-fn is_nearer(ip: usize, to: u32, end: usize) -> bool
+fn is_jump_forward_up_to_end(ip: usize, to: u32, end: usize) -> bool
     ensures { result ≡ true → (ip < to) × (to ≤ end) }
 {
     ip < to as usize && to as usize <= end

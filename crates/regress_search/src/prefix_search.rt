@@ -31,8 +31,8 @@ impl ByteSearcher for PrefixAndItsRequiredUnit<'_> {
     #[inline(always)]
     fn find_in(&self, bytes: &[u8]) -> Option<usize> {
         match self.rare {
-            Some(rare) => find_rare(self.prefix, rare, bytes),
-            None => find_fitting(self.prefix, bytes),
+            Some(rare) => find_prefix_by_required_unit(self.prefix, rare, bytes),
+            None => find_prefix_by_shift_or(self.prefix, bytes),
         }
     }
 }
@@ -55,7 +55,7 @@ impl ByteSearcher for PrefixAndLiteralFinder<'_, '_> {
 
     #[inline(always)]
     fn find_in(&self, bytes: &[u8]) -> Option<usize> {
-        find_literal(self.kept, self.prefix, self.literal, bytes)
+        find_prefix_by_literal(self.kept, self.prefix, self.literal, bytes)
     }
 }
 
@@ -63,7 +63,7 @@ impl ByteSearcher for PrefixAndLiteralFinder<'_, '_> {
 // algorithm: bit `j` of the state is clear if the last `j` units may be the first `j` units of a
 // match.
 #[inline(always)]
-fn find_fitting(prefix: &Prefix, bytes: &[u8]) -> Option<usize>
+fn find_prefix_by_shift_or(prefix: &Prefix, bytes: &[u8]) -> Option<usize>
     requires { 0 < prefix.now.len }
     ensures { FindsPrefix prefix.now bytes.now result }
 {
@@ -83,7 +83,11 @@ fn find_fitting(prefix: &Prefix, bytes: &[u8]) -> Option<usize>
 
 // Returns the same index by a search for the required unit.
 #[inline(always)]
-fn find_rare(prefix: &Prefix, rare: RequiredUnitAndOffset, bytes: &[u8]) -> Option<usize>
+fn find_prefix_by_required_unit(
+    prefix: &Prefix,
+    rare: RequiredUnitAndOffset,
+    bytes: &[u8],
+) -> Option<usize>
     requires { IsOnlyUnitAllowedAtPosition prefix.now rare }
     ensures { FindsPrefix prefix.now bytes.now result }
 {
@@ -93,7 +97,7 @@ fn find_rare(prefix: &Prefix, rare: RequiredUnitAndOffset, bytes: &[u8]) -> Opti
             return None;
         };
         at += more;
-        if fits_between(prefix, bytes, at, 0, prefix.len) {
+        if prefix_units_fit_in_range(prefix, bytes, at, 0, prefix.len) {
             return Some(at);
         }
         at += 1;
@@ -103,7 +107,7 @@ fn find_rare(prefix: &Prefix, rare: RequiredUnitAndOffset, bytes: &[u8]) -> Opti
 
 // Returns the same index by a search for the required literal.
 #[inline(always)]
-fn find_literal(
+fn find_prefix_by_literal(
     kept: &StartLiteralFinder<'_>,
     prefix: &Prefix,
     literal: &Literal,
@@ -120,7 +124,7 @@ fn find_literal(
             return None;
         };
         at += more;
-        if fits_beside(prefix, literal, bytes, at) {
+        if prefix_fits_around_literal(prefix, literal, bytes, at) {
             return Some(at);
         }
         at += 1;
@@ -131,21 +135,27 @@ fn find_literal(
 // Checks whether the prefix may occur at an index. The literal occurs in it, so the literal's units
 // are not tested again.
 #[inline(always)]
-fn fits_beside(prefix: &Prefix, literal: &Literal, bytes: &[u8], at: usize) -> bool
+fn prefix_fits_around_literal(prefix: &Prefix, literal: &Literal, bytes: &[u8], at: usize) -> bool
     requires literal { IsLiteralForcedByPrefix prefix.now literal.now }
     requires row { OccursAt bytes.now (take literal.now.len literal.now.units) (at + literal.now.ahead) }
     ensures { result ≡ prefix_allows_units_at (units_allowed_by_prefix prefix.now) bytes.now at prefix.now.len }
 {
-    if !fits_between(prefix, bytes, at, 0, literal.ahead) {
+    if !prefix_units_fit_in_range(prefix, bytes, at, 0, literal.ahead) {
         return false;
     }
-    fits_between(prefix, bytes, at, literal.ahead + literal.len, prefix.len)
+    prefix_units_fit_in_range(prefix, bytes, at, literal.ahead + literal.len, prefix.len)
 }
 
 // Checks whether the first `to` units of the prefix may occur at an index. The first `from` of them
 // are known, and are not tested again.
 #[inline(always)]
-fn fits_between(prefix: &Prefix, bytes: &[u8], at: usize, from: usize, to: usize) -> bool
+fn prefix_units_fit_in_range(
+    prefix: &Prefix,
+    bytes: &[u8],
+    at: usize,
+    from: usize,
+    to: usize,
+) -> bool
     requires at { at ≤ length bytes.now }
     requires order { from ≤ to }
     requires inside { to ≤ prefix.now.len }

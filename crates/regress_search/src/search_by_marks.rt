@@ -5,7 +5,7 @@ ghost use Rattle.std.specs.Int.{bit_at};
 ghost use Rattle.regex_meaning.specs.CodeUnitOffsets.{units};
 ghost use Rattle.regex_meaning.specs.CodeUnits.{text_units_in_encoding};
 ghost use Rattle.regress_input.specs.TextCodeUnits.{MarksUnitsWithBits};
-ghost use Rattle.regress_search.specs.MarkedOffsets.{NonePasses, IsFirstPassing, MarksAllPassing};
+ghost use Rattle.regress_search.specs.MarkedOffsets.{TestFailsThroughoutRange, IsFirstPassingOffset, MarksAllPassing};
 ghost use Rattle.regress_search.specs.TreePlanAndText.{SearchInput};
 
 use crate::search_context::SearchContext;
@@ -38,7 +38,7 @@ pub(crate) trait OffsetTest<W: SearchContext> {
     #[inline(always)]
     fn rejects(&self, context: &W, at: usize) -> bool
         requires { at + 31 + reach self.now ≤ units (W.searching context.now).text }
-        ensures { result ≡ true → NonePasses (passes_at self.now (W.searching context.now)) at (at + 32) }
+        ensures { result ≡ true → TestFailsThroughoutRange (passes_at self.now (W.searching context.now)) at (at + 32) }
     {
         false
     }
@@ -74,7 +74,7 @@ pub(crate) fn first_by_marks<W: SearchContext, Test: OffsetTest<W>>(
 ) -> Option<usize>
     requires order { from ≤ to }
     requires room { from < to → to + Test.reach test.now ≤ units (W.searching context.now).text + 1 }
-    ensures { IsFirstPassing (Test.passes_at test.now (W.searching context.now)) from to result }
+    ensures { IsFirstPassingOffset (Test.passes_at test.now (W.searching context.now)) from to result }
 {
     let mut at = from;
     'blocks: while to - at >= LANES {
@@ -99,10 +99,10 @@ fn past_blocks_without_marks<W: SearchContext, Test: OffsetTest<W>>(
     requires room { from < to → to + Test.reach test.now ≤ units (W.searching context.now).text + 1 }
     ensures low { from ≤ result }
     ensures high { result ≤ to }
-    ensures passed { NonePasses (Test.passes_at test.now (W.searching context.now)) from result }
+    ensures passed { TestFailsThroughoutRange (Test.passes_at test.now (W.searching context.now)) from result }
 {
     let mut at = from;
-    'blocks: while to - at >= LANES && is_quiet(context, test, at) {
+    'blocks: while to - at >= LANES && may_skip_block(context, test, at) {
         at += LANES;
     }
     at
@@ -110,9 +110,13 @@ fn past_blocks_without_marks<W: SearchContext, Test: OffsetTest<W>>(
 
 // Checks whether a block may be skipped, because the test fails at all of its offsets.
 #[inline(always)]
-fn is_quiet<W: SearchContext, Test: OffsetTest<W>>(context: &W, test: &Test, at: usize) -> bool
+fn may_skip_block<W: SearchContext, Test: OffsetTest<W>>(
+    context: &W,
+    test: &Test,
+    at: usize,
+) -> bool
     requires { at + 31 + Test.reach test.now ≤ units (W.searching context.now).text }
-    ensures { result ≡ true → NonePasses (Test.passes_at test.now (W.searching context.now)) at (at + 32) }
+    ensures { result ≡ true → TestFailsThroughoutRange (Test.passes_at test.now (W.searching context.now)) at (at + 32) }
 {
     if test.marks(context, at) == 0 {
         return true;
@@ -129,7 +133,7 @@ fn first_in_block<W: SearchContext, Test: OffsetTest<W>>(
     from: usize,
 ) -> Option<usize>
     requires { from + 31 + Test.reach test.now ≤ units (W.searching context.now).text }
-    ensures { IsFirstPassing (Test.passes_at test.now (W.searching context.now)) from (from + 32) result }
+    ensures { IsFirstPassingOffset (Test.passes_at test.now (W.searching context.now)) from (from + 32) result }
 {
     let mut left = test.strict_marks(context, from);
     'marked: while left != 0 {
@@ -152,7 +156,7 @@ fn first_one_by_one<W: SearchContext, Test: OffsetTest<W>>(
 ) -> Option<usize>
     requires order { from ≤ to }
     requires room { from < to → to + Test.reach test.now ≤ units (W.searching context.now).text + 1 }
-    ensures { IsFirstPassing (Test.passes_at test.now (W.searching context.now)) from to result }
+    ensures { IsFirstPassingOffset (Test.passes_at test.now (W.searching context.now)) from to result }
 {
     let mut at = from;
     'places: while at < to {

@@ -21,13 +21,7 @@ use regress_program::insn::Program;
 use std::alloc::AllocError;
 use std::ops::Range;
 
-/// An executor that tries one start position at a time. Contracts see the tree whose program it
-/// runs, the text, the steps that are left if they are counted, and whether the last attempt
-/// reached the step limit. They also see whether the last attempt had begun (which also allocates
-/// memory), and the groups of the last attempt that found an end. If work is counted, they see the
-/// work that is left, what an attempt costs, whether the work left suffices for attempts in
-/// ascending order of offsets, the least offset of the next such attempt, and whether the last
-/// attempt reached the work limit.
+/// An executor that tries one start position at a time.
 ///
 /// If steps are counted, only the positions that the start predicate admits are tried. If work is
 /// counted, each position is tried.
@@ -35,22 +29,29 @@ pub trait SingleAttemptExecutor {
     /// The text that is searched.
     type Input: InputIndexer;
 
+    // The tree of the pattern.
     ghost tree: { Self → Tree };
 
+    // The text.
     ghost text: { Self → Text };
 
+    // The steps that are left; `None` if they are not counted.
     ghost budget: { Self → Option ℕ } = { λ _. None };
 
+    // Whether the last attempt reached the step limit.
     ghost out_of_steps: { Self → Bool } = { λ _. false };
 
+    // Whether the last attempt had begun. Beginning also allocates memory.
     ghost has_begun: { Self → Type 0 } = { λ _. ⊤ };
 
     // Whether the work limit suffices for attempts in ascending order of offsets, each at `ahead`
     // or later.
     ghost enough: { Self → Bool } = { λ _. true };
 
+    // The least offset of the next such attempt.
     ghost ahead: { Self → ℕ } = { λ _. 0 };
 
+    // Whether the last attempt reached the work limit.
     ghost out_of_work: { Self → Bool } = { λ _. false };
 
     // The work that is left, if work is counted.
@@ -65,6 +66,7 @@ pub trait SingleAttemptExecutor {
     // What an attempt costs, if work is counted (see `CostsOfSearches`).
     ghost attempt_costs: { Tree → Text → Failures → (at cost : ℕ) → Option Failures → Type 0 } = { λ _ _ _ _ _ _. ⊤ };
 
+    // The groups of the last attempt that found an end.
     ghost groups: { Self → Groups };
 
     /// Returns the program that is run.
@@ -77,6 +79,11 @@ pub trait SingleAttemptExecutor {
 
     /// Returns the end of the match of highest priority that begins at `pos`. After that, `group`
     /// returns its groups.
+    ///
+    /// The clause `found` says which end and groups are found. The clauses `steps`, `begun` and
+    /// `cause` say which steps are spent and which error is returned. The clauses `work`, `left`,
+    /// `within` and `cost` say whether the work limit suffices and how much work is taken, and
+    /// `same` says that the tree and the text stay the same.
     ///
     /// # Errors
     ///
@@ -125,6 +132,9 @@ pub trait SingleAttemptExecutor {
 
     /// Returns the first position to try at a given position or later. No match begins before it.
     /// Returns `None` if no match begins at the given position or later.
+    ///
+    /// If steps are counted, `counted` says which position this is. If work is counted,
+    /// `next_if_work_counted` says that it is the given position.
     fn first_start_to_try_from(
         &self,
         pos: <Self::Input as InputIndexer>::Position,
@@ -134,11 +144,15 @@ pub trait SingleAttemptExecutor {
             NextStartSkipsNoMatch (tree self.now) (text self.now) (at pos) (option_map at result) }
         ensures counted { let at = Self.Input.Position.offset in IsSome (budget self.now)
             → option_map at result ≡ first_filtered_start (tree self.now) (text self.now) (at pos) }
-        ensures at_work { let at = Self.Input.Position.offset in
+        ensures next_if_work_counted { let at = Self.Input.Position.offset in
             IfWorkIsCounted counts_work (option_map at result ≡ Some (at pos)) };
 
     /// Returns the next position to try after one at which no match begins. No match begins in
     /// between. Returns `None` if no match begins later.
+    ///
+    /// If steps are counted, `counted` says which position this is. If work is counted,
+    /// `next_if_work_counted` says that it is the position one character further, or `None` at the
+    /// end of the text or if the pattern matches only at its left end.
     fn next_start_after_failure(
         &self,
         tried: <Self::Input as InputIndexer>::Position,
@@ -149,7 +163,7 @@ pub trait SingleAttemptExecutor {
             NextStartSkipsNoMatch (tree self.now) (text self.now) (at tried + 1) (option_map at result) }
         ensures counted { let at = Self.Input.Position.offset in IsSome (budget self.now)
             → option_map at result ≡ next_filtered_start (tree self.now) (text self.now) (at tried) }
-        ensures at_work { let at = Self.Input.Position.offset in IfWorkIsCounted counts_work (option_map at result
+        ensures next_if_work_counted { let at = Self.Input.Position.offset in IfWorkIsCounted counts_work (option_map at result
             ≡ next_attempt_offset (tree self.now) (text self.now) (at tried)) };
 
     ghost is_text: { (it : Self) → HasRisingPlaceOffsets (text it) };
@@ -157,7 +171,10 @@ pub trait SingleAttemptExecutor {
 
 /// Returns the range of a group by id. Returns `None` if the group did not match or does not exist.
 #[inline(always)]
-pub fn group_at<P: PositionType>(groups: &[Option<(P, P)>], id: usize) -> Option<(P, P)>
+pub fn position_range_of_group<P: PositionType>(
+    groups: &[Option<(P, P)>],
+    id: usize,
+) -> Option<(P, P)>
     ensures { option_map (offset_range_of_positions P.offset) result
         ≡ group_range (map (option_map (offset_range_of_positions P.offset)) groups.now) id }
 {

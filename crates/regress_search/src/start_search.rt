@@ -14,7 +14,7 @@ ghost use Rattle.regress_search.specs.StartSearch.{AllowsOnlyLeadBytes, SkipsNoB
 
 use crate::class_char_and_table_lookups::{set_allows_next_unit, unit_key_at_offset};
 use crate::few_units_finder::FewUnitsFinder;
-use crate::few_wide_units::{are_told_by_bits, next_wide};
+use crate::few_wide_units::{do_bits_identify_units, next_16_bit_unit_with_key};
 use crate::literal_finder::LONG;
 use crate::prefix_search::{PrefixAndItsRequiredUnit, PrefixAndLiteralFinder};
 use crate::search_context::{
@@ -77,7 +77,7 @@ impl StartSet for FewUnitsFinder {
 
 // Returns the offset past a code unit, or past a character if units are not bytes.
 #[inline(always)]
-fn past_unit<W: SearchContext>(context: &W, at: usize) -> usize
+fn offset_after_unit_or_char<W: SearchContext>(context: &W, at: usize) -> usize
     requires inside { at < units (W.searching context.now).text }
     requires at { let w = W.searching context.now in
         is_byte_encoding w.encoding ≡ false → IsBoundary w.text at }
@@ -108,7 +108,7 @@ fn first_allowed_offset<W: SearchContext, Set: StartSet>(
         if set.has_key(unit_key_at_offset(context, at)) {
             return Some(at);
         }
-        at = past_unit(context, at);
+        at = offset_after_unit_or_char(context, at);
     }
     if set.has_end() { Some(at) } else { None }
 }
@@ -174,8 +174,8 @@ fn next_of_few_wide_units<W: SearchContext>(
     requires at { IsBoundary (W.searching context.now).text from }
     ensures { IsFirstAllowedBoundary (W.searching context.now) (table_of_listed_units few.units few.len) from result }
 {
-    if are_told_by_bits(few) {
-        next_wide(context, few, from)
+    if do_bits_identify_units(few) {
+        next_16_bit_unit_with_key(context, few, from)
     } else {
         first_allowed_offset(context, &few, from)
     }
@@ -204,7 +204,7 @@ fn next_prefix_match<W: SearchContext>(
 
 // Does the same by a search for the required literal.
 #[inline(never)]
-fn next_literal<W: SearchContext>(
+fn next_prefix_by_literal<W: SearchContext>(
     context: &W,
     prefix: &Prefix,
     literal: &Literal,
@@ -225,8 +225,11 @@ fn next_literal<W: SearchContext>(
 }
 
 // Does the same for a prefix whose units are known. In a long text, it searches for the literal.
+// Contract: `some`, `ascii` and `known` say what the prefix and its prefilter have to be, and the
+// text consists of bytes. The result is the first boundary at `from` or later where the prefix may
+// occur.
 #[inline(always)]
-fn next_known<W: SearchContext>(
+fn next_prefix_with_known_units<W: SearchContext>(
     context: &W,
     prefix: &Prefix,
     known: &LiteralPrefilter,
@@ -245,15 +248,16 @@ fn next_known<W: SearchContext>(
         }
     }
     if text_end(context).saturating_sub(from) > LONG {
-        return next_literal(context, prefix, &known.literal, from);
+        return next_prefix_by_literal(context, prefix, &known.literal, from);
     }
-    next_in_short_text(context, prefix, known, from)
+    next_prefix_in_short_text(context, prefix, known, from)
 }
 
 // Does the same in a short text. It searches for a rare unit if there is one, or uses bit probes if
 // there are any.
+// The contract is that of `next_prefix_with_known_units`.
 #[inline(always)]
-fn next_in_short_text<W: SearchContext>(
+fn next_prefix_in_short_text<W: SearchContext>(
     context: &W,
     prefix: &Prefix,
     known: &LiteralPrefilter,
@@ -276,7 +280,7 @@ fn next_in_short_text<W: SearchContext>(
 
 // Does the same by the prefilter of the plan.
 #[inline(always)]
-fn first_filtered<W: SearchContext>(
+fn next_prefix_by_prefilter<W: SearchContext>(
     context: &W,
     prefix: &Prefix,
     prefilter: &RequiredPrefixPrefilter,
@@ -295,7 +299,9 @@ fn first_filtered<W: SearchContext>(
             PrefixAndBitProbes { prefix, probes },
             from,
         ),
-        RequiredPrefixPrefilter::ByLiteral(known) => next_known(context, prefix, known, from),
+        RequiredPrefixPrefilter::ByLiteral(known) => next_prefix_with_known_units(
+            context, prefix, known, from,
+        ),
         RequiredPrefixPrefilter::Absent => next_prefix_match(context, prefix, None, from),
     }
 }
@@ -305,7 +311,11 @@ fn first_filtered<W: SearchContext>(
 // Returns the offset after the first character at `from` or later that begins with one of a few
 // code units.
 #[inline(always)]
-fn next_after_unit<W: SearchContext>(context: &W, few: FewUnitsFinder, from: usize) -> Option<usize>
+fn start_after_unit<W: SearchContext>(
+    context: &W,
+    few: FewUnitsFinder,
+    from: usize,
+) -> Option<usize>
     requires at { IsBoundary (W.searching context.now).text from }
     requires leads { let wide = is_16_bit_encoding (W.searching context.now).encoding in
         AllowsOnlyLeadBytes wide (table_of_listed_units few.units few.len) }
@@ -323,7 +333,7 @@ fn next_after_unit<W: SearchContext>(context: &W, few: FewUnitsFinder, from: usi
 // Returns the first offset at `from` or later where a match may begin, given the character before
 // it.
 #[inline(never)]
-fn next_by_lookbehind<W: SearchContext>(
+fn next_start_by_preceding_char<W: SearchContext>(
     context: &W,
     before: PrecedingCharFilter,
     from: usize,
@@ -339,12 +349,12 @@ fn next_by_lookbehind<W: SearchContext>(
         .input()
         .next_left_pos(position_in_searched_text(context, from))
     {
-        Some(start) => next_after_unit(context, few, offset_in_searched_text(context, start)),
+        Some(start) => start_after_unit(context, few, offset_in_searched_text(context, start)),
         None => {
             if edge {
                 Some(from)
             } else {
-                next_after_unit(context, few, from)
+                start_after_unit(context, few, from)
             }
         }
     }
@@ -371,14 +381,18 @@ pub fn is_candidate<W: SearchContext>(context: &W, at: usize) -> bool
             };
             at < text_end(context) && few.has(unit_key_at_offset(context, at))
         }
-        CandidateStarts::Behind(before) => is_behind(context, *before, at),
+        CandidateStarts::Behind(before) => preceding_char_allows_start(context, *before, at),
         CandidateStarts::Prefix { prefix, .. } => prefix_fits(context, prefix, at),
     }
 }
 
 // Checks whether a match may begin at an offset, given the character before it.
 #[inline(never)]
-fn is_behind<W: SearchContext>(context: &W, before: PrecedingCharFilter, at: usize) -> bool
+fn preceding_char_allows_start<W: SearchContext>(
+    context: &W,
+    before: PrecedingCharFilter,
+    at: usize,
+) -> bool
     requires { IsBoundary (W.searching context.now).text at }
     ensures { let w = W.searching context.now in result ≡ allows_start w.encoding before w.text at }
 {
@@ -413,8 +427,8 @@ pub fn first_candidate<W: SearchContext>(context: &W, from: usize) -> Option<usi
             };
             next_of_few_units(context, few, from)
         }
-        CandidateStarts::Behind(before) => next_by_lookbehind(context, *before, from),
-        CandidateStarts::Prefix { prefix, prefilter } => first_filtered(
+        CandidateStarts::Behind(before) => next_start_by_preceding_char(context, *before, from),
+        CandidateStarts::Prefix { prefix, prefilter } => next_prefix_by_prefilter(
             context, prefix, prefilter, from,
         ),
     }

@@ -20,12 +20,12 @@ pub(crate) struct PrefixAndBitProbes<'p> {
     pub(crate) prefix: &'p Prefix,
     pub(crate) probes: &'p [MaskedUnitProbe; 4],
     ghost some: { 0 < prefix.now.len },
-    ghost are_probes: { ProbesPassPrefix prefix.now probes.now } by { Prim.hlevel props },
+    ghost probes_pass_prefix: { ProbesPassPrefix prefix.now probes.now } by { Prim.hlevel props },
 }
 
 // Checks whether each unit of the prefix may occur at an offset.
 #[inline(always)]
-fn fits_here<W: SearchContext>(context: &W, prefix: &Prefix, at: usize) -> bool
+fn prefix_fits_at_offset<W: SearchContext>(context: &W, prefix: &Prefix, at: usize) -> bool
     requires { at + prefix.now.len ≤ units (W.searching context.now).text }
     ensures { result ≡ prefix_fits_at (W.searching context.now) prefix.now at }
 {
@@ -46,7 +46,7 @@ pub(crate) fn prefix_fits<W: SearchContext>(context: &W, prefix: &Prefix, at: us
     requires { IsBoundary (W.searching context.now).text at }
     ensures { result ≡ prefix_fits_at (W.searching context.now) prefix.now at }
 {
-    text_end(context) - at >= prefix.len && fits_here(context, prefix, at)
+    text_end(context) - at >= prefix.len && prefix_fits_at_offset(context, prefix, at)
 }
 
 // Returns the marks of the 32 offsets from `at` on at which a probe passes.
@@ -86,7 +86,7 @@ impl<W: SearchContext> OffsetTest<W> for PrefixAndBitProbes<'_> {
 
     #[inline(always)]
     fn passes(&self, context: &W, at: usize) -> bool {
-        fits_here(context, self.prefix, at)
+        prefix_fits_at_offset(context, self.prefix, at)
     }
 }
 
@@ -102,8 +102,8 @@ impl<W: SearchContext> OffsetTest<W> for TwoStageProbes<'_> {
 
     ghost reach = { λ staged. staged.probed.prefix.now.len };
 
-    // A branch on the rarest probe alone would be mispredicted in many blocks, and take longer than the
-    // second probe.
+    // A branch on the rarest probe alone would be mispredicted in many blocks, and take longer than
+    // the second probe.
     #[inline(always)]
     fn marks(&self, context: &W, at: usize) -> u64 {
         self.probed.marks(context, at)
@@ -125,14 +125,14 @@ impl<W: SearchContext> OffsetTest<W> for TwoStageProbes<'_> {
 
     #[inline(always)]
     fn passes(&self, context: &W, at: usize) -> bool {
-        fits_here(context, self.probed.prefix, at)
+        prefix_fits_at_offset(context, self.probed.prefix, at)
     }
 }
 
 // Checks whether a probe passes only for a rare letter: a capital letter, or a letter in both cases
-// that is rare in words. Few blocks have one. Most blocks that it and a second letter mark contain no
-// match, because letters occur together in words. Other rare units are frequent in logs and in source
-// code.
+// that is rare in words. Few blocks have one. Most blocks that it and a second letter mark contain
+// no match, because letters occur together in words. Other rare units are frequent in logs and in
+// source code.
 fn is_of_rare_letter(probe: MaskedUnitProbe) -> bool {
     let is_rare = matches!(probe.bits | 0x20, b'j' | b'k' | b'q' | b'v' | b'x' | b'z');
     match probe.mask {
@@ -144,7 +144,7 @@ fn is_of_rare_letter(probe: MaskedUnitProbe) -> bool {
 
 // Returns the number of offsets at `at` or later that at least `len` units follow.
 #[inline(always)]
-fn places_left(units: usize, at: usize, len: usize) -> usize
+fn number_of_offsets_with_room(units: usize, at: usize, len: usize) -> usize
     requires { units + 1 < 2 ^ 64 }
     ensures { result ≡ units + 1 - (at + len) }
 {
@@ -162,7 +162,7 @@ pub(crate) fn next_by_bit_probes<W: SearchContext>(
     requires ascii { PrefixAllowsOnlyAsciiFirst probed.prefix.now }
     ensures { IsFirstPrefixFit (W.searching context.now) probed.entry.prefix.now from result }
 {
-    let to = from + places_left(text_end(context), from, probed.prefix.len);
+    let to = from + number_of_offsets_with_room(text_end(context), from, probed.prefix.len);
     if is_of_rare_letter(probed.probes[0]) {
         first_by_marks(context, &TwoStageProbes { probed }, from, to)
     } else {

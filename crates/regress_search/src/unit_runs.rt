@@ -41,8 +41,8 @@ pub(crate) fn count_passing<W: SearchContext, Test: KeyTest>(
     count
 }
 
-// Like `count_passing`, but in 16-bit units it may stop at a unit of 128 or more. Units below 128
-// are their own keys.
+// Like `count_passing`, but counts only 16-bit units below 128, which are their own keys. In bytes,
+// where each unit is its own key, one loop is enough, and the count is 0.
 #[inline(always)]
 fn count_passing_ascii<W: SearchContext, Test: KeyTest>(
     context: &W,
@@ -54,7 +54,7 @@ fn count_passing_ascii<W: SearchContext, Test: KeyTest>(
     ensures { UnitsPassKeyTest (W.searching context.now) (Test.key_passes test.now) from most result }
 {
     let mut count = 0;
-    'units: while count < most && is_own_key::<W>(unit_at_offset(context, from + count)) {
+    'units: while count < most && is_wide_ascii::<W>(unit_at_offset(context, from + count)) {
         if !test.passes_key(unit_key_at_offset(context, from + count)) {
             return count;
         }
@@ -63,8 +63,8 @@ fn count_passing_ascii<W: SearchContext, Test: KeyTest>(
     count
 }
 
-// Checks whether a unit is its own key.
+// Checks whether a unit is one of 16 bits below 128.
 #[inline(always)]
-fn is_own_key<W: SearchContext>(unit: u32) -> bool {
-    <<W::Input as HasUnitType>::Units as CodeUnitEncoding>::ARE_BYTES || unit < 128
+fn is_wide_ascii<W: SearchContext>(unit: u32) -> bool {
+    !<<W::Input as HasUnitType>::Units as CodeUnitEncoding>::ARE_BYTES && unit < 128
 }

@@ -7,12 +7,12 @@ ghost use Rattle.regex_meaning.specs.CodeUnitOffsets.{IsBoundary, units};
 use regress_input::cursor::{self, Direction, Forward};
 use regress_input::front::{ByteSearcher, Sameness};
 use regress_input::indexing::{CharProperties, ElementType, InputIndexer};
-use regress_input::matchers::{backref, backref_alike, backref_icase};
+use regress_input::matchers::{backref, backref_canonical, backref_icase};
 use regress_input::position::PositionType;
 use regress_input::scm::SingleCharMatcher;
 
 // Moves the given number of characters to the right, or to the right end.
-fn further<Input: InputIndexer>(
+fn position_moved_right<Input: InputIndexer>(
     input: &Input,
     pos: Input::Position,
     count: usize,
@@ -34,7 +34,7 @@ fn further<Input: InputIndexer>(
 fn position<Input: InputIndexer>(input: &Input, place: usize) -> Input::Position
     ensures { IsBoundary (Input.text input.now) (Input.Position.offset result) }
 {
-    further(input, input.left_end(), place)
+    position_moved_right(input, input.left_end(), place)
 }
 
 // Returns the character next to a place, and the offset past it.
@@ -49,14 +49,20 @@ pub(crate) fn character<Input: InputIndexer, Dir: Direction>(
 }
 
 // Does the same with the calls that return only one of the two.
-pub(crate) fn seen_right<Input: InputIndexer>(input: &Input, place: usize) -> Option<(u32, usize)> {
+pub(crate) fn character_and_end_to_right<Input: InputIndexer>(
+    input: &Input,
+    place: usize,
+) -> Option<(u32, usize)> {
     let pos = position(input, place);
     let c = input.peek_right(pos)?;
     let past = input.next_right_pos(pos)?;
     Some((c.as_u32(), input.pos_to_offset(past)))
 }
 
-pub(crate) fn seen_left<Input: InputIndexer>(input: &Input, place: usize) -> Option<(u32, usize)> {
+pub(crate) fn character_and_end_to_left<Input: InputIndexer>(
+    input: &Input,
+    place: usize,
+) -> Option<(u32, usize)> {
     let pos = position(input, place);
     let c = input.peek_left(pos)?;
     let past = input.next_left_pos(pos)?;
@@ -170,7 +176,7 @@ pub(crate) fn part<Input: InputIndexer>(
     count: usize,
 ) -> (Option<(u32, usize)>, usize) {
     let start = position(input, place);
-    let end = further(input, start, count);
+    let end = position_moved_right(input, start, count);
     let sub = input.subinput(start..end);
     (
         character(&sub, Forward::new(), 0),
@@ -186,12 +192,12 @@ pub(crate) fn past_range<Input: InputIndexer, Dir: Direction>(
     same: Sameness,
 ) -> Option<usize> {
     let start = position(input, place);
-    let end = further(input, start, count);
+    let end = position_moved_right(input, start, count);
     let mut pos = position(input, beside);
     let matches = match same {
         Sameness::Exact => backref(input, dir, start..end, &mut pos),
         Sameness::Folded => backref_icase(input, dir, start..end, &mut pos),
-        Sameness::Alike { unicode } => backref_alike(input, dir, start..end, unicode, &mut pos),
+        Sameness::Alike { unicode } => backref_canonical(input, dir, start..end, unicode, &mut pos),
     };
     if matches {
         Some(input.pos_to_offset(pos))

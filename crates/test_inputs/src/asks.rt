@@ -1,8 +1,9 @@
 //! The questions to an input, and their answers.
 
 use crate::answers::{
-    before_the_end, byte, byte_count, character, classes, folded, folded_alone, found, here, moved,
-    number, part, past_bytes, past_range, seen_left, seen_right, unit,
+    before_the_end, byte, byte_count, character, character_and_end_to_left,
+    character_and_end_to_right, classes, folded, folded_alone, found, here, moved, number, part,
+    past_bytes, past_range, unit,
 };
 use crate::matches::{matching, past_char};
 use regress_input::cursor::{Backward, Direction, Forward};
@@ -102,8 +103,8 @@ fn answer<Input: InputIndexer>(input: &Input, ask: &Ask<'_>) -> Answer {
     match ask.way {
         "right" => beside(input, Forward::new(), ask),
         "left" => beside(input, Backward::new(), ask),
-        "seen right" => seen_right(input, place as usize),
-        "seen left" => seen_left(input, place as usize),
+        "seen right" => character_and_end_to_right(input, place as usize),
+        "seen left" => character_and_end_to_left(input, place as usize),
         _ => of_text(input, ask),
     }
 }

@@ -22,7 +22,7 @@ fn compared<P: PositionType>(p: P, q: P) -> (bool, bool) {
 
 // Returns whether a position differs from the one that stands for none, and whether that one equals
 // itself.
-fn told_from_none<P: PositionType>(units: usize) -> (bool, bool) {
+fn differs_from_none_position<P: PositionType>(units: usize) -> (bool, bool) {
     (
         P::from_offset(units) == P::no_position(),
         P::no_position() == P::no_position(),
@@ -47,7 +47,7 @@ fn compared_in_order<'a>(p: IndexPosition<'a>, q: IndexPosition<'a>) -> (bool, b
     compared(p, q)
 }
 
-fn added<'a>(mut p: IndexPosition<'a>, units: usize) -> IndexPosition<'a>
+fn position_plus_units<'a>(mut p: IndexPosition<'a>, units: usize) -> IndexPosition<'a>
     requires { ⟦<IndexPosition<'a> as PositionType>⟧.offset p + units < 2 ^ 64 }
     ensures { ⟦<IndexPosition<'a> as PositionType>⟧.offset result
         ≡ ⟦<IndexPosition<'a> as PositionType>⟧.offset p.entry + units }
@@ -56,7 +56,7 @@ fn added<'a>(mut p: IndexPosition<'a>, units: usize) -> IndexPosition<'a>
     p
 }
 
-fn taken_off<'a>(mut p: IndexPosition<'a>, units: usize) -> IndexPosition<'a>
+fn position_minus_units<'a>(mut p: IndexPosition<'a>, units: usize) -> IndexPosition<'a>
     requires { units ≤ ⟦<IndexPosition<'a> as PositionType>⟧.offset p }
     ensures { ⟦<IndexPosition<'a> as PositionType>⟧.offset result
         ≡ ⟦<IndexPosition<'a> as PositionType>⟧.offset p.entry - units }
@@ -71,8 +71,8 @@ fn positions_are_offsets(rt: HostRuntime) {
     let offsets = [
         offset_of(IndexPosition::new(3) + 2),
         offset_of(IndexPosition::new(3) - 2),
-        offset_of(added(IndexPosition::new(3), 4)),
-        offset_of(taken_off(IndexPosition::new(3), 2)),
+        offset_of(position_plus_units(IndexPosition::new(3), 4)),
+        offset_of(position_minus_units(IndexPosition::new(3), 2)),
         kept(IndexPosition::new(3)),
     ];
     assert_eq!(rt; offsets, [5, 1, 7, 1, 3]);
@@ -89,7 +89,7 @@ fn positions_are_compared_by_offsets(rt: HostRuntime) {
 
 #[test]
 fn a_position_stands_for_none(rt: HostRuntime) {
-    let answers = told_from_none::<IndexPosition<'_>>(5);
+    let answers = differs_from_none_position::<IndexPosition<'_>>(5);
     assert!(rt; answers == (false, true) && offset_again::<IndexPosition<'_>>(5) == 5);
 }
 

@@ -8,8 +8,8 @@
 // An answer is the number of a character, or 0, followed by an offset, or 0. The answer to `fold`
 // is the fold of the first number, and whether both numbers have the same fold. The answer to
 // `classes` is the sum of 4 for a word character, 2 for a word character if case is ignored, and 1
-// for a line terminator. The answer to `matchers` is the offset for each of the nine matchers. Both
-// numbers of `moved_far` count back from the greatest number.
+// for a line terminator. The answer to `matchers` is the offset for each of the eight matchers of
+// `z`, and for the bytes of `€`. Both numbers of `moved_far` count back from the greatest number.
 //
 // The rows show that literals are read from left to right in both directions, and that a range is
 // not reversed. A low surrogate before a high one is not a pair, and half a pair is not a character

@@ -60,7 +60,8 @@ judged_5_04 : matches (cat (alt (cat (capture_group 0 []
     end_of_cat)))) end_of_cat))
     (alt (cat (char 13) (cat
     match_any end_of_cat))
-    (cat (back_ref 1 exact) (cat (char 107) end_of_cat)))) (cat goal end_of_cat)) (utf8_text (32 ∷ 97 ∷ 32 ∷ 32 ∷ []) true) 0 ≡ []
+    (cat (back_ref 1 exact) (cat (char 107) end_of_cat)))) (cat goal end_of_cat))
+    (utf8_text (32 ∷ 97 ∷ 32 ∷ 32 ∷ []) true) 0 ≡ []
 unfolding matches
 judged_5_04 = refl
 
@@ -396,7 +397,11 @@ judged_5_43 : matches (cat (cat (lookaround (look false true 0 0)
     (cat (char 99) (cat (char 75)
     (cat (char 97) (cat (char 233)
     (cat (char 97) (cat (char 97)
-    (cat (char 97) end_of_cat)))))))))))))))))))))) (cat goal end_of_cat)) (utf8_text (195 ∷ 169 ∷ 115 ∷ 226 ∷ 130 ∷ 172 ∷ 97 ∷ 75 ∷ 97 ∷ 98 ∷ 115 ∷ 98 ∷ 195 ∷ 169 ∷ 115 ∷ 195 ∷ 169 ∷ 98 ∷ 115 ∷ 99 ∷ 75 ∷ 97 ∷ 195 ∷ 169 ∷ 97 ∷ 97 ∷ 97 ∷ 195 ∷ 169 ∷ 115 ∷ 226 ∷ 130 ∷ 172 ∷ 97 ∷ 75 ∷ 97 ∷ 98 ∷ 115 ∷ 98 ∷ 195 ∷ 169 ∷ 115 ∷ 195 ∷ 169 ∷ 98 ∷ 115 ∷ 99 ∷ 75 ∷ 97 ∷ 195 ∷ 169 ∷ 97 ∷ 97 ∷ 97 ∷ 99 ∷ 226 ∷ 130 ∷ 172 ∷ []) false) 0 ≡ (found 27 54 [] ∷ [])
+    (cat (char 97) end_of_cat)))))))))))))))))))))) (cat goal end_of_cat))
+    (utf8_text (195 ∷ 169 ∷ 115 ∷ 226 ∷ 130 ∷ 172 ∷ 97 ∷ 75 ∷ 97 ∷ 98 ∷ 115 ∷ 98 ∷ 195 ∷ 169 ∷ 115 ∷ 195 ∷ 169 ∷ 98
+    ∷ 115 ∷ 99 ∷ 75 ∷ 97 ∷ 195 ∷ 169 ∷ 97 ∷ 97 ∷ 97 ∷ 195 ∷ 169 ∷ 115 ∷ 226 ∷ 130 ∷ 172 ∷ 97 ∷ 75 ∷ 97 ∷ 98
+    ∷ 115 ∷ 98 ∷ 195 ∷ 169 ∷ 115 ∷ 195 ∷ 169 ∷ 98 ∷ 115 ∷ 99 ∷ 75 ∷ 97 ∷ 195 ∷ 169 ∷ 97 ∷ 97 ∷ 97 ∷ 99 ∷ 226
+    ∷ 130 ∷ 172 ∷ []) false) 0 ≡ (found 27 54 [] ∷ [])
 unfolding matches
 judged_5_43 = refl
 

@@ -24,7 +24,7 @@ fn write_error(text: &mut String, row: &str, syntax: Syntax) -> Result<(), Alloc
 
 // Returns the first line of a table that differs from what the parser says about its text, with
 // what the parser says.
-fn first_wrong<'t>(
+fn first_differing_line<'t>(
     alloc: Global,
     table: &'t str,
     syntax: Syntax,
@@ -42,7 +42,7 @@ fn first_wrong<'t>(
 
 #[test]
 fn causes_have_these_places(rt: HostRuntime) -> Result<(), Fail> {
-    if let Some((line, found)) = first_wrong(rt.alloc(), CAUSES, Syntax::Profile)? {
+    if let Some((line, found)) = first_differing_line(rt.alloc(), CAUSES, Syntax::Profile)? {
         assert!(rt; false, "{found} at {line}");
     }
     Ok(())
@@ -50,7 +50,7 @@ fn causes_have_these_places(rt: HostRuntime) -> Result<(), Fail> {
 
 #[test]
 fn causes_in_the_whole_language_have_these_places(rt: HostRuntime) -> Result<(), Fail> {
-    if let Some((line, found)) = first_wrong(
+    if let Some((line, found)) = first_differing_line(
         rt.alloc(),
         ECMASCRIPT_CAUSES,
         Syntax::EcmaScript2018,
@@ -85,7 +85,10 @@ fn causes_are_told_where_patterns_are_refused(rt: HostRuntime) -> Result<(), Fai
 }
 
 // Returns the diagnosis of a text: the first piece, 65,536 copies of the second, and the third.
-fn told_around(alloc: Global, pieces: [&str; 3]) -> Result<Option<Diagnosis>, AllocError> {
+fn diagnosis_of_repeated_piece(
+    alloc: Global,
+    pieces: [&str; 3],
+) -> Result<Option<Diagnosis>, AllocError> {
     let mut pattern = code_points(alloc, pieces[0])?;
     add(&mut pattern, pieces[1], 65536)?;
     add(&mut pattern, pieces[2], 1)?;
@@ -107,7 +110,7 @@ fn one_group_is_too_many_whatever_else_is_wrong(rt: HostRuntime) -> Result<(), F
             at,
         };
         assert!(rt;
-            told_around(rt.alloc(), pieces)? == Some(wanted),
+            diagnosis_of_repeated_piece(rt.alloc(), pieces)? == Some(wanted),
             "{}",
             pieces[1]
         );
@@ -116,7 +119,10 @@ fn one_group_is_too_many_whatever_else_is_wrong(rt: HostRuntime) -> Result<(), F
 }
 
 // Returns the diagnosis of a pattern that is refused.
-fn told_of(alloc: Global, pattern: &str) -> Result<Option<Diagnosis>, AllocError> {
+fn diagnosis_of_refused_pattern(
+    alloc: Global,
+    pattern: &str,
+) -> Result<Option<Diagnosis>, AllocError> {
     let pattern = code_points(alloc, pattern)?;
     diagnose(alloc, &pattern, Flags::default())
 }
@@ -134,7 +140,7 @@ const OFFSETS: [(&str, usize); 6] = [
 #[test]
 fn places_have_these_offsets(rt: HostRuntime) -> Result<(), Fail> {
     for (pattern, wanted) in OFFSETS {
-        let told = told_of(rt.alloc(), pattern)?;
+        let told = diagnosis_of_refused_pattern(rt.alloc(), pattern)?;
         assert!(rt;
             told.map(|it| it.offset_in(pattern)) == Some(wanted),
             "{pattern}"
@@ -164,7 +170,7 @@ fn write_shown(text: &mut String, pattern: &str) -> Result<(), AllocError> {
 
 // Writes the same for a pattern that is given as a text.
 fn write_shown_below_text(text: &mut String, pattern: &str) -> Result<(), AllocError> {
-    match told_of(*text.allocator(), pattern)? {
+    match diagnosis_of_refused_pattern(*text.allocator(), pattern)? {
         Some(diagnosis) => write!(text, "{}", diagnosis.below_text(pattern)),
         None => Ok(()),
     }

@@ -67,7 +67,7 @@ fn write_answer(
 
 // Returns the first line of a table whose pattern has another tree than the line says, with that
 // tree.
-fn first_wrong<'t>(
+fn first_differing_line<'t>(
     alloc: Global,
     table: &'t str,
     syntax: Syntax,
@@ -86,7 +86,7 @@ fn first_wrong<'t>(
 
 #[test]
 fn patterns_have_these_trees(rt: HostRuntime) -> Result<(), Fail> {
-    if let Some((line, found)) = first_wrong(rt.alloc(), PATTERNS, Syntax::Profile)? {
+    if let Some((line, found)) = first_differing_line(rt.alloc(), PATTERNS, Syntax::Profile)? {
         assert!(rt; false, "{found} at {line}");
     }
     Ok(())
@@ -94,7 +94,7 @@ fn patterns_have_these_trees(rt: HostRuntime) -> Result<(), Fail> {
 
 #[test]
 fn patterns_of_the_whole_language_have_these_trees(rt: HostRuntime) -> Result<(), Fail> {
-    if let Some((line, found)) = first_wrong(
+    if let Some((line, found)) = first_differing_line(
         rt.alloc(),
         ECMASCRIPT_PATTERNS,
         Syntax::EcmaScript2018,

@@ -45,7 +45,7 @@ fn write_each(text: &mut String, plan: &Plan) -> Result<(), AllocError> {
 // scan may end.
 fn write_class(text: &mut String, class: &Class) -> Result<(), AllocError> {
     text.push_str(if class.single_unit { "single" } else { "wide" })?;
-    write_steps(text, &class.steps)?;
+    write_class_steps(text, &class.steps)?;
     match &class.stops {
         Some(stops) => write_bytes(text, " stops", stops.bytes.get(..stops.len).unwrap_or(&[])),
         None => Ok(()),
@@ -54,7 +54,7 @@ fn write_class(text: &mut String, class: &Class) -> Result<(), AllocError> {
 
 // Writes each step after the first key of a run of keys that have it. Before the first one, keys
 // have the step 0.
-fn write_steps(text: &mut String, steps: &[u8; 256]) -> Result<(), AllocError> {
+fn write_class_steps(text: &mut String, steps: &[u8; 256]) -> Result<(), AllocError> {
     let mut before = 0;
     for (key, step) in steps.iter().enumerate() {
         if *step != before {

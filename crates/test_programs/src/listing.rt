@@ -20,7 +20,7 @@ pub(crate) fn write_program(
 }
 
 // Writes the program for texts of 16-bit units, or why there is none.
-pub(crate) fn write_units(
+pub(crate) fn write_unit_program(
     alloc: Global,
     text: &mut String,
     tree: &Regex,
@@ -56,31 +56,43 @@ fn write_insns(text: &mut String, insns: &[Insn]) -> Result<(), AllocError> {
 fn write_insn(text: &mut String, insn: &Insn) -> Result<(), AllocError> {
     match insn {
         Insn::Goal => text.push_str("Goal"),
-        Insn::Alt { secondary } => write_word(text, "Alt", &[*secondary as usize]),
-        Insn::Jump { target } => write_word(text, "Jump", &[*target as usize]),
-        Insn::EnterLoop { .. } => write_head(text, &insn.loop_fields()),
-        Insn::LoopAgain { begin } => write_word(text, "LoopAgain", &[*begin as usize]),
+        Insn::Alt { secondary } => push_word_and_numbers(text, "Alt", &[*secondary as usize]),
+        Insn::Jump { target } => push_word_and_numbers(text, "Jump", &[*target as usize]),
+        Insn::EnterLoop { .. } => write_loop_fields(text, &insn.loop_fields()),
+        Insn::LoopAgain { begin } => push_word_and_numbers(text, "LoopAgain", &[*begin as usize]),
         Insn::Loop1CharBody {
             min_iters,
             max_iters,
             greedy,
         } => {
-            write_word(text, "Loop1CharBody", &[*min_iters, *max_iters])?;
+            push_word_and_numbers(text, "Loop1CharBody", &[*min_iters, *max_iters])?;
             text.push_str(truth(*greedy))
         }
-        Insn::BeginCaptureGroup(id) => write_word(text, "BeginCaptureGroup", &[*id as usize]),
-        Insn::EndCaptureGroup(id) => write_word(text, "EndCaptureGroup", &[*id as usize]),
-        Insn::ResetCaptureGroup(id) => write_word(text, "ResetCaptureGroup", &[*id as usize]),
+        Insn::BeginCaptureGroup(id) => push_word_and_numbers(
+            text,
+            "BeginCaptureGroup",
+            &[*id as usize],
+        ),
+        Insn::EndCaptureGroup(id) => push_word_and_numbers(
+            text,
+            "EndCaptureGroup",
+            &[*id as usize],
+        ),
+        Insn::ResetCaptureGroup(id) => push_word_and_numbers(
+            text,
+            "ResetCaptureGroup",
+            &[*id as usize],
+        ),
         Insn::BackRef { group, same } => {
-            write_word(text, "BackRef", &[*group as usize])?;
-            text.push_str(sameness(*same))
+            push_word_and_numbers(text, "BackRef", &[*group as usize])?;
+            text.push_str(word_of_sameness(*same))
         }
-        Insn::Lookahead { .. } | Insn::Lookbehind { .. } => write_look(text, insn),
-        _ => write_test(text, insn),
+        Insn::Lookahead { .. } | Insn::Lookbehind { .. } => write_lookaround_insn(text, insn),
+        _ => write_conditional_insn(text, insn),
     }
 }
 
-fn write_look(text: &mut String, insn: &Insn) -> Result<(), AllocError> {
+fn write_lookaround_insn(text: &mut String, insn: &Insn) -> Result<(), AllocError> {
     match insn {
         Insn::Lookahead {
             negate,
@@ -97,8 +109,8 @@ fn write_look(text: &mut String, insn: &Insn) -> Result<(), AllocError> {
             let ahead = matches!(insn, Insn::Lookahead { .. });
             text.push_str(if ahead { "Lookahead" } else { "Lookbehind" })?;
             let groups = [*start_group as usize, *end_group as usize];
-            write_word(text, truth(*negate), &groups)?;
-            write_word(text, "", &[*continuation as usize])
+            push_word_and_numbers(text, truth(*negate), &groups)?;
+            push_word_and_numbers(text, "", &[*continuation as usize])
         }
         _ => Ok(()),
     }
@@ -106,18 +118,18 @@ fn write_look(text: &mut String, insn: &Insn) -> Result<(), AllocError> {
 
 // Writes an instruction that reads a character, bytes or nothing, and continues only at the next
 // one.
-fn write_test(text: &mut String, insn: &Insn) -> Result<(), AllocError> {
+fn write_conditional_insn(text: &mut String, insn: &Insn) -> Result<(), AllocError> {
     match insn {
-        Insn::Char(c) => write_word(text, "Char", &[*c as usize]),
+        Insn::Char(c) => push_word_and_numbers(text, "Char", &[*c as usize]),
         Insn::MatchAny => text.push_str("MatchAny"),
         Insn::MatchAnyExceptLineTerminator => text.push_str("MatchAnyExceptLineTerminator"),
-        Insn::StartOfLine { multiline } => write_flag(text, "StartOfLine", *multiline),
-        Insn::EndOfLine { multiline } => write_flag(text, "EndOfLine", *multiline),
-        Insn::WordBoundary { invert } => write_flag(text, "WordBoundary", *invert),
+        Insn::StartOfLine { multiline } => push_word_if_flag(text, "StartOfLine", *multiline),
+        Insn::EndOfLine { multiline } => push_word_if_flag(text, "EndOfLine", *multiline),
+        Insn::WordBoundary { invert } => push_word_if_flag(text, "WordBoundary", *invert),
         Insn::WordBoundaryUnicodeICase { invert } => {
-            write_flag(text, "WordBoundaryUnicodeICase", *invert)
+            push_word_if_flag(text, "WordBoundaryUnicodeICase", *invert)
         }
-        Insn::Bracket(index) => write_word(text, "Bracket", &[*index]),
+        Insn::Bracket(index) => push_word_and_numbers(text, "Bracket", &[*index]),
         Insn::AsciiBracket(set) => write_members(text, "AsciiBracket", set),
         Insn::CharSet(members) => write!(text, "CharSet {members:?}"),
         Insn::ByteSet2(set) => write_bytes(text, "ByteSet2", &set.0),
@@ -128,12 +140,12 @@ fn write_test(text: &mut String, insn: &Insn) -> Result<(), AllocError> {
     }
 }
 
-fn write_flag(text: &mut String, word: &str, flag: bool) -> Result<(), AllocError> {
+fn push_word_if_flag(text: &mut String, word: &str, flag: bool) -> Result<(), AllocError> {
     text.push_str(word)?;
     text.push_str(truth(flag))
 }
 
-fn sameness(same: Sameness) -> &'static str {
+fn word_of_sameness(same: Sameness) -> &'static str {
     match same {
         Sameness::Exact => " false",
         Sameness::Folded => " true",
@@ -146,7 +158,7 @@ fn truth(value: bool) -> &'static str {
     if value { " true" } else { " false" }
 }
 
-pub(crate) fn write_word(
+pub(crate) fn push_word_and_numbers(
     text: &mut String,
     word: &str,
     numbers: &[usize],
@@ -158,10 +170,10 @@ pub(crate) fn write_word(
     Ok(())
 }
 
-fn write_head(text: &mut String, fields: &LoopFields) -> Result<(), AllocError> {
+fn write_loop_fields(text: &mut String, fields: &LoopFields) -> Result<(), AllocError> {
     let numbers = [fields.loop_id as usize, fields.min_iters, fields.max_iters];
-    write_word(text, "EnterLoop", &numbers)?;
-    write_word(text, truth(fields.greedy), &[fields.exit as usize])
+    push_word_and_numbers(text, "EnterLoop", &numbers)?;
+    push_word_and_numbers(text, truth(fields.greedy), &[fields.exit as usize])
 }
 
 // Writes the number of bytes, and the bytes as characters.

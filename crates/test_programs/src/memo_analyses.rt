@@ -20,13 +20,16 @@ pub(crate) fn write_memo_analysis(
     };
     let loops = program.common_program().loops() as usize;
     match MemoAnalysis::new(alloc, program.insns(), loops)? {
-        Some(memo_analysis) => write_records(text, &memo_analysis),
+        Some(memo_analysis) => write_recording_insns(text, &memo_analysis),
         None => text.push_str("none"),
     }
 }
 
 // Writes each recording instruction with its number of codes, and the total cost.
-fn write_records(text: &mut String, memo_analysis: &MemoAnalysis) -> Result<(), AllocError> {
+fn write_recording_insns(
+    text: &mut String,
+    memo_analysis: &MemoAnalysis,
+) -> Result<(), AllocError> {
     let mut all = 0u64;
     for (ip, line) in memo_analysis.lines.iter().enumerate() {
         if line.records {

@@ -16,7 +16,11 @@ const CODES: usize = 7;
 
 // If the byte program of a tree has a memo analysis, writes the number of its keys, and whether
 // there can be a table for the greatest number of offsets.
-pub(crate) fn write_memo(alloc: Global, text: &mut String, tree: &Regex) -> Result<(), AllocError> {
+pub(crate) fn write_memo_table(
+    alloc: Global,
+    text: &mut String,
+    tree: &Regex,
+) -> Result<(), AllocError> {
     let Some(memo_analysis) = memo_analysis_of(alloc, tree)? else {
         return text.push_str("none");
     };
@@ -52,7 +56,7 @@ fn write_keys(text: &mut String, memo: &mut MemoTable) -> Result<(), AllocError>
     for ip in 0..memo.memo_analysis().lines.len() {
         for at in 0..PLACES + 1 {
             for code in 0..CODES {
-                if fails_alone(memo, ThreadMemoKey { ip, at, code }) {
+                if is_only_failing_key(memo, ThreadMemoKey { ip, at, code }) {
                     noted = noted.wrapping_add(1);
                 }
             }
@@ -63,7 +67,7 @@ fn write_keys(text: &mut String, memo: &mut MemoTable) -> Result<(), AllocError>
     for ip in 0..memo.memo_analysis().lines.len() {
         for at in 0..PLACES + 1 {
             for code in 0..CODES {
-                if reaches_alone(memo, ThreadMemoKey { ip, at, code }) {
+                if is_only_key_finding_end(memo, ThreadMemoKey { ip, at, code }) {
                     noted = noted.wrapping_add(1);
                 }
             }
@@ -73,7 +77,7 @@ fn write_keys(text: &mut String, memo: &mut MemoTable) -> Result<(), AllocError>
 }
 
 // Checks whether a key is recorded as failing and no other key changes.
-fn fails_alone(memo: &mut MemoTable, key: ThreadMemoKey) -> bool {
+fn is_only_failing_key(memo: &mut MemoTable, key: ThreadMemoKey) -> bool {
     if !memo.has(key) || memo.fails(key) {
         return false;
     }
@@ -84,7 +88,7 @@ fn fails_alone(memo: &mut MemoTable, key: ThreadMemoKey) -> bool {
 }
 
 // Checks whether a key is recorded as finding an end and no other key changes.
-fn reaches_alone(memo: &mut MemoTable, key: ThreadMemoKey) -> bool {
+fn is_only_key_finding_end(memo: &mut MemoTable, key: ThreadMemoKey) -> bool {
     if !memo.has(key) || memo.is_known_to_reach_end(key) || !memo.records_successes() {
         return false;
     }

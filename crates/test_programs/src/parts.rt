@@ -1,7 +1,7 @@
 //! Writes the parts of programs, and of their copies.
 
-use crate::listing::write_word;
-use crate::predicates::write_words;
+use crate::listing::push_word_and_numbers;
+use crate::predicates::write_start_predicate;
 use regex_pattern_front::ir::Regex;
 use regex_pattern_front::types::BracketContents;
 use regress_program::emit::{emit, emit_units};
@@ -9,24 +9,27 @@ use regress_program::insn::{CompiledRegex, Program};
 use std::alloc::{AllocError, Global};
 
 // Writes the parts of the program of a tree for texts in bytes, and those of its copy.
-pub(crate) fn write_parts(
+pub(crate) fn write_program_and_copy(
     alloc: Global,
     text: &mut String,
     tree: &Regex,
 ) -> Result<(), AllocError> {
     match emit(alloc, tree) {
         Ok(program) => {
-            write_compiled(text, &program)?;
-            write_compiled(text, &program.clone()?)
+            write_parts_of_program_and_copy(text, &program)?;
+            write_parts_of_program_and_copy(text, &program.clone()?)
         }
         Err(_) => Ok(()),
     }
 }
 
-fn write_compiled(text: &mut String, program: &CompiledRegex) -> Result<(), AllocError> {
-    write_one(text, program.common_program())?;
+fn write_parts_of_program_and_copy(
+    text: &mut String,
+    program: &CompiledRegex,
+) -> Result<(), AllocError> {
+    write_program_parts(text, program.common_program())?;
     text.push(' ')?;
-    write_words(text, program.start_pred())
+    write_start_predicate(text, program.start_pred())
 }
 
 // Writes the same for texts of 16-bit units.
@@ -37,8 +40,8 @@ pub(crate) fn write_unit_parts(
 ) -> Result<(), AllocError> {
     match emit_units(alloc, tree) {
         Ok(program) => {
-            write_one(text, program.common_program())?;
-            write_one(text, program.clone()?.common_program())
+            write_program_parts(text, program.common_program())?;
+            write_program_parts(text, program.clone()?.common_program())
         }
         Err(_) => Ok(()),
     }
@@ -46,7 +49,7 @@ pub(crate) fn write_unit_parts(
 
 // Writes the numbers of instructions, classes, loops, groups and names, whether U+E9 is in the only
 // class, whether the flag `u` is set, and the names of four groups.
-fn write_one(text: &mut String, program: &Program) -> Result<(), AllocError> {
+fn write_program_parts(text: &mut String, program: &Program) -> Result<(), AllocError> {
     let numbers = [
         program.insns().len(),
         program.brackets().len(),
@@ -56,7 +59,7 @@ fn write_one(text: &mut String, program: &Program) -> Result<(), AllocError> {
         has_letter(program.brackets()) as usize,
         program.flags().unicode as usize,
     ];
-    write_word(text, "parts", &numbers)?;
+    push_word_and_numbers(text, "parts", &numbers)?;
     let names = [
         program.group_name(0),
         program.group_name(1),
@@ -67,7 +70,7 @@ fn write_one(text: &mut String, program: &Program) -> Result<(), AllocError> {
 }
 
 // Writes the names of groups as they are displayed.
-pub(crate) fn write_shown_names(
+pub(crate) fn write_displayed_group_names(
     alloc: Global,
     text: &mut String,
     tree: &Regex,

@@ -20,7 +20,7 @@ use std::alloc::{AllocError, Global};
 // Writes the plan of a tree for texts in bytes.
 pub(crate) fn write_plan(alloc: Global, text: &mut String, tree: &Regex) -> Result<(), AllocError> {
     match emit(alloc, tree) {
-        Ok(program) => write_sets(text, program.plan()),
+        Ok(program) => write_candidate_and_exit_sets(text, program.plan()),
         Err(_) => Ok(()),
     }
 }
@@ -32,7 +32,7 @@ pub(crate) fn write_unit_plan(
     tree: &Regex,
 ) -> Result<(), AllocError> {
     match emit_units(alloc, tree) {
-        Ok(program) => write_sets(text, program.plan()),
+        Ok(program) => write_candidate_and_exit_sets(text, program.plan()),
         Err(_) => Ok(()),
     }
 }
@@ -58,24 +58,24 @@ pub(crate) fn write_leading_loop(
 }
 
 // Writes where a search has to try, and what may follow each char loop.
-fn write_sets(text: &mut String, plan: &Plan) -> Result<(), AllocError> {
+fn write_candidate_and_exit_sets(text: &mut String, plan: &Plan) -> Result<(), AllocError> {
     match plan.start {
         CandidateStarts::Anywhere => text.push_str("anywhere")?,
-        CandidateStarts::InSet { set } => write_set(text, plan, "among", set)?,
+        CandidateStarts::InSet { set } => write_named_set(text, plan, "among", set)?,
         CandidateStarts::FewUnits { units, len } => write!(text, "few {len} {units:?}")?,
-        CandidateStarts::Behind(before) => write_before(text, before)?,
+        CandidateStarts::Behind(before) => write_preceding_char_filter(text, before)?,
         CandidateStarts::Prefix { prefix, prefilter } => write_prefix(text, &prefix, prefilter)?,
     }
     for op in &plan.ops {
         match op {
-            Op::PossessiveCharLoop(run) => write_set(text, plan, ", apart", run.next)?,
-            Op::GreedyCharLoop(run) => write_set(text, plan, ", run", run.next)?,
-            Op::LazyCharLoop(run) => write_set(text, plan, ", lazy", run.next)?,
+            Op::PossessiveCharLoop(run) => write_named_set(text, plan, ", apart", run.next)?,
+            Op::GreedyCharLoop(run) => write_named_set(text, plan, ", run", run.next)?,
+            Op::LazyCharLoop(run) => write_named_set(text, plan, ", lazy", run.next)?,
             _ => {}
         }
     }
     write_rows(text, plan)?;
-    write_leap(text, plan)
+    write_leap_goal(text, plan)
 }
 
 // Writes the tables of the plan's classes.
@@ -91,11 +91,11 @@ fn write_rows(text: &mut String, plan: &Plan) -> Result<(), AllocError> {
 
 // Writes the units of the goal to which a search leaps, and the first key of each run of keys that
 // a match may read before it.
-fn write_leap(text: &mut String, plan: &Plan) -> Result<(), AllocError> {
+fn write_leap_goal(text: &mut String, plan: &Plan) -> Result<(), AllocError> {
     match &plan.leap {
         Some(leap) => {
             write!(text, ", leap {} {:?} over", leap.len, leap.units)?;
-            write_key_edges(text, &leap.over)
+            write_table_boundaries(text, &leap.over)
         }
         None => Ok(()),
     }
@@ -103,7 +103,10 @@ fn write_leap(text: &mut String, plan: &Plan) -> Result<(), AllocError> {
 
 // Writes the keys with one of which the character before a match begins, and whether the left end
 // is allowed too.
-fn write_before(text: &mut String, before: PrecedingCharFilter) -> Result<(), AllocError> {
+fn write_preceding_char_filter(
+    text: &mut String,
+    before: PrecedingCharFilter,
+) -> Result<(), AllocError> {
     let PrecedingCharFilter { keys, len, edge } = before;
     write!(text, "behind {len} {keys:?}")?;
     if edge { text.push_str(" edge") } else { Ok(()) }
@@ -120,18 +123,18 @@ fn write_prefix(
         if ahead > 0 {
             text.push_str(" /")?;
         }
-        write_edges(text, &keys_at(prefix, ahead))?;
+        write_set_boundaries(text, &keys_at_offset_in_match(prefix, ahead))?;
     }
     match prefilter {
         RequiredPrefixPrefilter::Absent => Ok(()),
-        RequiredPrefixPrefilter::ByLiteral(known) => write_known(text, &known),
+        RequiredPrefixPrefilter::ByLiteral(known) => write_literal_prefilter(text, &known),
         RequiredPrefixPrefilter::Probes(probes) => write_probes(text, &probes),
     }
 }
 
 // Writes the literal that is searched for and its offset in a match, and what is searched for in a
 // short text.
-fn write_known(text: &mut String, known: &LiteralPrefilter) -> Result<(), AllocError> {
+fn write_literal_prefilter(text: &mut String, known: &LiteralPrefilter) -> Result<(), AllocError> {
     let Literal { units, len, ahead } = &known.literal;
     write!(text, " row {len} of {units:?} at {ahead}")?;
     if let Some(rare) = known.rare {
@@ -153,7 +156,7 @@ fn write_probes(text: &mut String, probes: &[MaskedUnitProbe]) -> Result<(), All
 }
 
 // Returns the keys of the units that may be at an offset in a match.
-fn keys_at(prefix: &Prefix, ahead: usize) -> FirstSet
+fn keys_at_offset_in_match(prefix: &Prefix, ahead: usize) -> FirstSet
     requires { ahead < 16 }
 {
     let mut keys = [false; 256];
@@ -163,21 +166,26 @@ fn keys_at(prefix: &Prefix, ahead: usize) -> FirstSet
     FirstSet { keys, end: false }
 }
 
-fn write_set(text: &mut String, plan: &Plan, name: &str, number: u32) -> Result<(), AllocError> {
+fn write_named_set(
+    text: &mut String,
+    plan: &Plan,
+    name: &str,
+    number: u32,
+) -> Result<(), AllocError> {
     text.push_str(name)?;
     if number == ANYTHING {
         return text.push_str(" anything");
     }
     match plan.sets.get(number as usize) {
-        Some(set) => write_edges(text, set),
+        Some(set) => write_set_boundaries(text, set),
         None => text.push_str(" no set"),
     }
 }
 
 // Writes the first key of each run of keys that are all in the set, or all not, and whether the end
 // is in it.
-fn write_edges(text: &mut String, set: &FirstSet) -> Result<(), AllocError> {
-    write_key_edges(text, &set.keys)?;
+fn write_set_boundaries(text: &mut String, set: &FirstSet) -> Result<(), AllocError> {
+    write_table_boundaries(text, &set.keys)?;
     if set.end {
         text.push_str(" end")
     } else {
@@ -186,7 +194,7 @@ fn write_edges(text: &mut String, set: &FirstSet) -> Result<(), AllocError> {
 }
 
 // Writes each key for which a table has another value than for the key before.
-fn write_key_edges(text: &mut String, keys: &[bool; 256]) -> Result<(), AllocError> {
+fn write_table_boundaries(text: &mut String, keys: &[bool; 256]) -> Result<(), AllocError> {
     let mut before = false;
     for (key, here) in keys.iter().enumerate() {
         if *here != before {

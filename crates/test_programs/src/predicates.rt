@@ -12,10 +12,13 @@ pub(crate) fn write_predicate(
     text: &mut String,
     tree: &Regex,
 ) -> Result<(), AllocError> {
-    write_words(text, &predicate_for_re(alloc, tree)?)
+    write_start_predicate(text, &predicate_for_re(alloc, tree)?)
 }
 
-pub(crate) fn write_words(text: &mut String, predicate: &StartPredicate) -> Result<(), AllocError> {
+pub(crate) fn write_start_predicate(
+    text: &mut String,
+    predicate: &StartPredicate,
+) -> Result<(), AllocError> {
     match predicate {
         StartPredicate::Arbitrary => write_bytes(text, "Arbitrary", &[]),
         StartPredicate::StartAnchored => write_bytes(text, "StartAnchored", &[]),

@@ -2,7 +2,7 @@
 
 ghost use Rattle.std.specs.Prelude.{IsAscii};
 
-use crate::lines::{write_ascii, write_copied, write_copied_of_ascii, write_utf8};
+use crate::lines::{write_ascii, write_items_of_ascii_pikevm, write_items_of_pikevm, write_utf8};
 use crate::starts::is_start;
 use regress_input::indexing::Utf8Input;
 use regress_match::backends::{DefaultExecutor, PikeVMExecutor, find, find_ascii};
@@ -10,7 +10,7 @@ use regress_match::{Regex, SearchError};
 
 type Copying<'a> = PikeVMExecutor<'a, Utf8Input<'a>>;
 
-pub fn write_by_name(
+pub fn write_matches_by_named_executor(
     line: &mut String,
     re: &Regex,
     text: &str,
@@ -24,7 +24,7 @@ pub fn write_by_name(
     }
 }
 
-pub fn write_by_name_in_ascii(
+pub fn write_ascii_matches_by_named_executor(
     line: &mut String,
     re: &Regex,
     text: &str,
@@ -40,7 +40,7 @@ pub fn write_by_name_in_ascii(
     )
 }
 
-pub fn write_by_copying(
+pub fn write_matches_by_pikevm(
     line: &mut String,
     re: &Regex,
     text: &str,
@@ -48,13 +48,13 @@ pub fn write_by_copying(
     first: bool,
 ) -> Result<(), SearchError> {
     if is_start(text, start) {
-        write_copied(line, &mut find::<Copying>(re, text, start)?, first)
+        write_items_of_pikevm(line, &mut find::<Copying>(re, text, start)?, first)
     } else {
         Ok(line.push_str("no start")?)
     }
 }
 
-pub fn write_by_copying_in_ascii(
+pub fn write_ascii_matches_by_pikevm(
     line: &mut String,
     re: &Regex,
     text: &str,
@@ -63,5 +63,5 @@ pub fn write_by_copying_in_ascii(
 ) -> Result<(), SearchError>
     requires { IsAscii text.now }
 {
-    write_copied_of_ascii(line, &mut find_ascii::<Copying>(re, text, start)?, first)
+    write_items_of_ascii_pikevm(line, &mut find_ascii::<Copying>(re, text, start)?, first)
 }

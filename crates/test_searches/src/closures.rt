@@ -37,7 +37,12 @@ fn number_of(text: &str, found: &Match) -> u32 {
 }
 
 // Returns what the closure returns for a number at this call.
-fn answer_to(alloc: Global, call: u32, number: u32, answers: &str) -> Result<String, u32> {
+fn closure_result_for_call(
+    alloc: Global,
+    call: u32,
+    number: u32,
+    answers: &str,
+) -> Result<String, u32> {
     let answer = match answers {
         "twice" => format!(in alloc; "{}", number.wrapping_mul(2)),
         "tenfold" => format!(in alloc; "[{}]", number.wrapping_mul(10)),
@@ -61,7 +66,7 @@ fn replaced(
     let answer = |found: &Match| {
         let call = calls.get().wrapping_add(1);
         calls.set(call);
-        answer_to(alloc, call, number_of(text, found), answers)
+        closure_result_for_call(alloc, call, number_of(text, found), answers)
     };
     let made = match which {
         "all" => re.replace_all_with(text, answer),
@@ -70,7 +75,7 @@ fn replaced(
     (calls.get(), made)
 }
 
-fn write_made(
+fn write_replacement_outcome(
     line: &mut String,
     calls: u32,
     made: Result<String, ReplaceError<u32>>,
@@ -93,13 +98,17 @@ fn write_replaced(
     match regex_of(alloc, pattern, "", no_opt) {
         Ok(re) => {
             let (calls, made) = replaced(alloc, &re, text, which, answers);
-            write_made(line, calls, made)
+            write_replacement_outcome(line, calls, made)
         }
         Err(error) => line.push_str(refusal(&error)),
     }
 }
 
-pub fn check_with(alloc: Global, differing: &mut String, row: Row<'_>) -> Result<(), AllocError> {
+pub fn check_closure_row(
+    alloc: Global,
+    differing: &mut String,
+    row: Row<'_>,
+) -> Result<(), AllocError> {
     let fields: Vec<&str> = row.asked.split('~').collect(alloc)?;
     let [pattern, text, which, answers] = *fields.as_slice() else {
         return compare(differing, row, "other than five fields", "");

@@ -45,7 +45,7 @@ fn add(pattern: &mut String, piece: &str, count: usize) -> Result<(), AllocError
 }
 
 // Returns the pattern of a row.
-fn pattern_of(alloc: Global, nest: &str, count: usize) -> Result<String, AllocError> {
+fn pattern_of_nest(alloc: Global, nest: &str, count: usize) -> Result<String, AllocError> {
     let mut pattern = String::new(alloc);
     let (opening, rest) = nest.split_once('…').unwrap_or((nest, ""));
     let (inside, closing) = rest.split_once('…').unwrap_or((rest, ""));
@@ -78,7 +78,7 @@ pub fn check_nest(alloc: Global, differing: &mut String, row: Row<'_>) -> Result
     let [count, nest, text] = *fields.as_slice() else {
         return compare(differing, row, "other than four fields", "");
     };
-    let pattern = pattern_of(alloc, nest, count.parse::<usize>().unwrap_or(0))?;
+    let pattern = pattern_of_nest(alloc, nest, count.parse::<usize>().unwrap_or(0))?;
     let outcome = outcome(alloc, &pattern, text)?;
     compare(differing, row, outcome.as_str(), "")
 }

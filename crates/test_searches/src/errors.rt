@@ -56,7 +56,11 @@ fn errors_of_the_face_have_texts(rt: HostRuntime) -> Result<(), Fail> {
     Ok(())
 }
 
-fn write_told(text: &mut String, pattern: &str, flags: &str) -> Result<(), AllocError> {
+fn write_diagnosis_of_pattern(
+    text: &mut String,
+    pattern: &str,
+    flags: &str,
+) -> Result<(), AllocError> {
     let alloc = *text.allocator();
     let told = if flags.starts_with('+') {
         Regex::diagnose_with_syntax(alloc, pattern, Flags::from(flags), Syntax::EcmaScript2018)?
@@ -75,7 +79,7 @@ fn write_told(text: &mut String, pattern: &str, flags: &str) -> Result<(), Alloc
 }
 
 // Patterns, flags (after `+` for the whole language), and the texts of their diagnoses.
-const TOLD: [(&str, &str, &str); 8] = [
+const DIAGNOSIS_CASES: [(&str, &str, &str); 8] = [
     (
         r"a\p{x}",
         "+u",
@@ -112,9 +116,9 @@ const TOLD: [(&str, &str, &str); 8] = [
 
 #[test]
 fn causes_are_told_by_flags(rt: HostRuntime) -> Result<(), Fail> {
-    for (pattern, flags, wanted) in TOLD {
+    for (pattern, flags, wanted) in DIAGNOSIS_CASES {
         let mut found = String::new(rt.alloc());
-        write_told(&mut found, pattern, flags)?;
+        write_diagnosis_of_pattern(&mut found, pattern, flags)?;
         assert!(rt; found.as_str() == wanted, "{found}");
     }
     Ok(())

@@ -26,7 +26,7 @@ escape~é.~é\.
 itself~a\^$.|?*+()[]{}é~0..17
 ";
 
-fn flags_of_points(alloc: Global, written: &str) -> Result<Flags, AllocError> {
+fn flags_of_code_points(alloc: Global, written: &str) -> Result<Flags, AllocError> {
     let mut points = Vec::new(alloc);
     for word in written.split(' ') {
         if let Ok(point) = u32::from_str_radix(word, 16) {
@@ -55,7 +55,7 @@ fn write_flags(line: &mut String, flags: &Flags) -> Result<(), AllocError> {
 }
 
 // Returns the first match of an escaped text in the text.
-fn write_itself(alloc: Global, line: &mut String, text: &str) -> Result<(), Error> {
+fn write_match_of_escaped_text(alloc: Global, line: &mut String, text: &str) -> Result<(), Error> {
     let re = Regex::from_str(alloc, escape(alloc, text)?.as_str())?;
     match re.find(text) {
         Ok(Some(found)) => Ok(write!(line, "{}..{}", found.start(), found.end())?),
@@ -67,7 +67,7 @@ fn write_itself(alloc: Global, line: &mut String, text: &str) -> Result<(), Erro
 fn write_answer(alloc: Global, line: &mut String, question: &str, text: &str) -> Result<(), Error> {
     match question {
         "letters" => Ok(write_flags(line, &Flags::from(text))?),
-        "points" => Ok(write_flags(line, &flags_of_points(alloc, text)?)?),
+        "points" => Ok(write_flags(line, &flags_of_code_points(alloc, text)?)?),
         "no_opt" => {
             let flags = Flags {
                 no_opt: true,
@@ -76,7 +76,7 @@ fn write_answer(alloc: Global, line: &mut String, question: &str, text: &str) ->
             Ok(write_flags(line, &flags)?)
         }
         "escape" => Ok(line.push_str(escape(alloc, text)?.as_str())?),
-        _ => write_itself(alloc, line, text),
+        _ => write_match_of_escaped_text(alloc, line, text),
     }
 }
 

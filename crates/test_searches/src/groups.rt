@@ -41,14 +41,14 @@ fn write_group(line: &mut String, range: &Option<Range<usize>>) -> Result<(), Al
     }
 }
 
-fn write_by_number(line: &mut String, found: &Match) -> Result<(), AllocError> {
+fn write_groups_by_number(line: &mut String, found: &Match) -> Result<(), AllocError> {
     for idx in 0..4 {
         write_group(line, &found.group(idx))?;
     }
     Ok(())
 }
 
-fn write_in_turn(line: &mut String, found: &Match) -> Result<(), AllocError> {
+fn write_groups_in_order(line: &mut String, found: &Match) -> Result<(), AllocError> {
     let mut groups = found.groups();
     for _ in 0..5 {
         write!(line, " {}", groups.len())?;
@@ -67,7 +67,7 @@ fn write_names(line: &mut String, found: &Match) -> Result<(), AllocError> {
         write!(line, " {}", names.len())?;
         let mut rest = names.clone();
         match rest.next() {
-            Some((name, range)) => write_named(line, found, name, &range)?,
+            Some((name, range)) => write_named_group(line, found, name, &range)?,
             None => line.push_str(" end")?,
         }
         names = rest;
@@ -75,7 +75,7 @@ fn write_names(line: &mut String, found: &Match) -> Result<(), AllocError> {
     Ok(())
 }
 
-fn write_named(
+fn write_named_group(
     line: &mut String,
     found: &Match,
     name: &str,
@@ -102,7 +102,7 @@ fn write_text(line: &mut String, found: &Match, text: &str) -> Result<(), AllocE
 }
 
 // Returns a match of two groups, of which the first has a name and a range.
-fn match_of_parts(alloc: Global) -> Result<Match, AllocError> {
+fn match_of_two_groups(alloc: Global) -> Result<Match, AllocError> {
     let captures = vec![in alloc; Some(1..2), None]?;
     let names = vec![in alloc; String::from_str(alloc, "year")?, String::new(alloc)]?;
     Ok(Match::from_parts(1..3, captures, names))
@@ -114,16 +114,16 @@ fn changed(alloc: Global, mut found: Match, change: &str) -> Result<Match, Alloc
         "cut" => found.captures.truncate(1),
         "clear" => found.captures.clear(),
         "clone" => return found.clone(),
-        "parts" => return match_of_parts(alloc),
+        "parts" => return match_of_two_groups(alloc),
         _ => {}
     }
     Ok(found)
 }
 
 fn write_answers(line: &mut String, found: &Match, text: &str) -> Result<(), AllocError> {
-    write_by_number(line, found)?;
+    write_groups_by_number(line, found)?;
     line.push_str(" |")?;
-    write_in_turn(line, found)?;
+    write_groups_in_order(line, found)?;
     line.push_str(" |")?;
     write_names(line, found)?;
     line.push_str(" |")?;

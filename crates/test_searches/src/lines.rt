@@ -91,7 +91,7 @@ pub fn write_ucs2<'r, 't>(
     write_items(line, matches, first)
 }
 
-pub fn write_copied<'r, 't>(
+pub fn write_items_of_pikevm<'r, 't>(
     line: &mut String,
     matches: &mut Matches<PikeVMExecutor<'r, Utf8Input<'t>>>,
     first: bool,
@@ -99,7 +99,7 @@ pub fn write_copied<'r, 't>(
     write_items(line, matches, first)
 }
 
-pub fn write_copied_of_ascii<'r, 't>(
+pub fn write_items_of_ascii_pikevm<'r, 't>(
     line: &mut String,
     matches: &mut Matches<PikeVMExecutor<'r, AsciiInput<'t>>>,
     first: bool,
@@ -127,7 +127,7 @@ pub fn write_limited<'r, 't>(
 }
 
 // Writes one match, or nothing if there is none.
-pub fn write_one(line: &mut String, found: &Option<Match>) -> Result<(), SearchError> {
+pub fn write_match_if_any(line: &mut String, found: &Option<Match>) -> Result<(), SearchError> {
     match found {
         Some(found) => Ok(write_match(line, found)?),
         None => Ok(()),

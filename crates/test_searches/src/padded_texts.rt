@@ -1,7 +1,7 @@
 //! Matches at many offsets of padded texts. They are tested because a search scans many units at
 //! once, and scans long texts in another way than short ones.
 
-use crate::calls::Asked;
+use crate::calls::SearchCall;
 use crate::patterns::{refusal, regex_of};
 use crate::rows::{Row, compare};
 use crate::search_methods::PLANNED_METHODS;
@@ -97,7 +97,11 @@ fn made(
 }
 
 // Writes the expected matches of a row with their offsets in the text.
-fn write_wanted(line: &mut String, words: &str, filled: &Filled) -> Result<(), AllocError> {
+fn write_expected_matches(
+    line: &mut String,
+    words: &str,
+    filled: &Filled,
+) -> Result<(), AllocError> {
     let mut piece = 0;
     for c in words.chars() {
         match c {
@@ -118,12 +122,12 @@ fn check_text(
     filled: &Filled,
 ) -> Result<(), SearchError> {
     let mut wanted = String::new(alloc);
-    write_wanted(&mut wanted, padded.row.wanted, filled)?;
+    write_expected_matches(&mut wanted, padded.row.wanted, filled)?;
     let search = Search {
         pattern: "",
         flags: "",
         text: &filled.text,
-        asked: Asked::All,
+        asked: SearchCall::All,
     };
     let row = Row {
         asked: padded.row.asked,
@@ -133,7 +137,7 @@ fn check_text(
 }
 
 // Checks the texts with `count` fillers before one piece and at most two before the other.
-fn check_count(
+fn check_filler_count(
     alloc: Global,
     differing: &mut String,
     re: &Regex,
@@ -156,7 +160,7 @@ fn check_counts(
     padded: PaddedRow<'_>,
 ) -> Result<(), SearchError> {
     for count in COUNTS {
-        check_count(alloc, differing, re, padded, count)?;
+        check_filler_count(alloc, differing, re, padded, count)?;
     }
     Ok(())
 }

@@ -36,7 +36,7 @@ fn regex_of_pair(alloc: Global, words: &str, no_opt: bool) -> Result<Regex, Erro
     Ok(regex_of_trees(alloc, bytes, units, no_opt)?.clone()?)
 }
 
-fn regex_of_points(alloc: Global, pattern: &str, no_opt: bool) -> Result<Regex, Error> {
+fn regex_of_code_points(alloc: Global, pattern: &str, no_opt: bool) -> Result<Regex, Error> {
     let points: Vec<u32> = pattern.chars().map(u32::from).collect(alloc)?;
     let flags = Flags {
         no_opt,
@@ -70,7 +70,7 @@ pub fn regex_of(alloc: Global, pattern: &str, flags: &str, no_opt: bool) -> Resu
     match flags {
         "new" => Regex::new(alloc, pattern),
         "from_str" => Regex::from_str(alloc, pattern),
-        "points" => regex_of_points(alloc, pattern, no_opt),
+        "points" => regex_of_code_points(alloc, pattern, no_opt),
         "tree" => regex_of_trees(alloc, pattern, pattern, no_opt),
         "pair" => regex_of_pair(alloc, pattern, no_opt),
         letters => regex_of_letters(alloc, pattern, letters, no_opt),

@@ -3,10 +3,11 @@
 ghost use Rattle.std.specs.Prelude.{IsAscii};
 
 use crate::backends::{
-    write_by_copying, write_by_copying_in_ascii, write_by_name, write_by_name_in_ascii,
+    write_ascii_matches_by_named_executor, write_ascii_matches_by_pikevm,
+    write_matches_by_named_executor, write_matches_by_pikevm,
 };
-use crate::calls::Asked;
-use crate::lines::{write_ascii, write_limited, write_one, write_utf8};
+use crate::calls::SearchCall;
+use crate::lines::{write_ascii, write_limited, write_match_if_any, write_utf8};
 use crate::starts::is_start;
 use crate::units::{write_of_ucs2, write_of_utf16};
 use regress_match::{Regex, SearchError};
@@ -56,16 +57,19 @@ fn write_of_utf8(
     line: &mut String,
     re: &Regex,
     text: &str,
-    asked: Asked,
+    asked: SearchCall,
 ) -> Result<(), SearchError> {
     match asked {
-        Asked::First => write_one(line, &re.find(text)?),
-        Asked::All => write_utf8(line, &mut re.find_iter(text)?, false),
-        Asked::From(start) if is_start(text, start) => {
+        SearchCall::First => write_match_if_any(line, &re.find(text)?),
+        SearchCall::All => write_utf8(line, &mut re.find_iter(text)?, false),
+        SearchCall::From(start) if is_start(text, start) => {
             write_utf8(line, &mut re.find_from(text, start)?, false)
         }
-        Asked::At(at) if is_start(text, at) => write_one(line, &re.match_at(text, at)?),
-        Asked::From(_) | Asked::At(_) => Ok(line.push_str("no start")?),
+        SearchCall::At(at) if is_start(text, at) => write_match_if_any(
+            line,
+            &re.match_at(text, at)?,
+        ),
+        SearchCall::From(_) | SearchCall::At(_) => Ok(line.push_str("no start")?),
     }
 }
 
@@ -73,15 +77,17 @@ fn write_of_ascii(
     line: &mut String,
     re: &Regex,
     text: &str,
-    asked: Asked,
+    asked: SearchCall,
 ) -> Result<(), SearchError>
     requires { IsAscii text.now }
 {
     match asked {
-        Asked::First => write_one(line, &re.find_ascii(text)?),
-        Asked::All => write_ascii(line, &mut re.find_iter_ascii(text)?, false),
-        Asked::From(start) => { write_ascii(line, &mut re.find_from_ascii(text, start)?, false) }
-        Asked::At(at) => write_one(line, &re.match_at_ascii(text, at)?),
+        SearchCall::First => write_match_if_any(line, &re.find_ascii(text)?),
+        SearchCall::All => write_ascii(line, &mut re.find_iter_ascii(text)?, false),
+        SearchCall::From(start) => {
+            write_ascii(line, &mut re.find_from_ascii(text, start)?, false)
+        }
+        SearchCall::At(at) => write_match_if_any(line, &re.match_at_ascii(text, at)?),
     }
 }
 
@@ -113,7 +119,7 @@ fn write_of_ascii_text(
     line: &mut String,
     re: &Regex,
     text: &str,
-    asked: Asked,
+    asked: SearchCall,
     method: SearchMethod,
 ) -> Result<(), SearchError>
     requires { IsAscii text.now }
@@ -121,8 +127,10 @@ fn write_of_ascii_text(
     let (start, first) = (asked.start(), asked.is_first());
     match method {
         SearchMethod::Ascii => write_of_ascii(line, re, text, asked),
-        SearchMethod::AsciiNamed => write_by_name_in_ascii(line, re, text, start, first),
-        SearchMethod::AsciiCopying => write_by_copying_in_ascii(line, re, text, start, first),
+        SearchMethod::AsciiNamed => write_ascii_matches_by_named_executor(
+            line, re, text, start, first,
+        ),
+        SearchMethod::AsciiCopying => write_ascii_matches_by_pikevm(line, re, text, start, first),
         SearchMethod::Utf16 => write_of_utf16(line, re, &units_of_ascii(alloc, text)?, asked),
         _ => write_of_ucs2(line, re, &units_of_ascii(alloc, text)?, asked),
     }
@@ -135,15 +143,15 @@ pub fn write_found(
     line: &mut String,
     re: &Regex,
     text: &str,
-    asked: Asked,
+    asked: SearchCall,
     method: SearchMethod,
 ) -> Result<(), SearchError> {
     let (start, first) = (asked.start(), asked.is_first());
     match method {
         SearchMethod::Utf8 => write_of_utf8(line, re, text, asked),
-        SearchMethod::Named => write_by_name(line, re, text, start, first),
+        SearchMethod::Named => write_matches_by_named_executor(line, re, text, start, first),
         SearchMethod::Limited => write_within_steps(line, re, text, start, first),
-        SearchMethod::Copying => write_by_copying(line, re, text, start, first),
+        SearchMethod::Copying => write_matches_by_pikevm(line, re, text, start, first),
         _ if text.is_ascii() => write_of_ascii_text(alloc, line, re, text, asked, method),
         _ => Ok(line.push_str("no ASCII")?),
     }

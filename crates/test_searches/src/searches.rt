@@ -1,6 +1,6 @@
 //! Searches in each encoding, by each call and executor.
 
-use crate::calls::Asked;
+use crate::calls::SearchCall;
 use crate::patterns::{refusal, regex_of};
 use crate::rows::{Row, compare};
 use crate::search_methods::{ALL_METHODS, SearchMethod, write_found};
@@ -13,7 +13,7 @@ pub struct Search<'a> {
     pub pattern: &'a str,
     pub flags: &'a str,
     pub text: &'a str,
-    pub asked: Asked,
+    pub asked: SearchCall,
 }
 
 // Appends a text of a row, in which `␤` stands for a line feed.
@@ -28,7 +28,7 @@ pub fn push_text(text: &mut String, written: &str) -> Result<(), AllocError> {
 // units too, since offsets are the same there. Trees with bytes have no program for units, unless
 // the second tree of a pair gives it. A search at one offset is a call of each encoding, and of no
 // named executor.
-fn is_for(search: &Search<'_>, method: SearchMethod) -> bool {
+fn is_row_for_method(search: &Search<'_>, method: SearchMethod) -> bool {
     let is_of_bytes = search.flags == "pair"
         || search.flags == "tree" && search.pattern.contains("byte");
     match method {
@@ -52,7 +52,7 @@ pub fn check_methods(
     methods: &[(SearchMethod, &str)],
 ) -> Result<(), SearchError> {
     for (method, name) in methods {
-        if is_for(search, *method) {
+        if is_row_for_method(search, *method) {
             let mut found = String::new(alloc);
             write_found(alloc, &mut found, re, search.text, search.asked, *method)?;
             compare(differing, row, &found, name)?;
@@ -89,7 +89,7 @@ pub fn check_search(
         pattern,
         flags,
         text: &text,
-        asked: Asked::of(call),
+        asked: SearchCall::of(call),
     };
     for no_opt in [false, true] {
         check_pattern(alloc, differing, row, &search, no_opt)?;

@@ -2,7 +2,7 @@
 
 ghost use Rattle.regex_meaning.specs.CodeUnitOffsets.{IsBoundaryOrPastEnd};
 
-use crate::lines::{write_limited, write_one};
+use crate::lines::{write_limited, write_match_if_any};
 use crate::rows::{Row, compare};
 use crate::starts::is_start;
 use regress_match::backends::{LimitedExecutor, emit};
@@ -102,7 +102,7 @@ struct Search<'a> {
 }
 
 // Writes the matches of a program within a step limit.
-fn write_emitted(
+fn write_matches_of_program_in_steps(
     line: &mut String,
     re: &CompiledRegex,
     text: &str,
@@ -121,7 +121,7 @@ fn write_emitted(
 }
 
 // Returns the first match from a start on.
-fn first_from<P: MatchProducer>(
+fn first_match_from_start<P: MatchProducer>(
     executor: &mut P,
     start: usize,
 ) -> Result<Option<Match>, SearchError>
@@ -135,7 +135,7 @@ fn first_from<P: MatchProducer>(
 }
 
 // Writes the first match of a program, and the steps that are left.
-fn write_left(
+fn write_first_match_and_left_steps(
     line: &mut String,
     re: &CompiledRegex,
     text: &str,
@@ -146,8 +146,8 @@ fn write_left(
         return Ok(line.push_str("no start")?);
     }
     let mut executor = LimitedExecutor::new(re, text, steps)?;
-    match first_from(&mut executor, start) {
-        Ok(found) => write_one(line, &found)?,
+    match first_match_from_start(&mut executor, start) {
+        Ok(found) => write_match_if_any(line, &found)?,
         Err(SearchError::StepLimit) => line.push_str("limit")?,
         Err(SearchError::Memory) => return Err(SearchError::Memory),
     }
@@ -167,7 +167,7 @@ fn write_found(line: &mut String, re: &Regex, search: Search<'_>) -> Result<(), 
     )
 }
 
-fn write_of_tree(
+fn write_limited_matches_of_tree(
     alloc: Global,
     line: &mut String,
     words: &str,
@@ -178,13 +178,25 @@ fn write_of_tree(
         return Ok(line.push_str("no tree")?);
     };
     match emit(alloc, &tree) {
-        Ok(re) if left => write_left(line, &re, search.text, search.start, search.steps),
-        Ok(re) => write_emitted(line, &re, search.text, search.start, search.steps),
+        Ok(re) if left => write_first_match_and_left_steps(
+            line,
+            &re,
+            search.text,
+            search.start,
+            search.steps,
+        ),
+        Ok(re) => write_matches_of_program_in_steps(
+            line,
+            &re,
+            search.text,
+            search.start,
+            search.steps,
+        ),
         Err(_) => Ok(line.push_str("no program")?),
     }
 }
 
-fn write_of_pattern(
+fn write_limited_matches_of_pattern(
     alloc: Global,
     line: &mut String,
     pattern: &str,
@@ -212,8 +224,14 @@ fn write_row(alloc: Global, line: &mut String, asked: &str, steps: u64) -> Resul
     };
     let search = Search { text, start, steps };
     match kind {
-        "tree" | "left" => write_of_tree(alloc, line, pattern, search, kind == "left"),
-        _ => write_of_pattern(alloc, line, pattern, kind == "no_opt", search),
+        "tree" | "left" => write_limited_matches_of_tree(
+            alloc,
+            line,
+            pattern,
+            search,
+            kind == "left",
+        ),
+        _ => write_limited_matches_of_pattern(alloc, line, pattern, kind == "no_opt", search),
     }
 }
 

@@ -2,7 +2,7 @@
 //! differs.
 
 use crate::anchored::{ANCHORED, check_anchored};
-use crate::closures::{CLOSURES, check_with};
+use crate::closures::{CLOSURES, check_closure_row};
 use crate::constructors::CONSTRUCTORS;
 use crate::deep::{NESTS, check_nest};
 use crate::flags::{FLAGS, check_flags};
@@ -59,7 +59,7 @@ fn check_row(
         Table::WorkLimits => check_work_limit(alloc, differing, row)?,
         Table::Matches => check_match(alloc, differing, row)?,
         Table::Replacements => check_replacement(alloc, differing, row)?,
-        Table::Closures => check_with(alloc, differing, row)?,
+        Table::Closures => check_closure_row(alloc, differing, row)?,
         Table::Flags => check_flags(alloc, differing, row)?,
         Table::Runs => check_run(alloc, differing, row)?,
         Table::Nests => check_nest(alloc, differing, row)?,

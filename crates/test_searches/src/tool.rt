@@ -35,15 +35,15 @@ pub const RUNS: &str = r#"-- a|ab~~abc~0 "0..1\n" ""
 
 // A writer whose first writes succeed. It counts all writes.
 #[derive(Drop)]
-struct Taker {
+struct FailingWriter {
     taken: Vec<u8>,
     good: usize,
     tried: usize,
 }
 
-impl Taker {
-    fn new(alloc: Global, good: u8) -> Taker {
-        Taker {
+impl FailingWriter {
+    fn new(alloc: Global, good: u8) -> FailingWriter {
+        FailingWriter {
             taken: Vec::new(alloc),
             good: match good {
                 b'0'..=b'9' => usize::from(good - b'0'),
@@ -66,7 +66,7 @@ impl Taker {
     }
 }
 
-impl Write for Taker {
+impl Write for FailingWriter {
     fn write(&mut self, buf: &[u8]) -> io::Result<usize> {
         self.tried = self.tried.saturating_add(1);
         if self.good < self.tried {
@@ -82,7 +82,7 @@ impl Write for Taker {
 }
 
 // Returns the arguments as the program takes them.
-fn words_of(alloc: Global, texts: &str) -> Result<Vec<Option<String>>, AllocError> {
+fn arguments_of_row(alloc: Global, texts: &str) -> Result<Vec<Option<String>>, AllocError> {
     let mut words = Vec::new(alloc);
     for text in texts.split('~') {
         let word = if text == "␀" {
@@ -96,13 +96,13 @@ fn words_of(alloc: Global, texts: &str) -> Result<Vec<Option<String>>, AllocErro
 }
 
 // Returns the exit status and the texts that the program writes.
-fn ran(alloc: Global, goods: &str, words: &str) -> Result<String, AllocError> {
+fn run_with_failing_outputs(alloc: Global, goods: &str, words: &str) -> Result<String, AllocError> {
     let [good_out, good_err] = *goods.as_bytes() else {
         return String::from_str(alloc, "not two numbers");
     };
-    let mut out = Taker::new(alloc, good_out);
-    let mut err = Taker::new(alloc, good_err);
-    let status = run(alloc, &words_of(alloc, words)?, &mut out, &mut err);
+    let mut out = FailingWriter::new(alloc, good_out);
+    let mut err = FailingWriter::new(alloc, good_err);
+    let status = run(alloc, &arguments_of_row(alloc, words)?, &mut out, &mut err);
     let printed = out.text();
     let told = err.text();
     format!(in alloc; "{status} {printed:?} {told:?}")
@@ -110,6 +110,6 @@ fn ran(alloc: Global, goods: &str, words: &str) -> Result<String, AllocError> {
 
 pub fn check_run(alloc: Global, differing: &mut String, row: Row<'_>) -> Result<(), AllocError> {
     let (goods, words) = row.asked.split_once(' ').unwrap_or((row.asked, ""));
-    let found = ran(alloc, goods, words)?;
+    let found = run_with_failing_outputs(alloc, goods, words)?;
     compare(differing, row, &found, "")
 }

@@ -1,7 +1,7 @@
 //! Searches in texts of 16-bit units.
 
-use crate::calls::Asked;
-use crate::lines::{write_one, write_ucs2, write_utf16};
+use crate::calls::SearchCall;
+use crate::lines::{write_match_if_any, write_ucs2, write_utf16};
 use crate::patterns::{refusal, regex_of};
 use crate::rows::{Row, compare};
 use regress_match::{Regex, SearchError, is_unit_boundary};
@@ -94,7 +94,7 @@ DE00~true true false false";
 struct Search<'a> {
     units: &'a [u16],
     encoding: &'a str,
-    asked: Asked,
+    asked: SearchCall,
 }
 
 fn units_of(alloc: Global, written: &str) -> Result<Vec<u16>, AllocError> {
@@ -109,12 +109,12 @@ pub fn write_of_utf16(
     line: &mut String,
     re: &Regex,
     units: &[u16],
-    asked: Asked,
+    asked: SearchCall,
 ) -> Result<(), SearchError> {
     let start = asked.start();
     if is_unit_boundary(units, start) || units.len() < start {
         if asked.is_at() {
-            return write_one(line, &re.match_at_utf16(units, start)?);
+            return write_match_if_any(line, &re.match_at_utf16(units, start)?);
         }
         let mut matches = re.find_from_utf16(units, start)?;
         write_utf16(line, &mut matches, asked.is_first())
@@ -127,10 +127,10 @@ pub fn write_of_ucs2(
     line: &mut String,
     re: &Regex,
     units: &[u16],
-    asked: Asked,
+    asked: SearchCall,
 ) -> Result<(), SearchError> {
     if asked.is_at() {
-        return write_one(line, &re.match_at_ucs2(units, asked.start())?);
+        return write_match_if_any(line, &re.match_at_ucs2(units, asked.start())?);
     }
     let mut matches = re.find_from_ucs2(units, asked.start())?;
     write_ucs2(line, &mut matches, asked.is_first())
@@ -165,7 +165,7 @@ pub fn check_units(alloc: Global, differing: &mut String, row: Row<'_>) -> Resul
     let search = Search {
         units: &units,
         encoding,
-        asked: Asked::of(call),
+        asked: SearchCall::of(call),
     };
     for no_opt in [false, true] {
         match regex_of(alloc, pattern, flags, no_opt) {

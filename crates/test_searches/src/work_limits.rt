@@ -12,7 +12,7 @@ use std::alloc::Global;
 // Rows of six fields: a pattern, `bytes` or `units` for the texts to search, an ASCII text, a
 // start, the work budget, and the matches with the work that is left. `limit` follows the matches
 // if the budget is used up, and the answer is the reason if no bound is known. The costs of the
-// rows up to `(a|b)*c` were calculated by hand, operation by operation: an instruction whose
+// rows before `(a|b)*c` were calculated by hand, operation by operation: an instruction whose
 // failure is recorded costs one more where it fails.
 pub const WORK_LIMITS: &str = r"a~bytes~ba~0~0~limit, 0 left
 a~bytes~ba~0~1~limit, 0 left

@@ -1,7 +1,7 @@
 //! Tests of searches with the work that their bound requires.
 
 use crate::fault::ParseFault;
-use crate::lists::{are_same, are_same_places};
+use crate::lists::{are_same, match_same_places};
 use regress_match::{BoundedRegex, Match, Regex, Unbounded, WorkError};
 use regress_pikevm::exec::{WorkLimitedProducer, WorkMatches};
 use std::alloc::{AllocError, Global};
@@ -21,26 +21,26 @@ struct Known<'a> {
 
 // The result of a search with a work budget.
 #[derive(Drop)]
-struct Worked {
+struct WorkLimitedResult {
     list: Vec<Match>,
     // The work that is left.
     left: u64,
     // Whether more work was needed.
-    is_out: bool,
+    ran_out_of_work: bool,
 }
 
-impl Worked {
+impl WorkLimitedResult {
     // Checks whether the search found these matches.
-    fn has_all(&self, list: &[Match]) -> bool {
-        !self.is_out && are_same(list, &self.list)
+    fn has_exactly_these_matches(&self, list: &[Match]) -> bool {
+        !self.ran_out_of_work && are_same(list, &self.list)
     }
 
     // Checks whether the search found a prefix of these matches, and then no work was left.
-    fn is_cut(&self, list: &[Match]) -> bool {
+    fn is_prefix_until_work_ran_out(&self, list: &[Match]) -> bool {
         let Some(first) = list.get(..self.list.len()) else {
             return false;
         };
-        self.is_out && self.left == 0 && are_same(first, &self.list)
+        self.ran_out_of_work && self.left == 0 && are_same(first, &self.list)
     }
 }
 
@@ -48,9 +48,9 @@ impl Worked {
 fn all<P: WorkLimitedProducer + Drop>(
     alloc: Global,
     mut matches: WorkMatches<P>,
-) -> Result<Worked, ParseFault> {
+) -> Result<WorkLimitedResult, ParseFault> {
     let mut list = Vec::new(alloc);
-    let mut is_out = false;
+    let mut ran_out_of_work = false;
     let mut left = matches.work_left();
     for _ in 0..u64::MAX {
         let item = matches.next();
@@ -61,12 +61,16 @@ fn all<P: WorkLimitedProducer + Drop>(
         }
         match item {
             Some(Ok(found)) => list.push(found).map_err(AllocError::from)?,
-            Some(Err(WorkError::WorkLimit)) => is_out = true,
+            Some(Err(WorkError::WorkLimit)) => ran_out_of_work = true,
             Some(Err(WorkError::Memory)) => return Err(ParseFault::Refused),
             None => break,
         }
     }
-    Ok(Worked { list, left, is_out })
+    Ok(WorkLimitedResult {
+        list,
+        left,
+        ran_out_of_work,
+    })
 }
 
 // Returns the result of a search in bytes.
@@ -75,7 +79,7 @@ fn all_in_bytes(
     bounded: &BoundedRegex<'_>,
     text: &str,
     work: u64,
-) -> Result<Worked, ParseFault> {
+) -> Result<WorkLimitedResult, ParseFault> {
     all(alloc, bounded.find_from(text, 0, work)?)
 }
 
@@ -88,11 +92,13 @@ fn is_taken(
     work: u64,
 ) -> Result<bool, ParseFault> {
     let whole = all_in_bytes(alloc, bounded, known.text, work)?;
-    if !whole.has_all(known.list) || whole.left != 0 {
+    if !whole.has_exactly_these_matches(known.list) || whole.left != 0 {
         return Ok(false);
     }
     match work.checked_sub(1) {
-        Some(less) => Ok(all_in_bytes(alloc, bounded, known.text, less)?.is_cut(known.list)),
+        Some(less) => Ok(all_in_bytes(
+            alloc, bounded, known.text, less,
+        )?.is_prefix_until_work_ran_out(known.list)),
         None => Ok(true),
     }
 }
@@ -107,14 +113,14 @@ fn is_found(
     let work = enough(bounded, text.len());
     let found = all_in_bytes(alloc, bounded, text, work)?;
     let taken = work.saturating_sub(found.left);
-    if !found.has_all(known.list) || !is_taken(alloc, bounded, known, taken)? {
+    if !found.has_exactly_these_matches(known.list) || !is_taken(alloc, bounded, known, taken)? {
         return Ok(false);
     }
     if !text.is_ascii() {
         return Ok(true);
     }
     let others = all(alloc, bounded.find_from_ascii(text, 0, work)?)?;
-    Ok(others.has_all(known.list) && others.left == found.left)
+    Ok(others.has_exactly_these_matches(known.list) && others.left == found.left)
 }
 
 // Checks the same in UTF-16.
@@ -126,7 +132,7 @@ fn is_found_in_utf16(
     let units: Vec<u16> = known.text.encode_utf16().collect(alloc)?;
     let work = enough(bounded, units.len());
     let found = all(alloc, bounded.find_from_utf16(&units, 0, work)?)?;
-    Ok(!found.is_out && are_same_places(known.text, known.list, &found.list))
+    Ok(!found.ran_out_of_work && match_same_places(known.text, known.list, &found.list))
 }
 
 // Checks whether a search in UCS-2 finds the same as without a bound.
@@ -140,12 +146,12 @@ fn is_same_in_ucs2(
     let work = enough(bounded, units.len());
     let list = crate::lists::all(alloc, re.find_from_ucs2(&units, 0)?)?;
     let found = all(alloc, bounded.find_from_ucs2(&units, 0, work)?)?;
-    Ok(found.has_all(&list))
+    Ok(found.has_exactly_these_matches(&list))
 }
 
 /// Checks whether the same matches are found with the work that the bound requires. Returns `None`
 /// if no bound is known.
-pub fn is_bounded(
+pub fn do_work_bounds_suffice(
     alloc: Global,
     re: &Regex,
     text: &str,

@@ -2,10 +2,10 @@
 
 ghost use Rattle.std.specs.Prelude.{IsAscii};
 
-use crate::bounded::is_bounded;
+use crate::bounded::do_work_bounds_suffice;
 use crate::fault::ParseFault;
-use crate::limits::{is_limited, program_of};
-use crate::lists::{all, are_same, are_same_places, is_start};
+use crate::limits::{do_step_limits_agree, program_of};
+use crate::lists::{all, are_same, is_start, match_same_places};
 use regress_input::indexing::Utf8Input;
 use regress_match::backends::{DefaultExecutor, PikeVMExecutor, find, find_ascii};
 use regress_match::{Flags, Match, Regex, SearchError};
@@ -37,13 +37,18 @@ fn is_same_unoptimized(alloc: Global, case: Case<'_>, list: &[Match]) -> Result<
 }
 
 // Checks whether the copying executor finds the same matches.
-fn is_copied(alloc: Global, re: &Regex, text: &str, list: &[Match]) -> Result<bool, ParseFault> {
+fn does_pikevm_agree(
+    alloc: Global,
+    re: &Regex,
+    text: &str,
+    list: &[Match],
+) -> Result<bool, ParseFault> {
     let others = find::<PikeVMExecutor<Utf8Input>>(re, text, 0)?;
     Ok(are_same(list, &all(alloc, others)?))
 }
 
 // Returns all matches that an executor finds that remembers failures from the first attempt on.
-fn found_remembering(
+fn matches_with_memoization(
     alloc: Global,
     re: &CompiledRegex,
     text: &str,
@@ -54,9 +59,13 @@ fn found_remembering(
 }
 
 // Checks whether the executor that remembers failures finds the same matches.
-fn is_remembered(alloc: Global, case: Case<'_>, list: &[Match]) -> Result<bool, ParseFault> {
+fn does_memoizing_executor_agree(
+    alloc: Global,
+    case: Case<'_>,
+    list: &[Match],
+) -> Result<bool, ParseFault> {
     let program = program_of(alloc, case.pattern, Flags::from(case.flags))?;
-    Ok(are_same(list, &found_remembering(alloc, &program, case.text)?))
+    Ok(are_same(list, &matches_with_memoization(alloc, &program, case.text)?))
 }
 
 // Checks whether the search of ASCII texts finds the same matches.
@@ -72,7 +81,7 @@ fn is_same_in_ascii(
 }
 
 // Checks the same with the copying executor.
-fn is_copied_in_ascii(
+fn does_pikevm_agree_in_ascii(
     alloc: Global,
     re: &Regex,
     text: &str,
@@ -93,12 +102,12 @@ fn is_same_in_utf16(
 ) -> Result<bool, ParseFault> {
     let units: Vec<u16> = text.encode_utf16().collect(alloc)?;
     let others = all(alloc, re.find_from_utf16(&units, 0)?)?;
-    Ok(are_same_places(text, list, &others))
+    Ok(match_same_places(text, list, &others))
 }
 
 // Checks whether a search from the end of a match, which is a boundary, finds the remaining
 // matches.
-fn is_rest(
+fn does_search_from_end_find_rest(
     alloc: Global,
     re: &Regex,
     text: &str,
@@ -112,25 +121,30 @@ fn is_rest(
 }
 
 // Checks this for the end of each match that is not empty.
-fn is_resumed(alloc: Global, re: &Regex, text: &str, list: &[Match]) -> Result<bool, ParseFault> {
+fn do_resumed_searches_agree(
+    alloc: Global,
+    re: &Regex,
+    text: &str,
+    list: &[Match],
+) -> Result<bool, ParseFault> {
     let mut same = true;
     for (id, found) in list.iter().enumerate() {
         if found.start() < found.end() {
             let rest = list.get(id.saturating_add(1)..).unwrap_or(&[]);
-            same &= is_rest(alloc, re, text, found.end(), rest)?;
+            same &= does_search_from_end_find_rest(alloc, re, text, found.end(), rest)?;
         }
     }
     Ok(same)
 }
 
 // Checks whether replacing each match, or the first one, by itself does not change the text.
-fn is_given_back(re: &Regex, text: &str) -> Result<bool, ParseFault> {
+fn is_kept_when_replaced_by_itself(re: &Regex, text: &str) -> Result<bool, ParseFault> {
     let each = re.replace_all(text, "$0")?.as_str() == text;
     Ok(each && re.replace(text, "$0")?.as_str() == text)
 }
 
 // Returns the fault if the check fails.
-fn want(holds: bool, fault: ParseFault) -> Result<(), ParseFault> {
+fn fault_unless(holds: bool, fault: ParseFault) -> Result<(), ParseFault> {
     if holds { Ok(()) } else { Err(fault) }
 }
 
@@ -138,25 +152,40 @@ fn want(holds: bool, fault: ParseFault) -> Result<(), ParseFault> {
 // known.
 fn check(alloc: Global, re: &Regex, case: Case<'_>, list: &[Match]) -> Result<bool, ParseFault> {
     let text = case.text;
-    want(
+    fault_unless(
         is_same_unoptimized(alloc, case, list)?,
         ParseFault::Unoptimized,
     )?;
-    want(is_copied(alloc, re, text, list)?, ParseFault::Copied)?;
-    want(is_remembered(alloc, case, list)?, ParseFault::Remembered)?;
+    fault_unless(
+        does_pikevm_agree(alloc, re, text, list)?,
+        ParseFault::Copied,
+    )?;
+    fault_unless(
+        does_memoizing_executor_agree(alloc, case, list)?,
+        ParseFault::Remembered,
+    )?;
     if text.is_ascii() {
-        want(is_same_in_ascii(alloc, re, text, list)?, ParseFault::Ascii)?;
-        want(
-            is_copied_in_ascii(alloc, re, text, list)?,
+        fault_unless(is_same_in_ascii(alloc, re, text, list)?, ParseFault::Ascii)?;
+        fault_unless(
+            does_pikevm_agree_in_ascii(alloc, re, text, list)?,
             ParseFault::CopiedAscii,
         )?;
     }
-    want(is_same_in_utf16(alloc, re, text, list)?, ParseFault::Utf16)?;
-    want(is_resumed(alloc, re, text, list)?, ParseFault::Resumed)?;
-    want(is_limited(alloc, re, case, list)?, ParseFault::Limited)?;
-    want(is_given_back(re, text)?, ParseFault::GivenBack)?;
-    let bounded = is_bounded(alloc, re, text, list)?;
-    want(bounded != Some(false), ParseFault::Bounded)?;
+    fault_unless(is_same_in_utf16(alloc, re, text, list)?, ParseFault::Utf16)?;
+    fault_unless(
+        do_resumed_searches_agree(alloc, re, text, list)?,
+        ParseFault::Resumed,
+    )?;
+    fault_unless(
+        do_step_limits_agree(alloc, re, case, list)?,
+        ParseFault::Limited,
+    )?;
+    fault_unless(
+        is_kept_when_replaced_by_itself(re, text)?,
+        ParseFault::ReplacedByItself,
+    )?;
+    let bounded = do_work_bounds_suffice(alloc, re, text, list)?;
+    fault_unless(bounded != Some(false), ParseFault::Bounded)?;
     Ok(bounded.is_some())
 }
 

@@ -34,17 +34,17 @@ const MOST: u64 = 21;
 
 /// A pattern, and what its texts consist of.
 #[derive(Clone, Copy)]
-pub struct Explosion {
+pub struct ExplosivePattern {
     pub pattern: &'static str,
     piece: &'static str,
     end: &'static str,
 }
 
-impl Explosion {
+impl ExplosivePattern {
     /// Reads a row.
     pub fn of(row: [&'static str; 3]) -> Self {
         let [pattern, piece, end] = row;
-        Explosion {
+        ExplosivePattern {
             pattern,
             piece,
             end,
@@ -64,16 +64,16 @@ impl Explosion {
 
     /// Returns the quotient of the bound and the work of a search in a text of this size, rounded
     /// up.
-    pub fn factor(self, alloc: Global, size: usize) -> Result<u64, ParseFault> {
+    pub fn quotient_of_bound_and_work(self, alloc: Global, size: usize) -> Result<u64, ParseFault> {
         let re = Regex::new(alloc, self.pattern)?;
         let bounded = re.bounded()?;
         let text = self.text(alloc, size)?;
-        factor_of(&bounded, &text)
+        quotient_for_text(&bounded, &text)
     }
 }
 
 // Returns this quotient for a text without a match.
-fn factor_of(bounded: &BoundedRegex<'_>, text: &str) -> Result<u64, ParseFault> {
+fn quotient_for_text(bounded: &BoundedRegex<'_>, text: &str) -> Result<u64, ParseFault> {
     let bound = enough(bounded, text.len());
     let mut matches = bounded.find_from(text, 0, bound)?;
     match matches.next() {
@@ -84,7 +84,9 @@ fn factor_of(bounded: &BoundedRegex<'_>, text: &str) -> Result<u64, ParseFault> 
     let work = bound.saturating_sub(matches.work_left());
     let almost = work.saturating_sub(1);
     match bound.saturating_add(almost).checked_div(work) {
-        Some(factor) if factor <= MOST => Ok(factor),
+        Some(quotient_of_bound_and_work) if quotient_of_bound_and_work <= MOST => Ok(
+            quotient_of_bound_and_work,
+        ),
         _ => Err(ParseFault::Bounded),
     }
 }

@@ -32,7 +32,7 @@ pub enum ParseFault {
     /// No work bound is known.
     Unbounded,
     /// Replacing matches by `$0` changes the text.
-    GivenBack,
+    ReplacedByItself,
     /// A call was refused for another reason than an allocation failure, or has another result than
     /// expected.
     Wrong,

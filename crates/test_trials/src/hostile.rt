@@ -40,7 +40,7 @@ fn try_section(rt: &HostRuntime, section: Section) -> io::Result<()> {
 /// # Errors
 ///
 /// Returns an error if printing fails.
-pub fn tell_all(rt: &HostRuntime) -> io::Result<()> {
+pub fn print_all_results(rt: &HostRuntime) -> io::Result<()> {
     for section in SECTIONS {
         try_section(rt, section)?;
     }

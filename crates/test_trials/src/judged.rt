@@ -42,7 +42,7 @@ struct Case {
 
 // Checks whether the program has the expected result, and prints an error only if the pattern is
 // refused.
-fn ends_as_judged(alloc: Global, is_whole: bool, case: Case) -> Result<bool, AllocError> {
+fn has_judged_result(alloc: Global, is_whole: bool, case: Case) -> Result<bool, AllocError> {
     let Case {
         pattern,
         flags,
@@ -78,7 +78,7 @@ fn agrees(rt: &HostRuntime, cases: Cases) -> Result<bool> {
     let mut agree = 0u64;
     let mut differ = 0u64;
     for line in lines.lines() {
-        if ends_as_judged(alloc, cases.is_whole, serde_json::from_str(alloc, line)?)? {
+        if has_judged_result(alloc, cases.is_whole, serde_json::from_str(alloc, line)?)? {
             agree = agree.saturating_add(1);
         } else {
             eprintln!(rt; "differs: {line}")?;

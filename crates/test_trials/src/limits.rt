@@ -13,7 +13,7 @@ use regress_program::insn::CompiledRegex;
 use std::alloc::{AllocError, Global};
 
 /// More steps than any of these searches takes.
-const PLENTY: u64 = 1 << 40;
+const AMPLE_STEPS: u64 = 1 << 40;
 
 /// Returns the program for bytes of the optimized tree of a pattern.
 pub fn program_of(alloc: Global, pattern: &str, flags: Flags) -> Result<CompiledRegex, Error> {
@@ -39,13 +39,13 @@ fn ask<P: MatchProducer>(executor: &mut P, start: usize) -> Result<(), SearchErr
 fn need(re: &CompiledRegex, text: &str, start: usize) -> Result<u64, SearchError>
     requires { IsCharBoundary text.now start ⊎ (length text.now < start) }
 {
-    let mut executor = LimitedExecutor::new(re, text, PLENTY)?;
+    let mut executor = LimitedExecutor::new(re, text, AMPLE_STEPS)?;
     ask(&mut executor, start)?;
-    Ok(PLENTY.saturating_sub(executor.steps_left()))
+    Ok(AMPLE_STEPS.saturating_sub(executor.steps_left()))
 }
 
 // Returns where the list of matches continues after a match, if it does.
-fn start_behind(text: &str, found: &Match) -> Option<usize> {
+fn start_after_match(text: &str, found: &Match) -> Option<usize> {
     if found.start() < found.end() {
         return Some(found.end());
     }
@@ -55,13 +55,13 @@ fn start_behind(text: &str, found: &Match) -> Option<usize> {
 
 // Returns the number of steps that are needed for each match and all matches before it, and last
 // for the end of the list.
-fn sums(
+fn cumulative_steps(
     alloc: Global,
     re: &CompiledRegex,
     text: &str,
     list: &[Match],
 ) -> Result<Vec<u64>, SearchError> {
-    let mut sums = Vec::new(alloc);
+    let mut cumulative_steps = Vec::new(alloc);
     let mut sum = 0u64;
     let mut start = Some(0);
     for number in 0..=list.len() {
@@ -70,19 +70,19 @@ fn sums(
         {
             sum = sum.saturating_add(need(re, text, at)?);
         }
-        sums.push(sum).map_err(AllocError::from)?;
+        cumulative_steps.push(sum).map_err(AllocError::from)?;
         start = match list.get(number) {
-            Some(found) => start_behind(text, found),
+            Some(found) => start_after_match(text, found),
             None => None,
         };
     }
-    Ok(sums)
+    Ok(cumulative_steps)
 }
 
 // Returns for how many items this number of steps suffices.
-fn count(sums: &[u64], steps: u64) -> usize {
+fn count(cumulative_steps: &[u64], steps: u64) -> usize {
     let mut items = 0usize;
-    for sum in sums {
+    for sum in cumulative_steps {
         items = items.saturating_add(usize::from(*sum <= steps));
     }
     items
@@ -98,7 +98,7 @@ fn is_at(list: &[Match], number: usize, found: &Match) -> bool {
 
 // Checks whether this many items of the list follow, and then an error, unless the last item is the
 // end of the list.
-fn are_to_come<P: MatchProducer + Drop>(
+fn do_items_follow<P: MatchProducer + Drop>(
     mut matches: Matches<P>,
     list: &[Match],
     items: usize,
@@ -127,27 +127,31 @@ fn yields(
     items: usize,
 ) -> Result<bool, ParseFault> {
     let matches = re.find_from_limited(text, 0, steps)?;
-    Ok(are_to_come(matches, list, items))
+    Ok(do_items_follow(matches, list, items))
 }
 
 // Returns the numbers of steps that the items of a case need.
-fn sums_of(alloc: Global, case: Case<'_>, list: &[Match]) -> Result<Vec<u64>, ParseFault> {
+fn cumulative_steps_of_case(
+    alloc: Global,
+    case: Case<'_>,
+    list: &[Match],
+) -> Result<Vec<u64>, ParseFault> {
     let program = program_of(alloc, case.pattern, Flags::from(case.flags))?;
-    Ok(sums(alloc, &program, case.text, list)?)
+    Ok(cumulative_steps(alloc, &program, case.text, list)?)
 }
 
 /// Checks that the steps that an item needs yield it, and that one step less yields one item less.
-pub fn is_limited(
+pub fn do_step_limits_agree(
     alloc: Global,
     re: &Regex,
     case: Case<'_>,
     list: &[Match],
 ) -> Result<bool, ParseFault> {
-    let sums = sums_of(alloc, case, list)?;
+    let cumulative_steps = cumulative_steps_of_case(alloc, case, list)?;
     let mut holds = true;
-    for sum in &sums {
+    for sum in &cumulative_steps {
         for steps in [*sum, sum.saturating_sub(1)] {
-            holds &= yields(re, case.text, list, steps, count(&sums, steps))?;
+            holds &= yields(re, case.text, list, steps, count(&cumulative_steps, steps))?;
         }
     }
     Ok(holds)

@@ -68,7 +68,7 @@ pub fn are_same(some: &[Match], others: &[Match]) -> bool {
 }
 
 /// Checks whether the matches of a text in bytes and in 16-bit units are at the same places.
-pub fn are_same_places(text: &str, bytes: &[Match], units: &[Match]) -> bool {
+pub fn match_same_places(text: &str, bytes: &[Match], units: &[Match]) -> bool {
     let mut same = bytes.len() == units.len();
     for (bytes, units) in bytes.iter().zip(units) {
         same &= is_same_in_units(text, &bytes.range, &units.range);

@@ -23,7 +23,7 @@ use std::env;
 use std::process::ExitCode;
 
 // Checks whether only the odd rows are wanted. This is unknown if an allocation fails.
-fn asks_for_hostile(rt: &HostRuntime) -> bool {
+fn wants_only_hostile_rows(rt: &HostRuntime) -> bool {
     match env::args(rt) {
         Ok(mut words) => words.nth(1).is_some_and(|word| word.as_str() == "hostile"),
         Err(_) => false,
@@ -31,13 +31,13 @@ fn asks_for_hostile(rt: &HostRuntime) -> bool {
 }
 
 fn main(rt: HostRuntime) -> Result<ExitCode> {
-    if asks_for_hostile(&rt) || asks_for_hostile(&rt) {
-        hostile::tell_all(&rt)?;
+    if wants_only_hostile_rows(&rt) || wants_only_hostile_rows(&rt) {
+        hostile::print_all_results(&rt)?;
         return Ok(ExitCode::SUCCESS);
     }
     let judged = judged::agree(&rt)?;
     let constructed = sweep::agrees(&rt)?;
-    seeded::tell_all(&rt)?;
-    hostile::tell_all(&rt)?;
+    seeded::print_all_results(&rt)?;
+    hostile::print_all_results(&rt)?;
     Ok(ExitCode::from(u8::from(!judged || !constructed)))
 }

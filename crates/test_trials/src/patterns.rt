@@ -13,7 +13,7 @@ const ATOMS: [&str; 16] = [
 ];
 
 /// Pieces that may not.
-const LOOKS: [&str; 6] = ["^", "$", "\\b", "\\B", "(?=a)", "(?<!b)"];
+const UNQUANTIFIABLE_PIECES: [&str; 6] = ["^", "$", "\\b", "\\B", "(?=a)", "(?<!b)"];
 
 /// The quantifiers.
 const QUANTIFIERS: [&str; 9] = ["*", "+", "?", "*?", "+?", "??", "{2}", "{1,2}", "{0,2}?"];
@@ -79,10 +79,10 @@ impl Draft {
         if seed.is(4) {
             return self.close();
         }
-        self.add_rare(seed)
+        self.append_rare_piece(seed)
     }
 
-    fn add_rare(&mut self, seed: &mut Seed) -> Result<(), AllocError> {
+    fn append_rare_piece(&mut self, seed: &mut Seed) -> Result<(), AllocError> {
         if seed.is(3) {
             return self.open(seed.pick(&LOOKAROUNDS), false);
         }
@@ -92,7 +92,7 @@ impl Draft {
         if self.groups > 0 && seed.is(4) {
             return self.write("\\1", true);
         }
-        self.write(seed.pick(&LOOKS), false)
+        self.write(seed.pick(&UNQUANTIFIABLE_PIECES), false)
     }
 }
 

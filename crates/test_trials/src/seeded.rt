@@ -5,7 +5,7 @@
 //! than the work.
 
 use crate::checks::{Case, try_case};
-use crate::explosions::{EXPLOSIONS, Explosion, SIZES};
+use crate::explosions::{EXPLOSIONS, ExplosivePattern, SIZES};
 use crate::patterns::pattern;
 use crate::seed::Seed;
 use crate::texts::text;
@@ -24,7 +24,7 @@ const CHARACTERS: u32 = 6;
 
 // Tries the next case. Returns the number of matches and whether there is a bound. Returns `None`
 // if a check fails.
-fn try_next(rt: &HostRuntime, seed: &mut Seed) -> io::Result<Option<(usize, bool)>> {
+fn try_next_case(rt: &HostRuntime, seed: &mut Seed) -> io::Result<Option<(usize, bool)>> {
     let pattern = pattern(rt.alloc(), seed, PIECES)?;
     let text = text(rt.alloc(), seed, CHARACTERS)?;
     let case = Case {
@@ -49,7 +49,7 @@ fn try_cases(rt: &HostRuntime) -> io::Result<()> {
     let mut matches = 0usize;
     let mut bounds = 0u32;
     for _ in 0..CASES {
-        if let Some((found, bounded)) = try_next(rt, &mut seed)? {
+        if let Some((found, bounded)) = try_next_case(rt, &mut seed)? {
             agree = agree.saturating_add(1);
             matches = matches.saturating_add(found);
             bounds = bounds.saturating_add(u32::from(bounded));
@@ -59,12 +59,12 @@ fn try_cases(rt: &HostRuntime) -> io::Result<()> {
 }
 
 // Prints, for a pattern and texts of each size, how much greater the bound is than the work.
-fn tell(rt: &HostRuntime, explosion: Explosion) -> io::Result<()> {
+fn print_factors(rt: &HostRuntime, explosion: ExplosivePattern) -> io::Result<()> {
     let pattern = explosion.pattern;
     print!(rt; "{pattern}: the bound is, rounded up,")?;
     for size in SIZES {
-        match explosion.factor(rt.alloc(), size) {
-            Ok(factor) => print!(rt; " {factor}")?,
+        match explosion.quotient_of_bound_and_work(rt.alloc(), size) {
+            Ok(quotient_of_bound_and_work) => print!(rt; " {quotient_of_bound_and_work}")?,
             Err(fault) => print!(rt; " {fault:?}")?,
         }
     }
@@ -72,10 +72,10 @@ fn tell(rt: &HostRuntime, explosion: Explosion) -> io::Result<()> {
 }
 
 /// Prints the results of the cases, and then those of the patterns with exploding searches.
-pub fn tell_all(rt: &HostRuntime) -> io::Result<()> {
+pub fn print_all_results(rt: &HostRuntime) -> io::Result<()> {
     try_cases(rt)?;
     for row in EXPLOSIONS {
-        tell(rt, Explosion::of(row))?;
+        print_factors(rt, ExplosivePattern::of(row))?;
     }
     Ok(())
 }

@@ -9,7 +9,7 @@ use Rattle.regress_match.specs.declared.api.regex.Regex.{Regex}
 use Rattle.regress_match.proofs.FlagLemmas.{flags_by}
 use Rattle.regress_match.proofs.GrammarTreeLemmas.{ecmascript-searches-follow}
 use Rattle.regex_meaning.proofs.EachElementLemmas.{Each, Each-map}
-use Rattle.use_grep.specs.Selecting.{HasNoneInLines, IsLocal, IsSearchOf, framed, has_match, lines_of, searched, tree_flags}
+use Rattle.use_grep.specs.Selecting.{LinesOfTextWithoutMatchHaveNone, IsLocal, HasMatchesOfGrammar, framed, has_match, lines_of, searched, tree_flags}
 use Rattle.use_grep.proofs.InParts.{lines-have_none}
 
 -- Flags that differ only in `i`.
@@ -18,7 +18,7 @@ unfolding flags_from_letters
 flags-of_case true m d n u v em ed en eu ev = rw (em, ed, en, eu, ev) refl
 flags-of_case false m d n u v em ed en eu ev = rw (em, ed, en, eu, ev) refl
 
-is-search : (flags : Flags) (pattern : List ℕ) (re : Regex) → IsCompiledWithSyntax ecmascript flags (chars pattern) re → IsSearchOf flags pattern re
+is-search : (flags : Flags) (pattern : List ℕ) (re : Regex) → IsCompiledWithSyntax ecmascript flags (chars pattern) re → HasMatchesOfGrammar flags pattern re
 is-search flags pattern re is = record {
   tree = tree_for_16_bit_units re;
   parsed = is.parsed;
@@ -26,7 +26,7 @@ is-search flags pattern re is = record {
 }
 
 -- If the grammar has a local tree for the pattern, the lines of a text without a match have none.
-pub none-in_lines : (flags : Flags) (pattern : List ℕ) (re : Regex) → IsCompiledWithSyntax ecmascript flags (chars pattern) re → IsLocal flags pattern → HasNoneInLines re
+pub none-in_lines : (flags : Flags) (pattern : List ℕ) (re : Regex) → IsCompiledWithSyntax ecmascript flags (chars pattern) re → IsLocal flags pattern → LinesOfTextWithoutMatchHaveNone re
 none-in_lines flags pattern re is local text utf8 none =
     let found = (is-search flags pattern re is).found local.0 local.1 in
     filter-none (has_match re) (lines_of text)
@@ -39,7 +39,7 @@ none-in_lines flags pattern re is local text utf8 none =
 
 module _ (flags wanted : Flags) (same : flags ≡ wanted) (words whole_lines : Bool) (pattern : List ℕ) (re : Regex) where
   -- The flags and the searched pattern, in terms of the options.
-  search-of : (text : List ℕ) → IsCompiledWithSyntax ecmascript flags (chars text) re → IsSearchOf wanted text re
+  search-of : (text : List ℕ) → IsCompiledWithSyntax ecmascript flags (chars text) re → HasMatchesOfGrammar wanted text re
   search-of text is = is-search wanted text re (subst (λ f. IsCompiledWithSyntax ecmascript f (chars text) re) same is)
 
   abbrev chosen : Bool → List ℕ
@@ -49,13 +49,13 @@ module _ (flags wanted : Flags) (same : flags ≡ wanted) (words whole_lines : B
   neither w l = rw (w, l) refl
 
   pub alone-searched : words ≡ false → whole_lines ≡ false → IsCompiledWithSyntax ecmascript flags (chars pattern) re
-      → IsSearchOf wanted (searched words whole_lines pattern) re
-  alone-searched w l is = subst (λ b. IsSearchOf wanted (chosen b) re) (sym (neither w l)) (search-of pattern is)
+      → HasMatchesOfGrammar wanted (searched words whole_lines pattern) re
+  alone-searched w l is = subst (λ b. HasMatchesOfGrammar wanted (chosen b) re) (sym (neither w l)) (search-of pattern is)
 
   pub framed-searched : (text : List ℕ) → (words || whole_lines) ≡ true → text ≡ framed whole_lines pattern → IsCompiledWithSyntax ecmascript flags (chars text) re
-      → IsSearchOf wanted (searched words whole_lines pattern) re
+      → HasMatchesOfGrammar wanted (searched words whole_lines pattern) re
   framed-searched text either is_framed is =
-      subst (λ b. IsSearchOf wanted (chosen b) re) (sym either) (subst (λ t. IsSearchOf wanted t re) is_framed (search-of text is))
+      subst (λ b. HasMatchesOfGrammar wanted (chosen b) re) (sym either) (subst (λ t. HasMatchesOfGrammar wanted t re) is_framed (search-of text is))
 
   pub alone-is-one : IsCompiledWithSyntax ecmascript flags (chars pattern) re → (tree : Tree) × ParsesEcmaScript wanted (chars pattern) tree
   alone-is-one is = (tree_for_16_bit_units re, subst (λ f. ParsesEcmaScript f (chars pattern) (tree_for_16_bit_units re)) same is.parsed)

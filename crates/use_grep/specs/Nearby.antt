@@ -3,13 +3,13 @@ use Rattle.std.specs.Prelude.{ℕ, ◌+◌, ◌≤◌, List, [], ◌∷◌, Bool
 use Rattle.std.specs.List.{range_with_len}
 
 -- Line `n` is between `before` lines before line `s` and `after` lines after it.
-abbrev pub is_beside : (before after s n : ℕ) → Bool
-is_beside before after s n = nat_le s (n + before) && nat_le n (s + after)
+abbrev pub is_line_in_context_of : (before after s n : ℕ) → Bool
+is_line_in_context_of before after s n = nat_le s (n + before) && nat_le n (s + after)
 
 -- Line `n` is near one of the selected lines.
 abbrev pub is_near : (before after : ℕ) → (selected : List ℕ) → (n : ℕ) → Bool
 is_near before after [] n = false
-is_near before after (s ∷ selected) n = is_beside before after s n || is_near before after selected n
+is_near before after (s ∷ selected) n = is_line_in_context_of before after s n || is_near before after selected n
 
 -- The numbers of the lines that are printed, among `count` lines from line `first` on.
 abbrev pub near : (before after : ℕ) → (selected : List ℕ) → (first count : ℕ) → List ℕ
@@ -25,6 +25,6 @@ abbrev pub IsIncreasing : List ℕ → Type 0
 IsIncreasing xs = IsIncreasingFrom 0 xs
 
 -- Line `n` is at most `after` lines after the first of these lines.
-abbrev pub StartsFrom : (n after : ℕ) → List ℕ → Type 0
-StartsFrom n after [] = ⊤
-StartsFrom n after (x ∷ xs) = n ≤ x + after
+abbrev pub IsWithinReachOfFirst : (n after : ℕ) → List ℕ → Type 0
+IsWithinReachOfFirst n after [] = ⊤
+IsWithinReachOfFirst n after (x ∷ xs) = n ≤ x + after

@@ -19,8 +19,8 @@ abbrev pub lines_of : (text : List ℕ) → List (List ℕ)
 lines_of text = slice_split (λ b. eqb b 10) text
 
 -- The lines of a text in which a NUL byte ends a line.
-abbrev pub parts_of : (text : List ℕ) → List (List ℕ)
-parts_of text = slice_split (λ b. eqb b 0) text
+abbrev pub nul_terminated_lines : (text : List ℕ) → List (List ℕ)
+nul_terminated_lines text = slice_split (λ b. eqb b 0) text
 
 -- The lines with their numbers. The first line has the number `first`.
 abbrev pub numbered : (first : ℕ) → List (List ℕ) → List (ℕ × List ℕ)
@@ -40,8 +40,8 @@ abbrev pub shown : Line → ℕ × List ℕ
 shown line = (line.number, line.text.now)
 
 -- A part of a line, as its start and its text.
-abbrev pub shown_part : Part → ℕ × List ℕ
-shown_part part = (part.start, part.text.now)
+abbrev pub start_and_text_of_part : Part → ℕ × List ℕ
+start_and_text_of_part part = (part.start, part.text.now)
 
 -- The part of the line that each match covers.
 abbrev pub matched_parts : (line : List ℕ) → List Answer → List (ℕ × List ℕ)
@@ -70,7 +70,7 @@ tree_flags ignore_case = if ignore_case then flags_from_letters (codes "i") else
 
 -- The grammar has a tree for the pattern, and a line has a match exactly if such a tree finds one
 -- in it.
-pub record IsSearchOf (flags : Flags) (pattern : List ℕ) (re : Regex) : Type 0 where
+pub record HasMatchesOfGrammar (flags : Flags) (pattern : List ℕ) (re : Regex) : Type 0 where
   pub tree : Tree
   pub parsed : ParsesEcmaScript flags (chars pattern) tree
   pub found : (tree : Tree) → ParsesEcmaScript flags (chars pattern) tree → (line : List ℕ)
@@ -82,8 +82,8 @@ abbrev pub IsLocal : (flags : Flags) → (pattern : List ℕ) → Type 0
 IsLocal flags pattern = (tree : Tree) × ParsesEcmaScript flags (chars pattern) tree × (is_local tree.root ≡ true)
 
 -- If a text has no match, none of its lines has one.
-abbrev pub HasNoneInLines : Regex → Type 0
-HasNoneInLines re =
+abbrev pub LinesOfTextWithoutMatchHaveNone : Regex → Type 0
+LinesOfTextWithoutMatchHaveNone re =
     (text : List ℕ) → IsUtf8 text → has_match re text ≡ false → filter (has_match re) (lines_of text) ≡ []
 
 -- The pattern that matches only whole lines or, without `whole_lines`, only where no word character

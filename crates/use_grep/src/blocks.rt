@@ -10,7 +10,7 @@ use thiserror::Error;
 
 // The number of bytes that are read at a time. A block is longer than its last line by at most this
 // number.
-const STEP: usize = 1 << 17;
+const BYTES_PER_READ: usize = 1 << 17;
 
 /// Why there is no next block.
 #[derive(Debug, Drop, Error)]
@@ -19,7 +19,7 @@ pub enum BlockError {
     #[error("{0}")]
     Read(io::Error),
     /// A line exceeds the maximum length.
-    #[error("a line is too long")]
+    #[error("a line is longer than --max-line")]
     TooLong,
     /// An allocation for the line failed.
     #[error("out of memory")]
@@ -65,7 +65,7 @@ impl<R: Read + Drop> Blocks<R> {
             reader,
             longest,
             end_of_line,
-            buffer: vec![in alloc; 0; STEP]?,
+            buffer: vec![in alloc; 0; BYTES_PER_READ]?,
             end: 0,
             taken: 0,
             filled: 0,
@@ -79,11 +79,11 @@ impl<R: Read + Drop> Blocks<R> {
     /// `Read` if the reader fails, `TooLong` if a line is too long, and `Memory` if an allocation
     /// fails.
     pub fn advance(&mut self) -> Result<bool, BlockError> {
-        self.forget_taken();
+        self.move_unread_bytes_to_front();
         for _ in 0..u64::MAX {
             let before = self.filled;
             if self.read_more()? == 0 {
-                return Ok(self.take_rest());
+                return Ok(self.take_final_block());
             }
             if let Some(at) = memrchr(self.end_of_line, &self.buffer[before..self.filled]) {
                 self.taken = before + at + 1;
@@ -100,7 +100,7 @@ impl<R: Read + Drop> Blocks<R> {
     }
 
     // Moves the bytes that were not yet returned to the front of the buffer.
-    fn forget_taken(&mut self) {
+    fn move_unread_bytes_to_front(&mut self) {
         self.buffer.copy_within(self.taken..self.filled, 0);
         let left = self.filled - self.taken;
         self.end = 0;
@@ -109,7 +109,7 @@ impl<R: Read + Drop> Blocks<R> {
     }
 
     // Makes a block of the bytes that remain at the end of the file. Returns whether there are any.
-    fn take_rest(&mut self) -> bool {
+    fn take_final_block(&mut self) -> bool {
         self.taken = self.filled;
         self.end = self.filled;
         self.filled > 0
@@ -122,9 +122,9 @@ impl<R: Read + Drop> Blocks<R> {
         if self.filled as u64 > self.longest {
             return Err(BlockError::TooLong);
         }
-        self.make_room()?;
+        self.double_buffer_if_full()?;
         let room = &mut self.buffer[self.filled..];
-        let most = room.len().min(STEP);
+        let most = room.len().min(BYTES_PER_READ);
         match self.reader.read(&mut room[..most]) {
             Ok(count) => {
                 self.filled += count;
@@ -135,7 +135,7 @@ impl<R: Read + Drop> Blocks<R> {
     }
 
     // Doubles the buffer if it is full.
-    fn make_room(&mut self) -> Result<(), AllocError>
+    fn double_buffer_if_full(&mut self) -> Result<(), AllocError>
         ensures { self.new.filled ≡ self.old.filled }
     {
         if self.filled == self.buffer.len() {

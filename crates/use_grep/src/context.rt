@@ -1,7 +1,7 @@
 //! Context lines: the lines near the selected ones.
 
 ghost use Rattle.std.specs.Prelude.{◌≡◌, ◌-◌, ◌≤◌, IfOk, ℕ};
-ghost use Rattle.use_grep.specs.Nearby.{IsIncreasing, StartsFrom, is_near, near};
+ghost use Rattle.use_grep.specs.Nearby.{IsIncreasing, IsWithinReachOfFirst, is_near, near};
 
 use std::alloc::{AllocError, Global};
 
@@ -27,7 +27,7 @@ pub fn near(
     let mut numbers = Vec::new(alloc);
     let mut left = selected;
     for number in first..end {
-        left = not_passed(left, after, number);
+        left = lines_not_yet_passed(left, after, number);
         if is_near_first(left, before, number) {
             numbers.push(number)?;
         }
@@ -38,7 +38,7 @@ pub fn near(
 // Checks whether a line is near the first selected line, if it is not too far after it.
 #[tactic(auto, using(crate::proofs::Near::near_first))]
 fn is_near_first(selected: &[u64], before: u64, number: u64) -> bool
-    ensures { (after : ℕ) → StartsFrom number after selected.now → IsIncreasing selected.now
+    ensures { (after : ℕ) → IsWithinReachOfFirst number after selected.now → IsIncreasing selected.now
         → result ≡ is_near before after selected.now number }
 {
     match selected {
@@ -49,11 +49,11 @@ fn is_near_first(selected: &[u64], before: u64, number: u64) -> bool
 
 // Returns the selected lines without those that are more than `after` lines before the line
 // `number`.
-fn not_passed(selected: &[u64], after: u64, number: u64) -> &[u64]
+fn lines_not_yet_passed(selected: &[u64], after: u64, number: u64) -> &[u64]
     ensures same { (before n : ℕ) → number ≤ n
         → is_near before after selected.now n ≡ is_near before after result.now n }
     ensures in_order { IsIncreasing selected.now → IsIncreasing result.now }
-    ensures starts { StartsFrom number after result.now }
+    ensures starts { IsWithinReachOfFirst number after result.now }
 {
     let mut left = selected;
     while let [next, behind @ ..] = left {

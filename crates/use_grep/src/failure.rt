@@ -12,7 +12,7 @@ pub enum Failure {
     #[error("write error: {0}")]
     Write(io::Error),
     /// A file has more than 2^64 - 1 lines or bytes.
-    #[error("a file is too long")]
+    #[error("a file has more than 2^64 - 1 bytes or lines")]
     TooLong,
     /// An allocation failed.
     #[error("out of memory")]

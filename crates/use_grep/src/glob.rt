@@ -34,19 +34,19 @@ impl Globs {
     /// # Errors
     ///
     /// `AllocError` if an allocation fails.
-    pub fn takes_file(&self, name: &str) -> Result<bool, AllocError> {
+    pub fn is_file_searched(&self, name: &str) -> Result<bool, AllocError> {
         if matches(&self.exclude, name)? {
             return Ok(false);
         }
         Ok(self.include.is_none() || matches(&self.include, name)?)
     }
 
-    /// Checks whether a directory is searched. `name` is as in `takes_file`.
+    /// Checks whether a directory is searched. `name` is as in `is_file_searched`.
     ///
     /// # Errors
     ///
     /// `AllocError` if an allocation fails.
-    pub fn takes_dir(&self, name: &str) -> Result<bool, AllocError> {
+    pub fn is_directory_searched(&self, name: &str) -> Result<bool, AllocError> {
         Ok(!matches(&self.exclude_dir, name)?)
     }
 }
@@ -101,7 +101,7 @@ fn push_glob(pattern: &mut String, alloc: Global, glob: &str) -> Result<(), Allo
             break;
         };
         let behind = behind(rest, c);
-        rest = push_piece(pattern, alloc, c, behind)?;
+        rest = push_glob_piece(pattern, alloc, c, behind)?;
     }
     Ok(())
 }
@@ -112,7 +112,7 @@ fn behind(text: &str, first: char) -> &str {
 
 // Appends the pattern of one piece of a glob, which begins with a given character. Returns the rest
 // of the glob.
-fn push_piece<'g>(
+fn push_glob_piece<'g>(
     pattern: &mut String,
     alloc: Global,
     c: char,
@@ -147,7 +147,7 @@ fn push_escaped<'g>(
 // Appends the class after a `[`. If the class has no end, the `[` is literal. A `]` that comes
 // first is an element of the class.
 fn push_class<'g>(pattern: &mut String, rest: &'g str) -> Result<&'g str, AllocError> {
-    let inside = behind_negation(rest);
+    let inside = text_after_negation(rest);
     let negated = inside.len() < rest.len();
     let skipped = inside.strip_prefix(']').unwrap_or(inside);
     let Some((elements, behind)) = skipped.split_once(']') else {
@@ -158,12 +158,12 @@ fn push_class<'g>(pattern: &mut String, rest: &'g str) -> Result<&'g str, AllocE
     if skipped.len() < inside.len() {
         pattern.push_str("\\]")?;
     }
-    push_elements(pattern, elements)?;
+    push_class_elements(pattern, elements)?;
     Ok(behind)
 }
 
 // Returns the text after a leading `!` or `^`. Returns the whole text if there is none.
-fn behind_negation(rest: &str) -> &str {
+fn text_after_negation(rest: &str) -> &str {
     match rest.strip_prefix('!') {
         Some(inside) => inside,
         None => rest.strip_prefix('^').unwrap_or(rest),
@@ -171,7 +171,7 @@ fn behind_negation(rest: &str) -> &str {
 }
 
 // Appends the elements of a class, and its end.
-fn push_elements(pattern: &mut String, elements: &str) -> Result<(), AllocError> {
+fn push_class_elements(pattern: &mut String, elements: &str) -> Result<(), AllocError> {
     for c in elements.chars() {
         if c == '[' || c == '\\' || c == '^' {
             pattern.push('\\')?;

@@ -4,12 +4,12 @@
 //! If a local pattern has no match in a text, it has none in any line of the text. So whole texts
 //! are searched first. A word that ends at the end of a line also ends there in the text, because a
 //! line break is not a word character.
-#![tactic(auto, unfolding(regex_pattern_front::specs::AstToSpecTree::node_of, regress_program::specs::InnerNodeCountMeasure::inner_node_count))]
+#![tactic(auto, unfolding(regex_pattern_front::specs::AstToSpecTree::spec_node_of, regress_program::specs::InnerNodeCountMeasure::inner_node_count))]
 
 ghost use Rattle.std.specs.Prelude.{◌≡◌, IfOk, IsTrue, chars};
-ghost use Rattle.regex_pattern_front.specs.AstToSpecTree.{node_of};
+ghost use Rattle.regex_pattern_front.specs.AstToSpecTree.{spec_node_of};
 ghost use Rattle.regress_match.specs.PublicFlagsAsSpecFlags.{spec_flags_of};
-ghost use Rattle.regress_program.specs.LeafNodesAndOptimizableLoops.{cat_of};
+ghost use Rattle.regress_program.specs.LeafNodesAndOptimizableLoops.{spec_cat_of_children};
 ghost use Rattle.use_grep.specs.{Local.{is_local as is_local_tree}, Selecting.{IsLocal}};
 
 use crate::patterns::SYNTAX;
@@ -44,7 +44,7 @@ fn characters(alloc: Global, text: &str) -> Result<Vec<u32>, AllocError>
 // node, so that neither many alternatives nor nested groups use much stack.
 #[cycle(is_local_node)]
 fn is_local_node(node: &Node) -> bool
-    ensures { result ≡ is_local_tree (node_of node.now) }
+    ensures { result ≡ is_local_tree (spec_node_of node.now) }
 {
     let mut rest = node;
     loop {
@@ -79,7 +79,7 @@ fn is_local_node(node: &Node) -> bool
 
 #[cycle(is_local_node)]
 fn are_local(nodes: &[Node]) -> bool
-    ensures { result ≡ is_local_tree (cat_of nodes.now) }
+    ensures { result ≡ is_local_tree (spec_cat_of_children nodes.now) }
 {
     for node in nodes {
         if !is_local_node(node) {

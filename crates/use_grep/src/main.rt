@@ -24,14 +24,16 @@ mod walk;
 use crate::failure::Failure;
 use crate::joining::joined;
 use crate::options::{LINE, Options, Output};
-use crate::pattern::{check_alone, compile, say_refused};
-use crate::patterns::{given_patterns, has_posix_class, has_property_escape, may_refer};
+use crate::pattern::{check_alone, compile, print_pattern_error};
+use crate::patterns::{
+    given_patterns, has_posix_class, has_property_escape, may_have_backreference,
+};
 use crate::search::{Search, Tally};
 use anyhow::{Result, bail};
 use std::fs;
 use std::io::ErrorKind;
 use std::process::ExitCode;
-use use_support::{CommandLine, Given, Program, TROUBLE, run, run_row};
+use use_support::{CommandLine, EXIT_STATUS_FAILURE, Given, Program, run, run_row};
 
 // The exit status when the output is closed: that of `grep` when the signal `SIGPIPE` ends it.
 const BROKEN_PIPE: u8 = 141;
@@ -42,10 +44,14 @@ fn status(tally: &Tally, is_quiet: bool) -> u8
         else (if tally.now.has_trouble && not is_quiet then 2 else 0)) }
 {
     if tally.selected == 0 {
-        return if tally.has_trouble { TROUBLE } else { 1 };
+        return if tally.has_trouble {
+            EXIT_STATUS_FAILURE
+        } else {
+            1
+        };
     }
     if tally.has_trouble && !is_quiet {
-        TROUBLE
+        EXIT_STATUS_FAILURE
     } else {
         0
     }
@@ -110,27 +116,31 @@ fn run_joined(
 
 // Searches if the patterns are valid.
 fn run_checked(rt: &HostRuntime, options: &Options<'_>, patterns: &[String]) -> Result<u8> {
-    if options.is_fixed || are_patterns(rt, options, patterns)? {
+    if options.is_fixed || check_and_report_patterns(rt, options, patterns)? {
         search_files(rt, options)
     } else {
-        Ok(TROUBLE)
+        Ok(EXIT_STATUS_FAILURE)
     }
 }
 
 // Checks the patterns, and reports what is wrong. If there are several, each has to be valid on its
 // own and must not refer to groups, because groups have other numbers in the joined pattern.
-fn are_patterns(rt: &HostRuntime, options: &Options<'_>, patterns: &[String]) -> Result<bool> {
-    print_notes(rt, options.pattern)?;
+fn check_and_report_patterns(
+    rt: &HostRuntime,
+    options: &Options<'_>,
+    patterns: &[String],
+) -> Result<bool> {
+    print_dialect_notes(rt, options.pattern)?;
     if patterns.len() < 2 {
         return Ok(true);
     }
     for pattern in patterns {
         let pattern = pattern.as_str();
-        if may_refer(pattern) {
+        if may_have_backreference(pattern) {
             bail!("of several patterns none may refer to a group: {pattern}");
         }
         if let Err(why) = check_alone(rt.alloc(), options, pattern) {
-            say_refused(rt, options, pattern, &why)?;
+            print_pattern_error(rt, options, pattern, &why)?;
             return Ok(false);
         }
     }
@@ -138,7 +148,7 @@ fn are_patterns(rt: &HostRuntime, options: &Options<'_>, patterns: &[String]) ->
 }
 
 // Prints notes about parts of a `grep` pattern that have another meaning here.
-fn print_notes(rt: &HostRuntime, pattern: &str) -> Result<()> {
+fn print_dialect_notes(rt: &HostRuntime, pattern: &str) -> Result<()> {
     if has_posix_class(pattern) {
         eprintln!(rt;
             "use_grep: note: POSIX classes such as [[:alpha:]] do not exist in ECMAScript: write [A-Za-z]"
@@ -156,8 +166,8 @@ fn search_files(rt: &HostRuntime, options: &Options<'_>) -> Result<u8> {
     let query = match compile(rt.alloc(), options) {
         Ok(query) => query,
         Err(why) => {
-            say_refused(rt, options, options.pattern, &why)?;
-            return Ok(TROUBLE);
+            print_pattern_error(rt, options, options.pattern, &why)?;
+            return Ok(EXIT_STATUS_FAILURE);
         }
     };
     match Search::new(rt, &query, options)?.all() {

@@ -5,7 +5,7 @@ use crate::glob::Globs;
 use anyhow::Result;
 use std::alloc::{AllocError, Global};
 use std::io::IsTerminal;
-use use_support::Form::{Any, Choice, Help, Number, Switch, Version, WordIf, Words};
+use use_support::Form::{Any, Choice, Help, Number, OptionalLossyWord, Switch, Version, Words};
 use use_support::{Argument, CommandLine, Given};
 
 /// What is printed of a file.
@@ -83,7 +83,7 @@ pub struct Options<'a> {
     pub is_silent: bool,
     pub colors: Option<Colors>,
     /// Whether progress is shown. It is if standard error is a terminal and standard output is not.
-    pub tells: bool,
+    pub shows_progress_line: bool,
     /// Whether binary files are printed as text.
     pub lossy: bool,
     /// The maximum number of selected lines of a file. The search of the file stops there.
@@ -100,7 +100,7 @@ impl<'a> Options<'a> {
     /// Returns an error if a glob is invalid or an allocation fails.
     pub fn of(rt: &HostRuntime, given: &Given<'a>, pattern: &'a str) -> Result<Options<'a>> {
         let alloc = rt.alloc();
-        let output = what_is_printed(given);
+        let output = output_of_options(given);
         let is_recursive = given.has("recursive");
         let most = given.number("max-count").unwrap_or(u64::MAX);
         Ok(Options {
@@ -122,9 +122,9 @@ impl<'a> Options<'a> {
             flushes: given.has("line-buffered") || rt.stdout().is_terminal(),
             is_silent: given.has("no-messages"),
             colors: colors(rt, given)?,
-            tells: rt.stderr().is_terminal() && !rt.stdout().is_terminal(),
+            shows_progress_line: rt.stderr().is_terminal() && !rt.stdout().is_terminal(),
             lossy: given.has("text"),
-            most: if is_done_at_first(output) {
+            most: if does_first_line_decide_output(output) {
                 most.min(1)
             } else {
                 most
@@ -151,7 +151,7 @@ pub fn has_patterns(given: &Given<'_>) -> bool {
 
 // Returns what is printed. If several options apply, `-q` has priority, then `-L`, `-l`, `-c` and
 // `-o`.
-fn what_is_printed(given: &Given<'_>) -> Output {
+fn output_of_options(given: &Given<'_>) -> Output {
     if given.has("quiet") {
         Output::Nothing
     } else if given.has("files-without-match") {
@@ -168,7 +168,7 @@ fn what_is_printed(given: &Given<'_>) -> Output {
 }
 
 // Checks whether the first selected line of a file determines its output.
-fn is_done_at_first(output: Output) -> bool {
+fn does_first_line_decide_output(output: Output) -> bool {
     matches!(
         output,
         Output::NamesWith | Output::NamesWithout | Output::Nothing
@@ -249,7 +249,7 @@ pub static LINE: CommandLine = CommandLine {
     arguments: &[
         Argument(
             "pattern",
-            WordIf("PATTERN"),
+            OptionalLossyWord("PATTERN"),
             "What to search for (docs/PROFILE.md); a file, with -e or -f",
         ),
         Argument("files", Words("FILE"), "What to search"),

@@ -4,7 +4,7 @@ ghost use Rattle.std.specs.Prelude.{◌≡◌, ◌++◌, IfOk, IsTrue, chars, co
 ghost use Rattle.regex_meaning.specs.Tree.{Tree};
 ghost use Rattle.regex_meaning.specs.EcmaGrammarWithAnnexB.{ParsesEcmaScript};
 ghost use Rattle.regress_match.specs.PublicFlagsAsSpecFlags.{spec_flags_of};
-ghost use Rattle.use_grep.specs.Selecting.{HasNoneInLines, IsSearchOf, framed, searched, tree_flags};
+ghost use Rattle.use_grep.specs.Selecting.{LinesOfTextWithoutMatchHaveNone, HasMatchesOfGrammar, framed, searched, tree_flags};
 
 use crate::local::is_local;
 use crate::options::Options;
@@ -29,7 +29,7 @@ fn flags(options: &Options<'_>) -> Flags
 pub struct Query {
     pub re: Regex,
     pub is_local: bool,
-    ghost none_in_lines: { IsTrue is_local → HasNoneInLines re },
+    ghost none_in_lines: { IsTrue is_local → LinesOfTextWithoutMatchHaveNone re },
 }
 
 /// Compiles the pattern of the options.
@@ -39,7 +39,7 @@ pub struct Query {
 /// Returns the errors of `Regex::with_syntax`. The pattern is also checked without the frame of
 /// `-w` or `-x`.
 pub fn compile(alloc: Global, options: &Options<'_>) -> Result<Query, Error>
-    ensures searched { IfOk result (λ q. IsSearchOf (tree_flags options.now.ignore_case)
+    ensures searched { IfOk result (λ q. HasMatchesOfGrammar (tree_flags options.now.ignore_case)
         (searched options.now.words options.now.whole_lines options.now.pattern.now) q.re) }
     ensures alone { IfOk result (λ _. (tree : Tree)
         × ParsesEcmaScript (tree_flags options.now.ignore_case) (chars options.now.pattern.now) tree) }
@@ -89,7 +89,7 @@ pub fn check_alone(alloc: Global, options: &Options<'_>, pattern: &str) -> Resul
 /// # Errors
 ///
 /// Returns an error if writing or an allocation fails.
-pub fn say_refused(
+pub fn print_pattern_error(
     rt: &HostRuntime,
     options: &Options<'_>,
     pattern: &str,

@@ -91,7 +91,7 @@ fn read(rt: &HostRuntime, name: &str) -> Result<Vec<u8>> {
 
 /// Checks whether a pattern may refer to a group: it has `\k`, or a backslash before a digit from 1
 /// to 9.
-pub fn may_refer(pattern: &str) -> bool {
+pub fn may_have_backreference(pattern: &str) -> bool {
     let mut is_escaped = false;
     for c in pattern.chars() {
         if is_escaped && (c == 'k' || ('1'..='9').contains(&c)) {

@@ -26,7 +26,7 @@ pub struct Row<'t> {
 
 /// The standard output.
 #[derive(Drop)]
-pub struct Screen<'s, 'a> {
+pub struct StandardOutput<'s, 'a> {
     alloc: Global,
     options: &'s Options<'a>,
     // Whether file names are printed.
@@ -34,7 +34,7 @@ pub struct Screen<'s, 'a> {
     out: BufWriter<Printer<'s, HostRuntime>>,
 }
 
-impl<'s, 'a> Screen<'s, 'a> {
+impl<'s, 'a> StandardOutput<'s, 'a> {
     /// Creates the standard output for the options.
     ///
     /// # Errors
@@ -44,8 +44,8 @@ impl<'s, 'a> Screen<'s, 'a> {
         rt: &'s HostRuntime,
         options: &'s Options<'a>,
         has_names: bool,
-    ) -> io::Result<Screen<'s, 'a>> {
-        Ok(Screen {
+    ) -> io::Result<StandardOutput<'s, 'a>> {
+        Ok(StandardOutput {
             alloc: rt.alloc(),
             options,
             has_names,
@@ -173,11 +173,11 @@ impl<'s, 'a> Screen<'s, 'a> {
     // Ends an output line that shows a line of a file.
     fn end_line(&mut self) -> io::Result<()> {
         let end = [self.options.end()];
-        self.end_with(&end)
+        self.end_output_line(&end)
     }
 
     // Ends an output line. Flushes the output if the options say so.
-    fn end_with(&mut self, end: &[u8]) -> io::Result<()> {
+    fn end_output_line(&mut self, end: &[u8]) -> io::Result<()> {
         self.out.write_all(end)?;
         if self.options.flushes {
             self.out.flush()?;
@@ -215,12 +215,12 @@ impl<'s, 'a> Screen<'s, 'a> {
             self.painted(Role::Separator, ":")?;
         }
         write!(self.out, "{selected}")?;
-        self.end_with(b"\n")
+        self.end_output_line(b"\n")
     }
 
     fn name(&mut self, name: &str) -> io::Result<()> {
         self.painted(Role::Name, name)?;
-        self.end_with(b"\n")
+        self.end_output_line(b"\n")
     }
 }
 

@@ -7,9 +7,10 @@ use crate::context::near;
 use crate::failure::Failure;
 use crate::options::{Operand, Options, Output};
 use crate::pattern::Query;
-use crate::print::{Row, Screen};
+use crate::print::{Row, StandardOutput};
 use crate::select::{
-    Line, count_lines, how_many_fit, lines_of, parts_of, selected, selected_in, within_most,
+    Line, count_lines, count_lines_before_too_long, lines_of, lines_up_to_maximum,
+    matching_lines_of_text, nul_terminated_lines, selected,
 };
 use crate::walk::{Step, Walk};
 use memchr::memchr;
@@ -22,7 +23,7 @@ use std::io::Read;
 use std::{fs, io, mem};
 
 // Progress is shown each time this many blocks of a file were searched. A block has 128 KB or more.
-const BLOCKS: u64 = 512;
+const BLOCKS_PER_PROGRESS_UPDATE: u64 = 512;
 
 /// The result of a search.
 #[derive(Clone, Copy, Debug)]
@@ -39,7 +40,7 @@ pub struct Search<'s, 'a> {
     rt: &'s HostRuntime,
     query: &'s Query,
     options: &'s Options<'a>,
-    screen: Screen<'s, 'a>,
+    screen: StandardOutput<'s, 'a>,
     tally: Tally,
     // Whether a line was printed. If so, `--` separates it from the next group.
     has_printed: bool,
@@ -59,7 +60,7 @@ struct Progress<'n> {
     // The number of the last line that was printed, or 0.
     printed: u64,
     // The last lines before the next one. They may be printed as context before it.
-    kept: VecDeque<Kept>,
+    kept: VecDeque<KeptLine>,
     // Whether the rest of the file is not searched.
     is_over: bool,
     // Whether the file has a NUL byte.
@@ -71,7 +72,7 @@ struct Progress<'n> {
 
 // A line that may be printed as context.
 #[derive(Drop)]
-struct Kept {
+struct KeptLine {
     number: u64,
     offset: u64,
     raw: Vec<u8>,
@@ -116,7 +117,7 @@ impl<'n> Progress<'n> {
         raw: &[u8],
         most: u64,
     ) -> Result<(), AllocError> {
-        self.kept.push_back(Kept {
+        self.kept.push_back(KeptLine {
             number,
             offset: self.bytes,
             raw: Vec::from_slice(alloc, raw)?,
@@ -147,7 +148,7 @@ impl<'s, 'a> Search<'s, 'a> {
             rt,
             query,
             options,
-            screen: Screen::new(rt, options, has_names)?,
+            screen: StandardOutput::new(rt, options, has_names)?,
             tally: Tally {
                 selected: 0,
                 has_trouble: false,
@@ -180,18 +181,18 @@ impl<'s, 'a> Search<'s, 'a> {
     fn operand(&mut self, operand: &Operand<'_>) -> Result<(), Failure> {
         let name = operand.name;
         if operand.is_lossy {
-            return self.cannot_read(name, &"the file name is not UTF-8");
+            return self.report_unreadable_file(name, &"the file name is not UTF-8");
         }
         if name == "-" {
             return self.reader("(standard input)", self.rt.reader());
         }
         if self.options.is_recursive && (name.is_empty() || is_directory(self.rt, name)) {
-            if name.is_empty() || self.options.globs.takes_dir(name)? {
+            if name.is_empty() || self.options.globs.is_directory_searched(name)? {
                 self.directory(name)?;
             }
             return Ok(());
         }
-        if self.options.globs.takes_file(name)? {
+        if self.options.globs.is_file_searched(name)? {
             self.file(name)?;
         }
         Ok(())
@@ -202,7 +203,7 @@ impl<'s, 'a> Search<'s, 'a> {
         for _ in 0..u64::MAX {
             match walk.advance()? {
                 Some(Step::File(path)) => self.file(path.as_str())?,
-                Some(Step::Trouble(path, why)) => self.cannot_read(path.as_str(), &why)?,
+                Some(Step::Trouble(path, why)) => self.report_unreadable_file(path.as_str(), &why)?,
                 None => break,
             }
             if self.is_done() {
@@ -215,19 +216,19 @@ impl<'s, 'a> Search<'s, 'a> {
     fn file(&mut self, name: &str) -> Result<(), Failure> {
         match File::open(self.rt, name) {
             Ok(file) => self.reader(name, file),
-            Err(why) => self.cannot_read(name, &why),
+            Err(why) => self.report_unreadable_file(name, &why),
         }
     }
 
     // Reports a file that cannot be read. With `-s`, prints no message.
-    fn cannot_read<E: Display>(&mut self, what: &str, why: &E) -> Result<(), Failure>
+    fn report_unreadable_file<E: Display>(&mut self, what: &str, why: &E) -> Result<(), Failure>
         ensures { IfOk result (λ _. self.new.tally.has_trouble ≡ true) }
     {
         self.mark_trouble();
         if self.options.is_silent {
             return Ok(());
         }
-        self.tell(what, why)
+        self.print_message(what, why)
     }
 
     // Reports an error. The exit status shows it.
@@ -235,7 +236,7 @@ impl<'s, 'a> Search<'s, 'a> {
         ensures { IfOk result (λ _. self.new.tally.has_trouble ≡ true) }
     {
         self.mark_trouble();
-        self.tell(what, why)
+        self.print_message(what, why)
     }
 
     // Records for the exit status that something could not be searched.
@@ -246,7 +247,7 @@ impl<'s, 'a> Search<'s, 'a> {
     }
 
     // Prints a message on standard error.
-    fn tell<E: Display>(&mut self, what: &str, why: &E) -> Result<(), Failure>
+    fn print_message<E: Display>(&mut self, what: &str, why: &E) -> Result<(), Failure>
         ensures { self.new.tally ≡ self.old.tally }
     {
         self.screen.flush()?;
@@ -269,14 +270,14 @@ impl<'s, 'a> Search<'s, 'a> {
                     self.show_progress(&mut progress)?;
                 }
                 Ok(false) => progress.is_over = true,
-                Err(why) => self.give_up(&mut progress, &why)?,
+                Err(why) => self.report_unfinished_file(&mut progress, &why)?,
             }
         }
         self.end(&progress)
     }
 
     // Marks a file as binary if it has a NUL byte.
-    fn judge(&self, progress: &mut Progress<'_>, block: &[u8]) {
+    fn mark_if_binary(&self, progress: &mut Progress<'_>, block: &[u8]) {
         if !self.options.lossy && !self.options.nul && memchr(0, block).is_some() {
             progress.is_binary = true;
         }
@@ -285,7 +286,7 @@ impl<'s, 'a> Search<'s, 'a> {
     // Shows the progress in a long file.
     fn show_progress(&self, progress: &mut Progress<'_>) -> io::Result<()> {
         progress.blocks = progress.blocks.saturating_add(1);
-        if !self.options.tells || progress.blocks % BLOCKS != 0 {
+        if !self.options.shows_progress_line || progress.blocks % BLOCKS_PER_PROGRESS_UPDATE != 0 {
             return Ok(());
         }
         let name = progress.name;
@@ -295,18 +296,22 @@ impl<'s, 'a> Search<'s, 'a> {
 
     // Clears the progress line.
     fn clear(&self) -> io::Result<()> {
-        if self.options.tells {
+        if self.options.shows_progress_line {
             eprint!(self.rt; "\r\u{1b}[K")?;
         }
         Ok(())
     }
 
     // Reports why the rest of a file is not searched.
-    fn give_up(&mut self, progress: &mut Progress<'_>, why: &BlockError) -> Result<(), Failure> {
+    fn report_unfinished_file(
+        &mut self,
+        progress: &mut Progress<'_>,
+        why: &BlockError,
+    ) -> Result<(), Failure> {
         progress.is_over = true;
         let name = progress.name;
         if let BlockError::Read(why) = why {
-            return self.cannot_read(name, why);
+            return self.report_unreadable_file(name, why);
         }
         let number = progress.lines.saturating_add(1);
         let what = format!(in self.rt.alloc(); "{name}:{number}")?;
@@ -315,7 +320,7 @@ impl<'s, 'a> Search<'s, 'a> {
 
     // Searches a block of lines. In a binary file, NUL bytes end lines too.
     fn block(&mut self, progress: &mut Progress<'_>, block: &[u8]) -> Result<(), Failure> {
-        self.judge(progress, block);
+        self.mark_if_binary(progress, block);
         let is_binary = progress.is_binary;
         if !is_binary {
             if let Ok(text) = from_utf8(block) {
@@ -326,7 +331,7 @@ impl<'s, 'a> Search<'s, 'a> {
         for line in block.split(|byte| *byte == end || is_binary && *byte == 0) {
             match from_utf8(line) {
                 Ok(text) => self.text(progress, text)?,
-                Err(_) => self.no_text(progress, line)?,
+                Err(_) => self.search_non_utf8_line(progress, line)?,
             }
         }
         Ok(())
@@ -334,14 +339,18 @@ impl<'s, 'a> Search<'s, 'a> {
 
     // Searches a line that is not UTF-8, with U+FFFD for the invalid bytes. If it is selected but
     // not printed, this is recorded.
-    fn no_text(&mut self, progress: &mut Progress<'_>, line: &[u8]) -> Result<(), Failure>
+    fn search_non_utf8_line(
+        &mut self,
+        progress: &mut Progress<'_>,
+        line: &[u8],
+    ) -> Result<(), Failure>
         ensures { self.old.options.now.lossy ≡ false
             → IfOk result (λ _. progress.old.selected < progress.new.selected → progress.new.is_hidden ≡ true) }
     {
         let selected = progress.selected;
         let is_lossy = self.options.lossy;
         let text = String::from_utf8_lossy(self.rt.alloc(), line)?;
-        let lines = self.cut(text.as_str())?;
+        let lines = self.split_into_lines(text.as_str())?;
         self.lines(progress, &lines, Some(line))?;
         if is_lossy {
             return Ok(());
@@ -357,7 +366,7 @@ impl<'s, 'a> Search<'s, 'a> {
         let options = self.options;
         let cuts = options.invert || options.nul || options.offsets || options.context.is_on;
         if cuts || !self.query.is_local || text.len() as u64 > options.longest {
-            let lines = self.cut(text)?;
+            let lines = self.split_into_lines(text)?;
             return self.lines(progress, &lines, None);
         }
         if progress.is_over {
@@ -367,7 +376,7 @@ impl<'s, 'a> Search<'s, 'a> {
         let Some(behind) = before.checked_add(count_lines(text)) else {
             return Err(Failure::TooLong);
         };
-        let found = selected_in(self.rt.alloc(), self.query, text, before)?;
+        let found = matching_lines_of_text(self.rt.alloc(), self.query, text, before)?;
         for line in self.take(progress, &found) {
             self.found(progress, line)?;
         }
@@ -377,10 +386,10 @@ impl<'s, 'a> Search<'s, 'a> {
     }
 
     // Splits a text into lines.
-    fn cut<'t>(&self, text: &'t str) -> Result<Vec<&'t str>, AllocError> {
+    fn split_into_lines<'t>(&self, text: &'t str) -> Result<Vec<&'t str>, AllocError> {
         let alloc = self.rt.alloc();
         if self.options.nul {
-            parts_of(alloc, text)
+            nul_terminated_lines(alloc, text)
         } else {
             lines_of(alloc, text)
         }
@@ -397,7 +406,7 @@ impl<'s, 'a> Search<'s, 'a> {
         if progress.is_over {
             return Ok(());
         }
-        let fit = how_many_fit(lines, self.options.longest);
+        let fit = count_lines_before_too_long(lines, self.options.longest);
         let before = progress.lines;
         let Some(behind) = before.checked_add(fit as u64) else {
             return Err(Failure::TooLong);
@@ -414,7 +423,7 @@ impl<'s, 'a> Search<'s, 'a> {
             progress.lines = behind;
         }
         if fit < lines.len() && !progress.is_over {
-            self.give_up(progress, &BlockError::TooLong)?;
+            self.report_unfinished_file(progress, &BlockError::TooLong)?;
         }
         Ok(())
     }
@@ -422,7 +431,7 @@ impl<'s, 'a> Search<'s, 'a> {
     // Counts the lines that were found, up to the maximum, and returns those to print.
     fn take<'f, 't>(&self, progress: &mut Progress<'_>, found: &'f [Line<'t>]) -> &'f [Line<'t>] {
         let most = self.options.most;
-        let wanted = within_most(found, progress.selected, most);
+        let wanted = lines_up_to_maximum(found, progress.selected, most);
         let count = wanted.len() as u64;
         progress.selected = progress.selected.saturating_add(count);
         if let [.., last] = wanted {
@@ -495,13 +504,13 @@ impl<'s, 'a> Search<'s, 'a> {
         selected: &[Line<'_>],
     ) -> Result<(), Failure> {
         let last = progress.lines.saturating_add(lines.len() as u64);
-        let mut numbers = Numbers::new(numbers);
+        let mut numbers = AscendingLineNumbers::new(numbers);
         self.show_kept(progress, &mut numbers)?;
         let mut selected = selected.iter();
         let mut next = number_of(selected.next());
         for line in lines {
             let number = progress.lines.saturating_add(1);
-            let bytes = bytes_of(line, raw);
+            let bytes = raw_or_text_bytes(line, raw);
             let is_selected = next == Some(number);
             if is_selected {
                 next = number_of(selected.next());
@@ -529,7 +538,7 @@ impl<'s, 'a> Search<'s, 'a> {
     fn show_kept(
         &mut self,
         progress: &mut Progress<'_>,
-        numbers: &mut Numbers<'_>,
+        numbers: &mut AscendingLineNumbers<'_>,
     ) -> Result<(), Failure> {
         let mut kept = mem::replace(&mut progress.kept, VecDeque::new(self.rt.alloc()));
         for _ in 0..kept.len() {
@@ -579,7 +588,7 @@ impl<'s, 'a> Search<'s, 'a> {
             → IfOk result (λ _. progress.new.is_hidden ≡ true) }
     {
         let is_hidden = !is_text && !self.options.lossy;
-        self.separate(progress, row.number)?;
+        self.print_separator_at_gap(progress, row.number)?;
         if is_hidden {
             progress.is_hidden = true;
             return Ok(());
@@ -588,7 +597,11 @@ impl<'s, 'a> Search<'s, 'a> {
     }
 
     // Prints a separator if there is a gap between a line and the line printed before it.
-    fn separate(&mut self, progress: &mut Progress<'_>, number: u64) -> io::Result<()> {
+    fn print_separator_at_gap(
+        &mut self,
+        progress: &mut Progress<'_>,
+        number: u64,
+    ) -> io::Result<()> {
         if !self.options.context.is_on {
             return Ok(());
         }
@@ -607,7 +620,7 @@ impl<'s, 'a> Search<'s, 'a> {
         self.clear()?;
         self.tally.selected = self.tally.selected.saturating_add(progress.selected);
         if progress.is_hidden && self.options.prints_lines() {
-            self.tell(progress.name, &"binary file matches")?;
+            self.print_message(progress.name, &"binary file matches")?;
         }
         Ok(self.screen.end(progress.name, progress.selected)?)
     }
@@ -615,14 +628,14 @@ impl<'s, 'a> Search<'s, 'a> {
 
 // Numbers of lines in ascending order.
 #[derive(Drop)]
-struct Numbers<'n> {
+struct AscendingLineNumbers<'n> {
     numbers: &'n [u64],
     at: usize,
 }
 
-impl<'n> Numbers<'n> {
-    fn new(numbers: &'n [u64]) -> Numbers<'n> {
-        Numbers { numbers, at: 0 }
+impl<'n> AscendingLineNumbers<'n> {
+    fn new(numbers: &'n [u64]) -> AscendingLineNumbers<'n> {
+        AscendingLineNumbers { numbers, at: 0 }
     }
 
     // Checks whether the next number is this one, and if so, takes it.
@@ -635,8 +648,8 @@ impl<'n> Numbers<'n> {
     }
 }
 
-// Returns the bytes of a line.
-fn bytes_of<'t>(line: &'t str, raw: Option<&'t [u8]>) -> &'t [u8] {
+// Returns the bytes of a line: `raw` if it is given, and otherwise those of `line`.
+fn raw_or_text_bytes<'t>(line: &'t str, raw: Option<&'t [u8]>) -> &'t [u8] {
     match raw {
         Some(raw) => raw,
         None => line.as_bytes(),

@@ -6,7 +6,7 @@ ghost use Rattle.std.specs.List.{position_or_len};
 ghost use Rattle.regress_search.specs.MatchesAsSpecAnswers.{answer_of};
 ghost use Rattle.regress_match.specs.{ProgramTreesAndAnswers.{utf8_answers}, CompileErrors.{IsOutOfMemory}};
 ghost use Rattle.regress_match.specs.ExpansionsAndMatchRanges.{MatchFitsText, IsCharBoundaryRange};
-ghost use Rattle.use_grep.specs.Selecting.{colored, is_selected, lines_of, matched_parts, numbered, painted, painted_part, parts_of, shown, shown_part};
+ghost use Rattle.use_grep.specs.Selecting.{colored, is_selected, lines_of, matched_parts, numbered, painted, painted_part, nul_terminated_lines, shown, start_and_text_of_part};
 
 use crate::pattern::Query;
 use memchr::memchr_iter;
@@ -55,8 +55,8 @@ pub fn lines_of<'t>(alloc: Global, text: &'t str) -> Result<Vec<&'t str>, AllocE
 /// # Errors
 ///
 /// `AllocError` if an allocation fails.
-pub fn parts_of<'t>(alloc: Global, text: &'t str) -> Result<Vec<&'t str>, AllocError>
-    ensures { IfOk result (λ v. map (λ l. l.now) v.items ≡ parts_of text.now) }
+pub fn nul_terminated_lines<'t>(alloc: Global, text: &'t str) -> Result<Vec<&'t str>, AllocError>
+    ensures { IfOk result (λ v. map (λ l. l.now) v.items ≡ nul_terminated_lines text.now) }
 {
     text.split('\0').collect(alloc)
 }
@@ -70,7 +70,7 @@ pub fn count_lines(text: &str) -> u64
 
 /// Returns the number of lines before the first one that has more than `longest` bytes. If there is
 /// no such line, it is the number of all lines.
-pub fn how_many_fit(lines: &[&str], longest: u64) -> usize
+pub fn count_lines_before_too_long(lines: &[&str], longest: u64) -> usize
     ensures { result ≡ position_or_len (λ l. nat_lt longest (length l.now)) lines.now }
 {
     let mut fit = 0;
@@ -121,7 +121,7 @@ pub fn selected<'t>(
 /// # Errors
 ///
 /// `Memory` if an allocation fails.
-pub fn selected_in<'t>(
+pub fn matching_lines_of_text<'t>(
     alloc: Global,
     query: &Query,
     text: &'t str,
@@ -141,7 +141,7 @@ pub fn selected_in<'t>(
 
 /// Returns the lines to show, among those that were found. `before` lines were already shown, and
 /// at most `most` are shown in total.
-pub fn within_most<'f, 't>(found: &'f [Line<'t>], before: u64, most: u64) -> &'f [Line<'t>]
+pub fn lines_up_to_maximum<'f, 't>(found: &'f [Line<'t>], before: u64, most: u64) -> &'f [Line<'t>]
     ensures { result.now ≡ take (most - before) found.now }
 {
     let left = most.saturating_sub(before);
@@ -176,7 +176,7 @@ pub fn matched_parts<'t>(
     re: &Regex,
     line: &'t str,
 ) -> Result<Vec<Part<'t>>, SearchError>
-    ensures parts { IfOk result (λ v. map shown_part v.items
+    ensures parts { IfOk result (λ v. map start_and_text_of_part v.items
         ≡ matched_parts line.now (utf8_answers re.now line.now 0)) }
     ensures refused { IfErr result IsOutOfMemory }
 {
@@ -190,8 +190,8 @@ pub fn matched_parts<'t>(
 
 // Appends a part.
 fn push_part<'t>(parts: &mut Vec<Part<'t>>, start: usize, text: &'t str) -> Result<(), AllocError>
-    ensures { IfOk result (λ _. map shown_part parts.new.items
-        ≡ map shown_part parts.old.items ++ (start, text.now) ∷ []) }
+    ensures { IfOk result (λ _. map start_and_text_of_part parts.new.items
+        ≡ map start_and_text_of_part parts.old.items ++ (start, text.now) ∷ []) }
 {
     Ok(parts.push(Part { start, text })?)
 }
@@ -217,12 +217,12 @@ pub fn colored(
         let found = item?;
         from = push_match(&mut made, line, from, &found, paint)?;
     }
-    push_rest(&mut made, line, from)?;
+    push_rest_of_line(&mut made, line, from)?;
     Ok(made)
 }
 
 // Appends the rest of a line from an offset on.
-fn push_rest(made: &mut String, line: &str, from: usize) -> Result<(), AllocError>
+fn push_rest_of_line(made: &mut String, line: &str, from: usize) -> Result<(), AllocError>
     requires { IsCharBoundary line.now from }
     ensures { IfOk result (λ _. string_bytes made.new ≡ string_bytes made.old ++ drop from line.now) }
 {

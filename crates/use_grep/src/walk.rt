@@ -23,7 +23,7 @@ pub struct Walk<'s> {
     // The paths that are still to be visited, the next one last, and whether each is a directory.
     left: Vec<(String, bool)>,
     // The paths that could not be read.
-    troubles: Vec<Step>,
+    unreadable_paths: Vec<Step>,
 }
 
 impl<'s> Walk<'s> {
@@ -39,7 +39,7 @@ impl<'s> Walk<'s> {
             rt,
             globs,
             left,
-            troubles: Vec::new(rt.alloc()),
+            unreadable_paths: Vec::new(rt.alloc()),
         })
     }
 
@@ -50,7 +50,7 @@ impl<'s> Walk<'s> {
     /// `AllocError` if an allocation fails.
     pub fn advance(&mut self) -> Result<Option<Step>, AllocError> {
         for _ in 0..u64::MAX {
-            if let Some(trouble) = self.troubles.pop() {
+            if let Some(trouble) = self.unreadable_paths.pop() {
                 return Ok(Some(trouble));
             }
             match self.left.pop() {
@@ -98,8 +98,12 @@ impl<'s> Walk<'s> {
     // Adds an entry to the paths to visit, if it is to be searched.
     fn push(&mut self, path: String, kind: Kind) -> Result<(), AllocError> {
         let is_taken = match kind {
-            Kind::File => self.globs.takes_file(last_part(path.as_str()))?,
-            Kind::Directory => self.globs.takes_dir(last_part(path.as_str()))?,
+            Kind::File => self
+                .globs
+                .is_file_searched(last_path_component(path.as_str()))?,
+            Kind::Directory => self
+                .globs
+                .is_directory_searched(last_path_component(path.as_str()))?,
             Kind::Other => false,
         };
         if is_taken {
@@ -110,7 +114,7 @@ impl<'s> Walk<'s> {
 
     fn trouble(&mut self, path: &str, why: io::Error) -> Result<(), AllocError> {
         let path = String::from_str(self.rt.alloc(), path)?;
-        Ok(self.troubles.push(Step::Trouble(path, why))?)
+        Ok(self.unreadable_paths.push(Step::Trouble(path, why))?)
     }
 }
 
@@ -122,7 +126,7 @@ enum Kind {
 }
 
 // Returns the last part of a path that does not end with a slash.
-fn last_part(path: &str) -> &str {
+fn last_path_component(path: &str) -> &str {
     match path.rsplit_once('/') {
         Some((_, name)) => name,
         None => path,

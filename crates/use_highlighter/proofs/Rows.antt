@@ -11,7 +11,7 @@ use Rattle.regex_meaning.specs.MatchGroupsByNumberAndName.{Answer}
 use Rattle.regex_meaning.proofs.EachElementLemmas.{Each-append}
 use Rattle.regress_match.specs.ExpansionsAndMatchRanges.{IsCharBoundaryRange}
 use Rattle.use_highlighter.specs.Tokens.{token_of}
-use Rattle.use_highlighter.specs.Pieces.{range_of, part_of, IsSliceOf, StandInRow, marked, marks_of, IsCutAt}
+use Rattle.use_highlighter.specs.Pieces.{range_of, part_of, IsSliceOf, ArePiecesAdjacent, marked, token_ranges_of_matches, IsSplitAtMatches}
 use Rattle.use_highlighter.specs.declared.pieces.Piece.{Piece}
 
 abbrev pub piece : (start end : ℕ) → (token : Option ℕ) → Piece
@@ -22,12 +22,12 @@ abbrev mark_of : Piece → (ℕ × ℕ) × Option ℕ
 mark_of p = (range_of p, p.token)
 
 -- One more piece.
-row-more : (from at to : ℕ) (token : Option ℕ) (ps : List Piece) → StandInRow from ps at → at ≤ to → StandInRow from (ps ++ piece at to token ∷ []) to
+row-more : (from at to : ℕ) (token : Option ℕ) (ps : List Piece) → ArePiecesAdjacent from ps at → at ≤ to → ArePiecesAdjacent from (ps ++ piece at to token ∷ []) to
 row-more from at to token [] row le = (sym row, le, refl)
 row-more from at to token (p ∷ ps) row le = (row.0, row.1, row-more p.end at to token ps row.2 le)
 
 -- The concatenation of the pieces is the text between the ends of their row.
-row-together : (text : List ℕ) (from to : ℕ) (ps : List Piece) → StandInRow from ps to → flat_map (part_of text) ps ++ drop to text ≡ drop from text
+row-together : (text : List ℕ) (from to : ℕ) (ps : List Piece) → ArePiecesAdjacent from ps to → flat_map (part_of text) ps ++ drop to text ≡ drop from text
 row-together text from to [] row = ap (λ n. drop n text) (sym row)
 row-together text from to (p ∷ ps) row =
     append_assoc (part_of text p) (flat_map (part_of text) ps) (drop to text)
@@ -44,14 +44,14 @@ unmarked-more ps start end = ap (map mark_of) (filter-append (λ p. is_some p.to
 -- The pieces so far cover the text up to an offset. Their tokens, followed by the remaining
 -- matches, are all matches.
 pub record IsCutTo (text : List ℕ) (names : List (List ℕ)) (matches left : List Answer) (to : ℕ) (pieces : List Piece) : Type 0 where
-  pub row : StandInRow 0 pieces to
-  pub tokens : marked pieces ++ marks_of names left ≡ marks_of names matches
+  pub row : ArePiecesAdjacent 0 pieces to
+  pub tokens : marked pieces ++ token_ranges_of_matches names left ≡ token_ranges_of_matches names matches
   pub slices : Each (IsSliceOf text) pieces
 
 module _ (text : List ℕ) (names : List (List ℕ)) (matches : List Answer) where
   -- There is no piece yet.
   pub cut-none : (left : List Answer) (pieces : List Piece) → left ≡ matches → pieces ≡ [] → IsCutTo text names matches left 0 pieces
-  cut-none left pieces e none = subst (IsCutTo text names matches left 0) (sym none) record { row = refl; tokens = ap (marks_of names) e; slices = tt }
+  cut-none left pieces e none = subst (IsCutTo text names matches left 0) (sym none) record { row = refl; tokens = ap (token_ranges_of_matches names) e; slices = tt }
 
   -- The text before a match, and the match.
   pub cut-more : (left rest : List Answer) (m : Answer) (from to token : ℕ) (pieces first both : List Piece) → IsCutTo text names matches left from pieces
@@ -64,22 +64,22 @@ module _ (text : List ℕ) (names : List (List ℕ)) (matches : List Answer) whe
       subst (λ n. IsCutTo text names matches rest n both) (sym t) (subst (IsCutTo text names matches rest m.range.1) (sym (b ∙ ap (λ (ps : List Piece). ps ++ here ∷ []) f)) record {
         row = row-more 0 m.range.0 m.range.1 (Some token) _ (row-more 0 from m.range.0 None pieces cut.row before.0) whole.0;
         tokens =
-            ap (λ (rs : List ((ℕ × ℕ) × Option ℕ)). rs ++ marks_of names rest)
+            ap (λ (rs : List ((ℕ × ℕ) × Option ℕ)). rs ++ token_ranges_of_matches names rest)
             (marked-more (pieces ++ gap ∷ []) m.range.0 m.range.1 token ∙ ap (λ (rs : List ((ℕ × ℕ) × Option ℕ)). rs ++ (m.range, Some token) ∷ []) (unmarked-more pieces from m.range.0))
-            ∙ append_assoc (marked pieces) ((m.range, Some token) ∷ []) (marks_of names rest)
-            ∙ ap (λ k. marked pieces ++ (m.range, Some k) ∷ marks_of names rest) n
-            ∙ ap (λ (ms : List Answer). marked pieces ++ marks_of names ms) (sym l) ∙ cut.tokens;
+            ∙ append_assoc (marked pieces) ((m.range, Some token) ∷ []) (token_ranges_of_matches names rest)
+            ∙ ap (λ k. marked pieces ++ (m.range, Some k) ∷ token_ranges_of_matches names rest) n
+            ∙ ap (λ (ms : List Answer). marked pieces ++ token_ranges_of_matches names ms) (sym l) ∙ cut.tokens;
         slices = Each-append (IsSliceOf text) (pieces ++ gap ∷ []) _ (Each-append (IsSliceOf text) pieces _ cut.slices (before, tt)) (whole, tt);
       })
 
   -- The rest of the text.
   pub cut-rest : (left : List Answer) (from : ℕ) (pieces all : List Piece) → IsCutTo text names matches left from pieces
-      → left ≡ [] → IsCharBoundaryRange text (from, length text) → all ≡ pieces ++ piece from (length text) None ∷ [] → IsCutAt text names matches all
+      → left ≡ [] → IsCharBoundaryRange text (from, length text) → all ≡ pieces ++ piece from (length text) None ∷ [] → IsSplitAtMatches text names matches all
   cut-rest left from pieces all cut l rest a =
       let row = row-more 0 from (length text) None pieces cut.row rest.0 in
-      subst (IsCutAt text names matches) (sym a) record {
+      subst (IsSplitAtMatches text names matches) (sym a) record {
         covered = row;
         together = sym (append-nil _) ∙ ap (λ bs. flat_map (part_of text) (pieces ++ piece from (length text) None ∷ []) ++ bs) (sym (drop-length text)) ∙ row-together text 0 (length text) _ row;
-        tokens = unmarked-more pieces from (length text) ∙ sym (append-nil _) ∙ ap (λ (ms : List Answer). marked pieces ++ marks_of names ms) (sym l) ∙ cut.tokens;
+        tokens = unmarked-more pieces from (length text) ∙ sym (append-nil _) ∙ ap (λ (ms : List Answer). marked pieces ++ token_ranges_of_matches names ms) (sym l) ∙ cut.tokens;
         slices = Each-append (IsSliceOf text) pieces _ cut.slices (rest, tt);
       }

@@ -20,9 +20,9 @@ unfoldable pub escaped : (text : List ℕ) → List ℕ
 escaped text = flat_map escaped_char (chars text)
 
 -- A text in this style.
-abbrev pub text_shown : Style → (text : List ℕ) → List ℕ
-text_shown Ansi text = text
-text_shown Html text = escaped text
+abbrev pub text_in_style : Style → (text : List ℕ) → List ℕ
+text_in_style Ansi text = text
+text_in_style Html text = escaped text
 
 -- The name with this index. Empty if there is none.
 abbrev pub name_at : (names : List (List ℕ)) → ℕ → List ℕ
@@ -37,21 +37,22 @@ abbrev pub span_of : (name : List ℕ) → List ℕ
 span_of name = codes "<span class=\"" ++ (escaped name ++ codes "\">")
 
 -- The text that begins a token.
-abbrev pub begin_of : Style → (names : List (List ℕ)) → (number : ℕ) → List ℕ
-begin_of Ansi names number = colour_of number
-begin_of Html names number = span_of (name_at names number)
+abbrev pub text_that_begins_token : Style → (names : List (List ℕ)) → (number : ℕ) → List ℕ
+text_that_begins_token Ansi names number = colour_of number
+text_that_begins_token Html names number = span_of (name_at names number)
 
 -- The text that ends a token.
-abbrev pub end_of : Style → List ℕ
-end_of Ansi = 27 ∷ codes "[m"
-end_of Html = codes "</span>"
+abbrev pub text_that_ends_token : Style → List ℕ
+text_that_ends_token Ansi = 27 ∷ codes "[m"
+text_that_ends_token Html = codes "</span>"
 
 -- A part of a text, which may be a token. If it is empty, nothing is shown.
-abbrev pub shown_part : Style → (names : List (List ℕ)) → Option ℕ → (part : List ℕ) → List ℕ
-shown_part style names token [] = []
-shown_part style names None part = text_shown style part
-shown_part style names (Some number) part = begin_of style names number ++ (text_shown style part ++ end_of style)
+abbrev pub part_in_style : Style → (names : List (List ℕ)) → Option ℕ → (part : List ℕ) → List ℕ
+part_in_style style names token [] = []
+part_in_style style names None part = text_in_style style part
+part_in_style style names (Some number) part =
+    text_that_begins_token style names number ++ (text_in_style style part ++ text_that_ends_token style)
 
--- A piece of the text.
+-- What is shown of a piece of the text, in a style.
 abbrev pub shown : Style → (names : List (List ℕ)) → (text : List ℕ) → Piece → List ℕ
-shown style names text p = shown_part style names p.token (part_of text p)
+shown style names text p = part_in_style style names p.token (part_of text p)

@@ -12,17 +12,17 @@ abbrev pub names_of : List Token → List (List ℕ)
 names_of tokens = map (λ t. t.name.now) tokens
 
 -- The token's pattern is valid on its own: the grammar has a tree for it.
-abbrev pub IsPattern : Token → Type 0
-IsPattern t = (tree : Tree) × ParsesEcmaScript (flags_from_letters []) (chars t.pattern.now) tree
+abbrev pub HasValidPattern : Token → Type 0
+HasValidPattern t = (tree : Tree) × ParsesEcmaScript (flags_from_letters []) (chars t.pattern.now) tree
 
 -- A token as an alternative of the joined pattern: `|`, and a group with the token's name.
-abbrev pub arm_of : Token → List ℕ
-arm_of t = codes "|(?<" ++ (t.name.now ++ (codes ">" ++ (t.pattern.now ++ codes ")")))
+abbrev pub alternative_for_token : Token → List ℕ
+alternative_for_token t = codes "|(?<" ++ (t.name.now ++ (codes ">" ++ (t.pattern.now ++ codes ")")))
 
 -- The joined pattern, which has each token as an alternative, in order. It begins with a class that
 -- matches nothing.
 abbrev pub any_of : List Token → List ℕ
-any_of tokens = codes "[]" ++ flat_map arm_of tokens
+any_of tokens = codes "[]" ++ flat_map alternative_for_token tokens
 
 -- The index of the first of these names whose group matched.
 abbrev pub token_of : (names : List (List ℕ)) → Answer → ℕ

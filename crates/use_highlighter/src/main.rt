@@ -21,7 +21,7 @@ use use_support::{CommandLine, Given, Program, run};
 const MB: usize = 1_000_000;
 
 // For texts of this length or more, a message on the terminal shows what is being done.
-const LONG: usize = 10 * MB;
+const MIN_BYTES_FOR_PROGRESS: usize = 10 * MB;
 
 // Reads a file as text. `-` is standard input.
 fn text_of(rt: &HostRuntime, name: &str) -> Result<String> {
@@ -40,7 +40,7 @@ fn colored(rt: &HostRuntime, options: &Options<'_>) -> Result<String> {
     let tokens = tokens(alloc, &options.tokens)?;
     let re = compile(alloc, &tokens)?;
     let text = text_of(rt, options.file)?;
-    let shows_progress = text.len() >= LONG && rt.stderr().is_terminal();
+    let shows_progress = text.len() >= MIN_BYTES_FOR_PROGRESS && rt.stderr().is_terminal();
     if shows_progress {
         eprint!(rt; "\rsearching {} MB", text.len() / MB)?;
     }

@@ -2,7 +2,7 @@
 
 ghost use Rattle.std.specs.Prelude.{◌≡◌, ◌++◌, ◌∷◌, [], IfErr, IfOk};
 ghost use Rattle.regress_match.specs.{ProgramTreesAndAnswers.{utf8_answers}, CompileErrors.{IsOutOfMemory}};
-ghost use Rattle.use_highlighter.specs.{Pieces.{IsCutAt}, Tokens.{names_of}};
+ghost use Rattle.use_highlighter.specs.{Pieces.{IsSplitAtMatches}, Tokens.{names_of}};
 
 use crate::tokens::{Token, token_of};
 use regress_match::{Regex, SearchError};
@@ -29,7 +29,7 @@ pub fn cut(
     text: &str,
 ) -> Result<Vec<Piece>, SearchError>
     ensures cut { IfOk result (λ pieces.
-        IsCutAt text.now (names_of tokens.now) (utf8_answers re.now text.now 0) pieces.items) }
+        IsSplitAtMatches text.now (names_of tokens.now) (utf8_answers re.now text.now 0) pieces.items) }
     ensures refused { IfErr result IsOutOfMemory }
 {
     let mut pieces = Vec::new(alloc);

@@ -3,7 +3,7 @@
 ghost use Rattle.std.specs.Prelude.{◌≡◌, ◌++◌, IfOk, chars, flat_map, string_bytes};
 ghost use Rattle.regex_meaning.specs.Laws.{Each};
 ghost use Rattle.use_highlighter.specs.{Pieces.{IsSliceOf}, Tokens.{names_of}};
-ghost use Rattle.use_highlighter.specs.Shown.{begin_of, colour_of, escaped, escaped_char, name_at, shown, shown_part, span_of, text_shown};
+ghost use Rattle.use_highlighter.specs.Shown.{text_that_begins_token, colour_of, escaped, escaped_char, name_at, shown, part_in_style, span_of, text_in_style};
 
 use crate::pieces::Piece;
 use crate::tokens::Token;
@@ -55,7 +55,7 @@ fn push_piece(
     token: Option<usize>,
 ) -> Result<(), AllocError>
     ensures { IfOk result (λ _. string_bytes made.new
-        ≡ string_bytes made.old ++ shown_part style (names_of tokens.now) token part.now) }
+        ≡ string_bytes made.old ++ part_in_style style (names_of tokens.now) token part.now) }
 {
     if part.is_empty() {
         return Ok(());
@@ -63,7 +63,7 @@ fn push_piece(
     let Some(number) = token else {
         return push_text(made, style, part);
     };
-    push_begin(made, style, tokens, number)?;
+    push_text_that_begins_token(made, style, tokens, number)?;
     push_text(made, style, part)?;
     made.push_str(match style {
         Style::Ansi => "\u{1b}[m",
@@ -72,18 +72,18 @@ fn push_piece(
 }
 
 // Appends the text that begins a token.
-fn push_begin(
+fn push_text_that_begins_token(
     made: &mut String,
     style: Style,
     tokens: &[Token<'_>],
     number: usize,
 ) -> Result<(), AllocError>
     ensures { IfOk result (λ _. string_bytes made.new
-        ≡ string_bytes made.old ++ begin_of style (names_of tokens.now) number) }
+        ≡ string_bytes made.old ++ text_that_begins_token style (names_of tokens.now) number) }
 {
     match style {
         Style::Ansi => push_colour(made, number),
-        Style::Html => push_span(made, tokens, number),
+        Style::Html => push_html_tag(made, tokens, number),
     }
 }
 
@@ -97,7 +97,7 @@ fn push_colour(made: &mut String, number: usize) -> Result<(), AllocError>
 }
 
 // Appends the tag that begins a token.
-fn push_span(made: &mut String, tokens: &[Token<'_>], number: usize) -> Result<(), AllocError>
+fn push_html_tag(made: &mut String, tokens: &[Token<'_>], number: usize) -> Result<(), AllocError>
     ensures { IfOk result (λ _. string_bytes made.new
         ≡ string_bytes made.old ++ span_of (name_at (names_of tokens.now) number)) }
 {
@@ -126,7 +126,7 @@ fn name_of<'a>(tokens: &[Token<'a>], number: usize) -> &'a str
 
 // Appends a text in this style.
 fn push_text(made: &mut String, style: Style, part: &str) -> Result<(), AllocError>
-    ensures { IfOk result (λ _. string_bytes made.new ≡ string_bytes made.old ++ text_shown style part.now) }
+    ensures { IfOk result (λ _. string_bytes made.new ≡ string_bytes made.old ++ text_in_style style part.now) }
 {
     match style {
         Style::Ansi => made.push_str(part),

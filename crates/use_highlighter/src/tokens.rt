@@ -5,7 +5,7 @@ ghost use Rattle.regex_meaning.specs.EcmaGrammarWithAnnexB.{ecmascript};
 ghost use Rattle.regex_meaning.specs.{FlagLettersAndEscaping.{flags_from_letters}, MatchGroupsByNumberAndName.{named_group}};
 ghost use Rattle.regress_search.specs.MatchesAsSpecAnswers.{answer_of};
 ghost use Rattle.regress_match.specs.{PublicFlagsAsSpecFlags.{spec_flags_of}, ProgramTreesAndAnswers.{IsCompiledWithSyntax}};
-ghost use Rattle.use_highlighter.specs.Tokens.{IsPattern, any_of, arm_of, names_of, token_of};
+ghost use Rattle.use_highlighter.specs.Tokens.{HasValidPattern, any_of, alternative_for_token, names_of, token_of};
 
 use anyhow::{Result, bail};
 use regress_match::{Error, Flags, Match, Regex, Syntax};
@@ -46,10 +46,10 @@ pub fn tokens<'a>(alloc: Global, words: &[&'a str]) -> Result<Vec<Token<'a>>> {
 pub fn compile(alloc: Global, tokens: &[Token<'_>]) -> Result<Regex>
     ensures compiled { IfOk result (IsCompiledWithSyntax ecmascript (flags_from_letters [])
         (chars (any_of tokens.now))) }
-    ensures alone { IfOk result (λ _. All IsPattern tokens.now) }
+    ensures alone { IfOk result (λ _. All HasValidPattern tokens.now) }
 {
     for token in tokens {
-        refuse_wrong(alloc, token)?;
+        refuse_invalid_token_pattern(alloc, token)?;
     }
     let any = any_of(alloc, tokens)?;
     let why = match Regex::with_syntax(alloc, any.as_str(), flags(), SYNTAX) {
@@ -70,8 +70,8 @@ fn flags() -> Flags
 }
 
 // Refuses a token whose pattern is invalid.
-fn refuse_wrong(alloc: Global, token: &Token<'_>) -> Result<()>
-    ensures { IfOk result (λ _. IsPattern token.now) }
+fn refuse_invalid_token_pattern(alloc: Global, token: &Token<'_>) -> Result<()>
+    ensures { IfOk result (λ _. HasValidPattern token.now) }
 {
     let name = token.name;
     let told = Regex::diagnose_with_syntax(alloc, token.pattern, flags(), SYNTAX)?;
@@ -95,7 +95,7 @@ fn any_of(alloc: Global, tokens: &[Token<'_>]) -> Result<String, AllocError>
 
 // Appends a token.
 fn push_token(any: &mut String, token: &Token<'_>) -> Result<(), AllocError>
-    ensures { IfOk result (λ _. string_bytes any.new ≡ string_bytes any.old ++ arm_of token.now) }
+    ensures { IfOk result (λ _. string_bytes any.new ≡ string_bytes any.old ++ alternative_for_token token.now) }
 {
     any.push_str("|(?<")?;
     any.push_str(token.name)?;
@@ -111,7 +111,7 @@ pub fn token_of(tokens: &[Token<'_>], found: &Match) -> usize
     let mut place = 0;
     let mut left = tokens;
     while let [token, behind @ ..] = left {
-        if has_matched(found, token.name) {
+        if has_group_matched(found, token.name) {
             return place;
         }
         place += 1;
@@ -121,7 +121,7 @@ pub fn token_of(tokens: &[Token<'_>], found: &Match) -> usize
 }
 
 // Checks whether the group with this name matched.
-fn has_matched(found: &Match, name: &str) -> bool
+fn has_group_matched(found: &Match, name: &str) -> bool
     ensures { result ≡ is_some (named_group (answer_of found.now) name.now) }
 {
     match found.named_group(name) {

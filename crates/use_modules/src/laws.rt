@@ -14,17 +14,18 @@ ghost use Rattle.regress_search.specs.CostsOfCalls.{WorkMatchesView, without_cos
 ghost use Rattle.regress_search.specs.declared.{exec.Match.{Match as TheMatch}, exec.SearchError.{SearchError as TheError}};
 ghost use Rattle.regress_search.specs.declared.exec.work_matches.WorkError.TheVariants.{WorkLimit};
 ghost use Rattle.regress_match.specs.ProgramTreesAndAnswers.{IsCompiledWith, bytes_as_utf8_text, ascii_answers, tree_for_byte_units, tree_for_16_bit_units, utf8_answers};
-ghost use Rattle.regress_match.specs.{ExpansionsAndMatchRanges.{MatchFitsText}, SearchResults.{AllNone, NextCallsYield, NextResult, YieldsMatches}};
+ghost use Rattle.regress_match.specs.{ExpansionsAndMatchRanges.{MatchFitsText}, SearchResults.{AreAllResultsNone, NextCallsYield, NextResult, YieldsMatches}};
 ghost use Rattle.regress_match.specs.WorkBounds.{NextCallsYieldWithinWork, IsHigherOfProgramWorkBounds, WorkLimitedNextResult, YieldsMatchesIfWorkSuffices};
 ghost use Rattle.regress_match.specs.WorkBounds.{enough_work_for_text};
-ghost use Rattle.regress_match.specs.WorkBounds.{CallsCost, IsNoAllocationFailure, NextCallsYieldAtCost};
+ghost use Rattle.regress_match.specs.WorkBounds.{NextCallsYieldAtTotalCost, IsNoAllocationFailure, NextCallsYieldAtCost};
 ghost use Rattle.regress_match.specs.WorkBounds.{work_per_unit_limit};
 ghost use Rattle.regress_match.specs.declared.api.regex.Regex.{Regex as TheRegex};
 
 use regex_meaning::{
     answer_count_is_bounded, answers_are_ordered_without_overlap, ascii_and_utf8_answers_agree,
-    encoded_texts_have_rising_offsets, escaped_bytes_are_read, one_tree,
-    resuming_after_nonempty_match_yields_rest, scan_counts_pattern_groups, scan_finds_group_names,
+    encoded_texts_have_rising_offsets, escaped_utf8_parses_as_literal,
+    pattern_has_at_most_one_tree, resuming_after_nonempty_match_yields_rest,
+    scan_counts_pattern_groups, scan_finds_group_names,
 };
 use regress_match::api::{
     call_costs_are_work_spent, matches_lie_in_text_in_order, replacing_by_match_keeps_text,
@@ -46,8 +47,8 @@ use std::alloc::Global;
 pub fn compile_literal(alloc: Global, text: &str) -> Result<Regex, Error>
     ensures { IfOk result (λ re. tree_for_16_bit_units re ≡ literal_tree (flags_from_letters []) (chars text.now)) }
 {
-    escaped_bytes_are_read();
-    one_tree();
+    escaped_utf8_parses_as_literal();
+    pattern_has_at_most_one_tree();
     let pattern = escape(alloc, text)?;
     Regex::new(alloc, pattern.as_str())
 }
@@ -108,7 +109,7 @@ pub fn matches_are_in_order(re: &Regex, text: &str)
 }
 
 /// There is at most one match more than there are characters.
-pub fn matches_are_few(re: &Regex, text: &str)
+pub fn match_count_is_bounded(re: &Regex, text: &str)
     ensures { let it = bytes_as_utf8_text re.now text.now in (place : ℕ) → place_at it 0 ≡ Some place
         → length (utf8_answers re.now text.now 0) ≤ last_place it - place + 1 }
 {
@@ -135,9 +136,9 @@ pub fn same_matches_in_ascii(re: &Regex, text: &str)
 // ---- Iterators
 
 /// After `None`, an iterator over matches always returns `None`.
-pub fn none_is_final()
+pub fn none_stays_after_none()
     ensures { (tree : Tree) (text : Text) (start : ℕ) (it behind : RemainingView) (rs : List NextResult)
-        → YieldsMatches tree text start it → NextCallsYield it (None ∷ rs) behind → AllNone rs }
+        → YieldsMatches tree text start it → NextCallsYield it (None ∷ rs) behind → AreAllResultsNone rs }
 {
     searches_return_matches_in_order();
 }
@@ -169,7 +170,7 @@ pub fn calls_cost_at_most_the_bound<P: WorkLimitedProducer>()
         (rs : List WorkLimitedNextResult) → let bound = enough_work_for_text per_unit text in
         YieldsMatchesIfWorkSuffices tree text start per_unit bound (without_costs it)
         → NextCallsYieldAtCost P.attempt_costs P.tree P.text P.failures it rs behind → Each IsNoAllocationFailure rs
-        → (cost : ℕ) × CallsCost P.attempt_costs P.tree P.text P.failures it rs cost behind × (cost ≤ bound) }
+        → (cost : ℕ) × NextCallsYieldAtTotalCost P.attempt_costs P.tree P.text P.failures it rs cost behind × (cost ≤ bound) }
 {
     call_costs_are_work_spent::<P>();
 }

@@ -25,7 +25,7 @@ fn reason(error: &Error) -> &'static str {
 }
 
 // Counts the instructions that read one character named in the pattern.
-fn named_characters(insns: &[Insn]) -> usize {
+fn count_char_insns(insns: &[Insn]) -> usize {
     insns
         .iter()
         .filter(|insn| matches!(insn, Insn::Char(_)))
@@ -33,7 +33,7 @@ fn named_characters(insns: &[Insn]) -> usize {
 }
 
 // Returns the first and the last character of a text.
-fn both_ends(text: &str) -> Option<(char, char)> {
+fn first_and_last_chars(text: &str) -> Option<(char, char)> {
     let input = Utf8Input::new(text, true);
     let first = input.peek_right(input.left_end())?;
     let last = input.peek_left(input.right_end())?;
@@ -49,18 +49,18 @@ fn main(rt: HostRuntime) -> Result<()> {
     }
     let points: Vec<u32> = "caf[eé]+".chars().map(u32::from).collect(rt.alloc())?;
     let Ok(tree) = try_parse(rt.alloc(), &points, Flags::default()) else {
-        bail!("`caf[eé]+` is not a pattern of the profile");
+        bail!("the example is not a pattern of the profile");
     };
     let Ok(program) = emit(rt.alloc(), &tree) else {
-        bail!("no program can be emitted for `caf[eé]+`: out of memory");
+        bail!("out of memory in emitting the example");
     };
     let insns = program.insns();
     println!(rt;
         "{} instructions, {} characters",
         insns.len(),
-        named_characters(insns)
+        count_char_insns(insns)
     )?;
-    if let Some((first, last)) = both_ends("naïveté") {
+    if let Some((first, last)) = first_and_last_chars("naïveté") {
         println!(rt; "{first} {last}")?;
     }
     let dots = compile_literal(rt.alloc(), "..")?;

@@ -9,7 +9,7 @@ use Rattle.std.proofs.Math.Nat.{div-le_self, div-one, lt_of_le_of_lt, lt_of_lt_o
 use Rattle.std.proofs.Math.Pow.{pow-add, pow_mono, shl_lt}
 use Rattle.num_traits.specs.Laws.{Casts}
 use Rattle.num_traits.specs.Floats.{whole_part}
-use Rattle.use_regexp.specs.Coercions.{length_of, size_modulo_32_bits, uint32_of}
+use Rattle.use_regexp.specs.Coercions.{length_of, size_modulo_2_32, uint32_from_number}
 
 pub length-by_min : (x : Float) (n r : ℕ) → n ≡ to_unsigned 64 x → r ≡ min n 9007199254740991 → r ≡ length_of x
 unfolding to_unsigned
@@ -24,11 +24,11 @@ length-by_min (fin false m e) n r a b = omega (arith, a, b)
 abbrev pub AsU128 : Float → Option ℕ → Type 0
 AsU128 x r = Casts (λ n. pos n) (FitsUnsignedBits 128) (whole_part x) r
 
-pub size-some : (x y : Float) (n : ℕ) → y ≡ float_with_sign false x → AsU128 y (Some n) → n % 4294967296 ≡ size_modulo_32_bits x
+pub size-some : (x y : Float) (n : ℕ) → y ≡ float_with_sign false x → AsU128 y (Some n) → n % 4294967296 ≡ size_modulo_2_32 x
 unfolding float_with_sign
 size-some x y n is h = by x (subst (λ (k : Float). AsU128 k (Some n)) is h)
   where
-    by : (z : Float) → AsU128 (float_with_sign false z) (Some n) → n % 4294967296 ≡ size_modulo_32_bits z
+    by : (z : Float) → AsU128 (float_with_sign false z) (Some n) → n % 4294967296 ≡ size_modulo_2_32 z
     by nan g = absurd (true≢false g.1)
     by (inf s) g = absurd (true≢false g.1)
     by (fin s m e) g = ap (λ (z : ℤ). unsigned_abs z % 2 ^ 32) g.0.1
@@ -69,11 +69,11 @@ large s (suc m) (pos k) f g = by (ltb k 75) refl
     by true t = absurd (g (subst (λ (n : ℕ). n < 2 ^ 128) (sym (div-one (suc m * 2 ^ k))) (under (ltb-true _ _ t))))
     by false t = sym (multiple (suc m) k (ltb-false _ _ t))
 
-pub size-none : (x y : Float) → y ≡ float_with_sign false x → fits binary64 y ≡ true → AsU128 y None → 0 ≡ size_modulo_32_bits x
+pub size-none : (x y : Float) → y ≡ float_with_sign false x → fits binary64 y ≡ true → AsU128 y None → 0 ≡ size_modulo_2_32 x
 unfolding float_with_sign
 size-none x y is f h = by x (subst (λ (k : Float). fits binary64 k ≡ true) is f) (subst (λ (k : Float). AsU128 k None) is h)
   where
-    by : (z : Float) → fits binary64 (float_with_sign false z) ≡ true → AsU128 (float_with_sign false z) None → 0 ≡ size_modulo_32_bits z
+    by : (z : Float) → fits binary64 (float_with_sign false z) ≡ true → AsU128 (float_with_sign false z) None → 0 ≡ size_modulo_2_32 z
     by nan f g = refl
     by (inf s) f g = refl
     by (fin s m e) f g = large false m e f g.0
@@ -88,21 +88,21 @@ opposite : (r size : ℕ) → r < 4294967296 → size < 4294967296 → (r + size
 opposite r size a b h = omega (arith, a, b, h)
 
 pub negative-uint32 : (x : Float) (r size : ℕ) → lt x (of_bits binary64 0) ≡ true → r < 4294967296 → size < 4294967296
-    → size ≡ size_modulo_32_bits x → (r + size) % 4294967296 ≡ 0 → r ≡ uint32_of x
+    → size ≡ size_modulo_2_32 x → (r + size) % 4294967296 ≡ 0 → r ≡ uint32_from_number x
 unfolding lt
 negative-uint32 x r size t a b is h = by x (sym (ap (lt x) zero_is) ∙ t) is
   where
-    by : (z : Float) → lt z float_zero ≡ true → size ≡ size_modulo_32_bits z → r ≡ uint32_of z
+    by : (z : Float) → lt z float_zero ≡ true → size ≡ size_modulo_2_32 z → r ≡ uint32_from_number z
     by nan u k = absurd (true≢false (sym u))
     by (inf s) u k = omega (arith, a, b, h, k)
     by (fin false m e) u k = absurd (omega (arith, ltb-true _ _ u))
     by (fin true m e) u k = opposite r size a b h ∙ ap (λ (n : ℕ). (2 ^ 32 - n) % 2 ^ 32) k
 
-pub other-uint32 : (x : Float) (size : ℕ) → lt x (of_bits binary64 0) ≡ false → size ≡ size_modulo_32_bits x → size ≡ uint32_of x
+pub other-uint32 : (x : Float) (size : ℕ) → lt x (of_bits binary64 0) ≡ false → size ≡ size_modulo_2_32 x → size ≡ uint32_from_number x
 unfolding lt
 other-uint32 x size t is = by x (sym (ap (lt x) zero_is) ∙ t) is
   where
-    by : (z : Float) → lt z float_zero ≡ false → size ≡ size_modulo_32_bits z → size ≡ uint32_of z
+    by : (z : Float) → lt z float_zero ≡ false → size ≡ size_modulo_2_32 z → size ≡ uint32_from_number z
     by nan u k = k
     by (inf s) u k = k
     by (fin false m e) u k = k

@@ -3,7 +3,7 @@ use Rattle.std.proofs.Common.{◌≡◌, ℕ, ◌≤◌, Bool, true, false, not,
 use Rattle.std.specs.Prelude.{Option, Some, None, Result, IfOk, IfSome, option_map, if◌then◌else◌, slice_get}
 use Rattle.std.proofs.lemmas.Bool.{and_parts, cases_Bool}
 use Rattle.regex_meaning.specs.SearchAnswers.{answer_at, first_answer}
-use Rattle.regex_meaning.specs.Laws.{IsRange, is_within_pair}
+use Rattle.regex_meaning.specs.Laws.{IsRangeOfWholeCharacters, is_within_pair}
 use Rattle.regex_meaning.specs.MatchGroupsByNumberAndName.{Answer}
 use Rattle.regex_meaning.specs.CodeUnitOffsets.{IsBoundary, HasRisingPlaceOffsets, units}
 use Rattle.regex_meaning.specs.Text.{Text, is_unit_boundary, ucs2_text, utf16_text}
@@ -20,7 +20,7 @@ use Rattle.regress_match.specs.ExpansionsAndMatchRanges.{MatchRangesLieWithinUni
 use Rattle.regress_match.specs.declared.api.regex.Regex.{Regex}
 use Rattle.regress_match.proofs.FlagLemmas.{IfOk-map}
 use Rattle.regress_match.proofs.FirstMatchLemmas.{at-first, first-fits_units, head-first}
-use Rattle.use_regexp.specs.Exec.{StandsFrom, first_match, match_here, start_of}
+use Rattle.use_regexp.specs.Exec.{IsRangeFromIndexOn, first_match, match_beginning_at_index, start_of_character_at}
 use Rattle.use_regexp.specs.declared.pattern.Pattern.{Pattern}
 
 not-true : (b : Bool) → not b ≡ true → b ≡ false
@@ -79,19 +79,19 @@ module _ (re : Regex) (us : List ℕ) (small : AreUnits us) where
       first-ucs2 start m (at-first (tree_for_16_bit_units re).root (units_as_ucs2_text re us) (ucs2_text-IsText us (tree_for_16_bit_units re).flags.unicode) start m e)
 
 module _ (p : Pattern) (us : List ℕ) (index : ℕ) where
-  standing : (m : Answer) → Stands us p.flags.unicode (start_of p us index) m → StandsFrom p us index m
+  standing : (m : Answer) → Stands us p.flags.unicode (start_of_character_at p us index) m → IsRangeFromIndexOn p us index m
   standing m s = record { fits = s.fits; behind = s.behind; whole = s.whole }
 
-  pub first-stands : AreUnits us → (m : Answer) → first_match p us index ≡ Some m → StandsFrom p us index m
+  pub first-stands : AreUnits us → (m : Answer) → first_match p us index ≡ Some m → IsRangeFromIndexOn p us index m
   unfolding first_match
-  first-stands small m e = standing m (first-found p.re us small p.flags.unicode (start_of p us index) m e)
+  first-stands small m e = standing m (first-found p.re us small p.flags.unicode (start_of_character_at p us index) m e)
 
-  pub here-stands : AreUnits us → (m : Answer) → match_here p us index ≡ Some m → StandsFrom p us index m
-  unfolding match_here
-  here-stands small m e = standing m (here-found p.re us small p.flags.unicode (start_of p us index) m e)
+  pub here-stands : AreUnits us → (m : Answer) → match_beginning_at_index p us index ≡ Some m → IsRangeFromIndexOn p us index m
+  unfolding match_beginning_at_index
+  here-stands small m e = standing m (here-found p.re us small p.flags.unicode (start_of_character_at p us index) m e)
 
 -- The results of the engine's calls, by the flag `u`.
-module _ (p : Pattern) (us : List ℕ) (index start : ℕ) (s : start ≡ start_of p us index) {E : Type 0} (r : Result (Option Match) E) where
+module _ (p : Pattern) (us : List ℕ) (index start : ℕ) (s : start ≡ start_of_character_at p us index) {E : Type 0} (r : Result (Option Match) E) where
   abbrev list_by : (u : Bool) → (from : ℕ) → List Answer
   list_by u from = if u then utf16_answers p.re us from else ucs2_answers p.re us from
 
@@ -102,11 +102,11 @@ module _ (p : Pattern) (us : List ℕ) (index start : ℕ) (s : start ≡ start_
       → IfOk r (λ m. option_map answer_of m ≡ first_match p us index)
   unfolding first_match
   first-ok u answers e a h =
-      let same : answers ≡ list_by p.flags.unicode (start_of p us index) = a ∙ ap (list_by u) s ∙ ap (λ b. list_by b (start_of p us index)) (sym e) in
+      let same : answers ≡ list_by p.flags.unicode (start_of_character_at p us index) = a ∙ ap (list_by u) s ∙ ap (λ b. list_by b (start_of_character_at p us index)) (sym e) in
       IfOk-map r (λ m. option_map answer_of m ≡ slice_get answers 0) _ (λ m g. g ∙ ap (λ (ms : List Answer). slice_get ms 0) same) h
 
-  pub here-ok : (u : Bool) → p.flags.unicode ≡ u → IfOk r (λ m. option_map answer_of m ≡ here_by u start) → IfOk r (λ m. option_map answer_of m ≡ match_here p us index)
-  unfolding match_here
+  pub here-ok : (u : Bool) → p.flags.unicode ≡ u → IfOk r (λ m. option_map answer_of m ≡ here_by u start) → IfOk r (λ m. option_map answer_of m ≡ match_beginning_at_index p us index)
+  unfolding match_beginning_at_index
   here-ok u e h =
-      let same : here_by u start ≡ here_by p.flags.unicode (start_of p us index) = ap (here_by u) s ∙ ap (λ b. here_by b (start_of p us index)) (sym e) in
+      let same : here_by u start ≡ here_by p.flags.unicode (start_of_character_at p us index) = ap (here_by u) s ∙ ap (λ b. here_by b (start_of_character_at p us index)) (sym e) in
       IfOk-map r (λ m. option_map answer_of m ≡ here_by u start) _ (λ m g. g ∙ same) h

@@ -10,8 +10,8 @@ use Rattle.regex_meaning.specs.Outcomes.{Groups}
 use Rattle.regex_meaning.proofs.UnitBoundaryLemmas.{AreUnits}
 use Rattle.regress_search.specs.MatchesAsSpecAnswers.{answer_of}
 use Rattle.regress_search.specs.declared.exec.Match.{Match}
-use Rattle.use_regexp.specs.Exec.{StandsFrom, first_match}
-use Rattle.use_regexp.specs.Split.{ArePieces, AreSeparators, CutsNone, IsSeparator, IsSplit, before_end, chosen, ends_at, pieces, pieces_of_none}
+use Rattle.use_regexp.specs.Exec.{IsRangeFromIndexOn, first_match}
+use Rattle.use_regexp.specs.Split.{ArePieces, AreSeparators, CutsNoSurrogatePair, IsSeparator, IsSplit, before_end, chosen, has_match_ending_at, pieces, pieces_of_empty_text}
 use Rattle.use_regexp.specs.Split.{separator}
 use Rattle.use_regexp.specs.Units.{advanced}
 use Rattle.use_regexp.specs.declared.pattern.Pattern.{Pattern}
@@ -63,7 +63,7 @@ module _ (p : Pattern) (us : List ℕ) where
         taken n q false d e = let same : n ≡ m = cc e in subst (IsSeparator p us from) same (of-first n q d)
 
         by : (first : Option Answer) → first_match p us from ≡ first
-            → (if ends_at from first then first_match p us (advanced p.flags.unicode us from) else first) ≡ Some m → IsSeparator p us from m
+            → (if has_match_ending_at from first then first_match p us (advanced p.flags.unicode us from) else first) ≡ Some m → IsSeparator p us from m
         by None q e = cc
         by (Some n) q e = taken n q (nat_eq n.range.1 from) refl e
 
@@ -126,7 +126,7 @@ module _ (p : Pattern) (us : List ℕ) where
   -- The state of the loop: an offset in the text that is not within a pair, and the pieces so far.
   pub record IsCutTo (limit from : ℕ) (made : Groups) : Type 0 where
     pub inside : from ≤ length us
-    pub whole : CutsNone p us from
+    pub whole : CutsNoSurrogatePair p us from
     pub split : IsSplitTo limit from made
 
   pub cut-none : (limit : ℕ) (made : Groups) → made ≡ [] → IsCutTo limit 0 made
@@ -144,7 +144,7 @@ module _ (p : Pattern) (us : List ℕ) where
         let e : separator p us from ≡ Some (answer_of f) = subst (λ o. IfSome o (λ f. separator p us from ≡ Some (answer_of f))) is goes in
         record {
           inside = omega (arith, s.fits.whole, t);
-          whole = subst (CutsNone p us) (sym t) s.whole;
+          whole = subst (CutsNoSurrogatePair p us) (sym t) s.whole;
           split = split-more limit from made b.split to more (answer_of f) e t n;
         }
 
@@ -162,8 +162,8 @@ module _ (p : Pattern) (us : List ℕ) where
 
   -- ---- By the length of the text
 
-  pub split-empty : (limit : ℕ) (made : Groups) → nat_eq (length us) 0 ≡ true → made ≡ take limit (pieces_of_none p us) → IsSplit p us limit made
-  split-empty limit made e h = subst (λ (b : Bool). MatchBool b (made ≡ take limit (pieces_of_none p us)) (ArePieces p us limit made)) (sym e) h
+  pub split-empty : (limit : ℕ) (made : Groups) → nat_eq (length us) 0 ≡ true → made ≡ take limit (pieces_of_empty_text p us) → IsSplit p us limit made
+  split-empty limit made e h = subst (λ (b : Bool). MatchBool b (made ≡ take limit (pieces_of_empty_text p us)) (ArePieces p us limit made)) (sym e) h
 
   pub split-some : (limit : ℕ) (made : Groups) → nat_eq (length us) 0 ≡ false → ArePieces p us limit made → IsSplit p us limit made
-  split-some limit made e h = subst (λ (b : Bool). MatchBool b (made ≡ take limit (pieces_of_none p us)) (ArePieces p us limit made)) (sym e) h
+  split-some limit made e h = subst (λ (b : Bool). MatchBool b (made ≡ take limit (pieces_of_empty_text p us)) (ArePieces p us limit made)) (sym e) h

@@ -9,7 +9,7 @@ use Rattle.regex_meaning.specs.MatchGroupsByNumberAndName.{Answer, first_range, 
 use Rattle.regex_meaning.specs.Outcomes.{group_range}
 use Rattle.regress_match.specs.ExpansionsAndMatchRanges.{MatchRangesLieWithinUnits, IsRangeWithinUnits}
 use Rattle.regex_meaning.specs.Replace.{text_of}
-use Rattle.use_regexp.specs.Template.{IsWritten, Said, is_ascii, is_group, named_text, numbered, said, said_in, say, two_digits}
+use Rattle.use_regexp.specs.Template.{IsWritten, ExpansionAndRest, is_ascii, has_group_of_number, named_text, numbered, said, said_in, expansion_and_rest, two_digit_number_or_zero}
 
 module _ (text : List ℕ) (m : Answer) where
   -- The expansion of an empty template is empty.
@@ -33,20 +33,20 @@ module _ (text : List ℕ) (m : Answer) where
   -- ---- Parts of a template
 
   -- The output is extended by the expansion of a part.
-  written : (before after left units rest : List ℕ) (s : Said) → s ≡ say units rest → after ≡ before ++ units → left ≡ rest → IsWritten before after left s
-  written before after left units rest s e a l = (a ∙ ap (λ (s : Said). before ++ s.units) (sym e), l ∙ ap (λ (s : Said). s.rest) (sym e))
+  written : (before after left units rest : List ℕ) (s : ExpansionAndRest) → s ≡ expansion_and_rest units rest → after ≡ before ++ units → left ≡ rest → IsWritten before after left s
+  written before after left units rest s e a l = (a ∙ ap (λ (s : ExpansionAndRest). before ++ s.units) (sym e), l ∙ ap (λ (s : ExpansionAndRest). s.rest) (sym e))
 
-  pub two-written : (before after left rest : List ℕ) (digit one two : ℕ) → one ≡ digit - 48 → two ≡ two_digits one rest → is_group m two ≡ true
+  pub two-written : (before after left rest : List ℕ) (digit one two : ℕ) → one ≡ digit - 48 → two ≡ two_digit_number_or_zero one rest → has_group_of_number m two ≡ true
       → after ≡ before ++ text_of text m (group m two) → left ≡ drop 1 rest → IsWritten before after left (numbered text m digit rest)
   two-written before after left rest digit one two o t g a l =
-      let at : two_digits (digit - 48) rest ≡ two = ap (λ n. two_digits n rest) (sym o) ∙ sym t in
+      let at : two_digit_number_or_zero (digit - 48) rest ≡ two = ap (λ n. two_digit_number_or_zero n rest) (sym o) ∙ sym t in
       written before after left (text_of text m (group m two)) (drop 1 rest) _ (rw (at, g) refl) a l
 
-  pub one-written : (before after left rest : List ℕ) (digit one two : ℕ) → one ≡ digit - 48 → two ≡ two_digits one rest → is_group m two ≡ false
-      → is_group m one ≡ true → after ≡ before ++ text_of text m (group m one) → left ≡ rest → IsWritten before after left (numbered text m digit rest)
+  pub one-written : (before after left rest : List ℕ) (digit one two : ℕ) → one ≡ digit - 48 → two ≡ two_digit_number_or_zero one rest → has_group_of_number m two ≡ false
+      → has_group_of_number m one ≡ true → after ≡ before ++ text_of text m (group m one) → left ≡ rest → IsWritten before after left (numbered text m digit rest)
   one-written before after left rest digit one two o t n g a l =
-      let at : two_digits (digit - 48) rest ≡ two = ap (λ n. two_digits n rest) (sym o) ∙ sym t in
-      let is : is_group m (digit - 48) ≡ true = ap (is_group m) (sym o) ∙ g in
+      let at : two_digit_number_or_zero (digit - 48) rest ≡ two = ap (λ n. two_digit_number_or_zero n rest) (sym o) ∙ sym t in
+      let is : has_group_of_number m (digit - 48) ≡ true = ap (has_group_of_number m) (sym o) ∙ g in
       written before after left (text_of text m (group m (digit - 48))) rest _ (rw (at, n, is) refl) (a ∙ ap (λ k. before ++ text_of text m (group m k)) o) l
 
   -- An ASCII name identifies a group by its bytes.

@@ -11,9 +11,9 @@ use Rattle.regex_meaning.proofs.UnitBoundaryLemmas.{AreUnits}
 use Rattle.regress_search.specs.MatchesAsSpecAnswers.{answer_of}
 use Rattle.regress_search.specs.declared.exec.Match.{Match}
 use Rattle.regress_match.proofs.FlagLemmas.{IfOk-map}
-use Rattle.use_regexp.specs.Exec.{StandsFrom, first_match, found, last_behind, match_here, search_index}
-use Rattle.use_regexp.specs.Loops.{AreFoundInTurn, AreTaken, last_taken, index_after_match}
-use Rattle.use_regexp.specs.Replace.{StandInUnits}
+use Rattle.use_regexp.specs.Exec.{IsRangeFromIndexOn, first_match, found, last_index_after_search, match_beginning_at_index, search_index}
+use Rattle.use_regexp.specs.Loops.{AreSuccessiveSearchResults, AreMatchesOfCall, last_index_after_matches, index_after_match}
+use Rattle.use_regexp.specs.Replace.{AreRangesInOrderFrom}
 use Rattle.use_regexp.specs.Units.{character_start}
 use Rattle.use_regexp.specs.declared.pattern.Pattern.{Pattern}
 use Rattle.use_regexp.proofs.FoundStands.{first-stands, here-stands}
@@ -27,7 +27,7 @@ global-index p last e = ap (λ (b : Bool). if b || p.flags.sticky then last else
 
 module _ (p : Pattern) (us : List ℕ) (index last : ℕ) (same : index ≡ search_index p last) {E : Type 0} (r : Result (Option Match) E) where
   abbrev found_by : (sticky : Bool) → (index : ℕ) → Option Answer
-  found_by sticky index = if sticky then match_here p us index else first_match p us index
+  found_by sticky index = if sticky then match_beginning_at_index p us index else first_match p us index
 
   pub found-ok : (sticky : Bool) → p.flags.sticky ≡ sticky → IfOk r (λ m. option_map answer_of m ≡ found_by sticky index)
       → IfOk r (λ m. option_map answer_of m ≡ found p us last)
@@ -45,24 +45,24 @@ module _ (p : Pattern) (us : List ℕ) where
 
   -- The matches so far precede the matches from here on.
   abbrev pub GoesOn : (first last : ℕ) → (so_far : List Answer) → Type 0
-  GoesOn first last so_far = (rest : List Answer) → AreFoundInTurn p us last rest → AreFoundInTurn p us first (so_far ++ rest)
+  GoesOn first last so_far = (rest : List Answer) → AreSuccessiveSearchResults p us last rest → AreSuccessiveSearchResults p us first (so_far ++ rest)
 
   pub goes-none : (first : ℕ) (items : List Match) → items ≡ [] → GoesOn first first (map answer_of items)
-  goes-none first items none rest h = subst (λ (ms : List Match). AreFoundInTurn p us first (map answer_of ms ++ rest)) (sym none) h
+  goes-none first items none rest h = subst (λ (ms : List Match). AreSuccessiveSearchResults p us first (map answer_of ms ++ rest)) (sym none) h
 
   pub goes-more : (first last next : ℕ) (items more : List Match) (f : Match) → GoesOn first last (map answer_of items)
       → found p us last ≡ Some (answer_of f) → next ≡ index_after_match p us (answer_of f) → more ≡ items ++ f ∷ [] → GoesOn first next (map answer_of more)
   goes-more first last next items more f on e n m rest h =
       let m' = answer_of f in
-      let whole = on (m' ∷ rest) (e, subst (λ at. AreFoundInTurn p us at rest) n h) in
-      subst (AreFoundInTurn p us first)
+      let whole = on (m' ∷ rest) (e, subst (λ at. AreSuccessiveSearchResults p us at rest) n h) in
+      subst (AreSuccessiveSearchResults p us first)
       (sym (ap (λ (ms : List Answer). ms ++ rest) (ap (map answer_of) m ∙ map-append answer_of items (f ∷ [])) ∙ append_assoc (map answer_of items) (m' ∷ []) rest)) whole
 
-  pub goes-end : (first last : ℕ) (ms : List Answer) → GoesOn first last ms → found p us last ≡ None → AreFoundInTurn p us first ms
-  goes-end first last ms on e = subst (AreFoundInTurn p us first) (append-nil ms) (on [] e)
+  pub goes-end : (first last : ℕ) (ms : List Answer) → GoesOn first last ms → found p us last ≡ None → AreSuccessiveSearchResults p us first ms
+  goes-end first last ms on e = subst (AreSuccessiveSearchResults p us first) (append-nil ms) (on [] e)
 
   -- The next index is nearer to the end.
-  pub turn-smaller : (last next : ℕ) (m : Answer) → p.flags.global ≡ true → StandsFrom p us (search_index p last) m → next ≡ index_after_match p us m
+  pub turn-smaller : (last next : ℕ) (m : Answer) → p.flags.global ≡ true → IsRangeFromIndexOn p us (search_index p last) m → next ≡ index_after_match p us m
       → length us + 3 - next < length us + 3 - last
   turn-smaller last next m global s n =
       let behind : character_start p.flags.unicode us last ≤ m.range.0 = subst (λ i. character_start p.flags.unicode us i ≤ m.range.0) (global-index p last global) s.behind in
@@ -73,24 +73,24 @@ module _ (p : Pattern) (us : List ℕ) where
   -- ---- Positions of the matches
 
   module _ (small : AreUnits us) where
-    pub found-stands : (last : ℕ) (m : Answer) → found p us last ≡ Some m → StandsFrom p us (search_index p last) m
+    pub found-stands : (last : ℕ) (m : Answer) → found p us last ≡ Some m → IsRangeFromIndexOn p us (search_index p last) m
     found-stands last m e = by p.flags.sticky e
       where
-        by : (b : Bool) → (if b then match_here p us (search_index p last) else first_match p us (search_index p last)) ≡ Some m → StandsFrom p us (search_index p last) m
+        by : (b : Bool) → (if b then match_beginning_at_index p us (search_index p last) else first_match p us (search_index p last)) ≡ Some m → IsRangeFromIndexOn p us (search_index p last) m
         by true e = here-stands p us (search_index p last) small m e
         by false e = first-stands p us (search_index p last) small m e
 
     -- The result of a call.
     pub found-stands-ok : {E : Type 0} (last : ℕ) (r : Result (Option Match) E) → IfOk r (λ m. option_map answer_of m ≡ found p us last)
-        → IfOk r (λ m. IfSome m (λ f. StandsFrom p us (search_index p last) (answer_of f)))
+        → IfOk r (λ m. IfSome m (λ f. IsRangeFromIndexOn p us (search_index p last) (answer_of f)))
     found-stands-ok last r h = IfOk-map r _ _ of h
       where
-        of : (m : Option Match) → option_map answer_of m ≡ found p us last → IfSome m (λ f. StandsFrom p us (search_index p last) (answer_of f))
+        of : (m : Option Match) → option_map answer_of m ≡ found p us last → IfSome m (λ f. IsRangeFromIndexOn p us (search_index p last) (answer_of f))
         of None e = tt
         of (Some f) e = found-stands last (answer_of f) (sym e)
 
     stand-in-turn : p.flags.global ≡ true → (ms : List Answer) (last from : ℕ) → from ≤ character_start p.flags.unicode us last → from ≤ length us
-        → AreFoundInTurn p us last ms → StandInUnits us from ms
+        → AreSuccessiveSearchResults p us last ms → AreRangesInOrderFrom us from ms
     stand-in-turn global [] last from le inside h = inside
     stand-in-turn global (m ∷ ms) last from le inside h =
         let s = found-stands last m h.0 in
@@ -101,39 +101,39 @@ module _ (p : Pattern) (us : List ℕ) where
         )
 
     -- The matches that are taken are in the text, in ascending order.
-    pub taken-stand : (last : ℕ) (ms : List Answer) → AreTaken p us 0 last ms → StandInUnits us 0 ms
+    pub taken-stand : (last : ℕ) (ms : List Answer) → AreMatchesOfCall p us 0 last ms → AreRangesInOrderFrom us 0 ms
     taken-stand last ms h = by p.flags.global refl h
       where
-        one : (m : Option Answer) → found p us last ≡ m → StandInUnits us 0 (option_to_list m)
+        one : (m : Option Answer) → found p us last ≡ m → AreRangesInOrderFrom us 0 (option_to_list m)
         one None e = omega arith
         one (Some m) e = let s = found-stands last m e in (omega arith, s.fits, s.fits.whole.1)
 
-        by : (b : Bool) → p.flags.global ≡ b → MatchBool b (AreFoundInTurn p us 0 ms) (ms ≡ option_to_list (found p us last)) → StandInUnits us 0 ms
+        by : (b : Bool) → p.flags.global ≡ b → MatchBool b (AreSuccessiveSearchResults p us 0 ms) (ms ≡ option_to_list (found p us last)) → AreRangesInOrderFrom us 0 ms
         by true e h = stand-in-turn e ms 0 0 (omega arith) (omega arith) h
-        by false e h = subst (StandInUnits us 0) (sym h) (one (found p us last) refl)
+        by false e h = subst (AreRangesInOrderFrom us 0) (sym h) (one (found p us last) refl)
 
   -- ---- By the flag
 
   abbrev taken_by : (first last : ℕ) → List Answer → Bool → Type 0
-  taken_by first last ms b = MatchBool b (AreFoundInTurn p us first ms) (ms ≡ option_to_list (found p us last))
+  taken_by first last ms b = MatchBool b (AreSuccessiveSearchResults p us first ms) (ms ≡ option_to_list (found p us last))
 
-  pub taken-all : (first last : ℕ) (ms : List Answer) → p.flags.global ≡ true → AreFoundInTurn p us first ms → AreTaken p us first last ms
+  pub taken-all : (first last : ℕ) (ms : List Answer) → p.flags.global ≡ true → AreSuccessiveSearchResults p us first ms → AreMatchesOfCall p us first last ms
   taken-all first last ms e h = subst (taken_by first last ms) (sym e) h
 
-  pub taken-one : (first last : ℕ) (ms : List Answer) → p.flags.global ≡ false → ms ≡ option_to_list (found p us last) → AreTaken p us first last ms
+  pub taken-one : (first last : ℕ) (ms : List Answer) → p.flags.global ≡ false → ms ≡ option_to_list (found p us last) → AreMatchesOfCall p us first last ms
   taken-one first last ms e h = subst (taken_by first last ms) (sym e) h
 
   -- ---- `lastIndex` after the matches
 
-  pub taken-last : (last : ℕ) (ms : List Answer) → AreTaken p us 0 last ms
-      → (if p.flags.global then 0 else last_behind p last (slice_get ms 0)) ≡ last_taken p us last
+  pub taken-last : (last : ℕ) (ms : List Answer) → AreMatchesOfCall p us 0 last ms
+      → (if p.flags.global then 0 else last_index_after_search p last (slice_get ms 0)) ≡ last_index_after_matches p us last
   taken-last last ms h = by p.flags.global h
     where
       first : (m : Option Answer) → slice_get (option_to_list m) 0 ≡ m
       first None = refl
       first (Some m) = refl
 
-      by : (b : Bool) → MatchBool b (AreFoundInTurn p us 0 ms) (ms ≡ option_to_list (found p us last))
-          → (if b then 0 else last_behind p last (slice_get ms 0)) ≡ (if b then 0 else last_behind p last (found p us last))
+      by : (b : Bool) → MatchBool b (AreSuccessiveSearchResults p us 0 ms) (ms ≡ option_to_list (found p us last))
+          → (if b then 0 else last_index_after_search p last (slice_get ms 0)) ≡ (if b then 0 else last_index_after_search p last (found p us last))
       by true h = refl
-      by false h = ap (last_behind p last) (ap (λ ms. slice_get ms 0) h ∙ first (found p us last))
+      by false h = ap (last_index_after_search p last) (ap (λ ms. slice_get ms 0) h ∙ first (found p us last))

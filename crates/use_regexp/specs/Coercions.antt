@@ -10,17 +10,17 @@ length_of (inf negative) = if negative then 0 else 2 ^ 53 - 1
 length_of (fin negative m e) = if negative then 0 else min (m * up e / down e) (2 ^ 53 - 1)
 
 -- The whole part of the absolute value m * 2 ^ e, modulo 2 ^ 32.
-abbrev pub size_modulo_32_bits : Float → ℕ
-size_modulo_32_bits nan = 0
-size_modulo_32_bits (inf negative) = 0
-size_modulo_32_bits (fin negative m e) = m * up e / down e % 2 ^ 32
+abbrev pub size_modulo_2_32 : Float → ℕ
+size_modulo_2_32 nan = 0
+size_modulo_2_32 (inf negative) = 0
+size_modulo_2_32 (fin negative m e) = m * up e / down e % 2 ^ 32
 
 -- The number with this sign and absolute value, modulo 2 ^ 32.
-abbrev pub with_sign_modulo_32_bits : (negative : Bool) → (size : ℕ) → ℕ
-with_sign_modulo_32_bits negative size = if negative then (2 ^ 32 - size) % 2 ^ 32 else size
+abbrev pub with_sign_modulo_2_32 : (negative : Bool) → (size : ℕ) → ℕ
+with_sign_modulo_2_32 negative size = if negative then (2 ^ 32 - size) % 2 ^ 32 else size
 
 -- The whole part of a number, modulo 2 ^ 32.
-abbrev pub uint32_of : Float → ℕ
-uint32_of nan = 0
-uint32_of (inf negative) = 0
-uint32_of (fin negative m e) = with_sign_modulo_32_bits negative (size_modulo_32_bits (fin negative m e))
+abbrev pub uint32_from_number : Float → ℕ
+uint32_from_number nan = 0
+uint32_from_number (inf negative) = 0
+uint32_from_number (fin negative m e) = with_sign_modulo_2_32 negative (size_modulo_2_32 (fin negative m e))

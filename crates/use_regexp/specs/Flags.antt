@@ -7,8 +7,8 @@ use Rattle.use_regexp.specs.Letters.{are_flags}
 use Rattle.use_regexp.specs.declared.flags.Flags.{Flags}
 
 -- The flags with these letters.
-abbrev pub flags_in : List ℕ → Flags
-flags_in letters = record {
+abbrev pub flags_with_letters : List ℕ → Flags
+flags_with_letters letters = record {
   has_indices = contains letters 100;
   global = contains letters 103;
   ignore_case = contains letters 105;
@@ -20,7 +20,7 @@ flags_in letters = record {
 
 -- The flags with these letters. `None` if the letters are invalid.
 abbrev pub flags_of : List ℕ → Option Flags
-flags_of letters = if are_flags letters then Some (flags_in letters) else None
+flags_of letters = if are_flags letters then Some (flags_with_letters letters) else None
 
 -- The letters of the flags that are set, in the order of the standard (22.2.6.4 of the 13th
 -- edition).
@@ -42,5 +42,5 @@ tree_flags f = record {
 }
 
 -- Whether a search begins at `lastIndex` and sets it.
-abbrev pub keeps_index : Flags → Bool
-keeps_index f = f.global || f.sticky
+abbrev pub uses_last_index : Flags → Bool
+uses_last_index f = f.global || f.sticky

@@ -12,9 +12,9 @@ use Rattle.use_regexp.specs.declared.error.RegExpError.{RegExpError}
 use Rattle.use_regexp.specs.declared.error.RegExpError.TheVariants.{Flags, Pattern, Memory}
 
 -- The constructor's error for an error of the engine.
-abbrev pub of_pattern : Error → RegExpError
-of_pattern error.Memory = Memory
-of_pattern e = Pattern e
+abbrev pub constructor_error_of : Error → RegExpError
+constructor_error_of error.Memory = Memory
+constructor_error_of e = Pattern e
 
 -- The engine refuses the source with the flags of these letters, with this error.
 pub record IsRefused (source letters : List ℕ) (e : Error) : Type 0 where
@@ -23,8 +23,8 @@ pub record IsRefused (source letters : List ℕ) (e : Error) : Type 0 where
   pub refused : IsPatternRefusedWithSyntax ecmascript (tree_flags flags) (characters_of flags.unicode source) e
 
 -- When each error may occur, for a source and the letters of flags.
-abbrev pub CanRefuse : (source letters : List ℕ) → RegExpError → Type 0
-CanRefuse source letters Flags = are_flags letters ≡ false
-CanRefuse source letters (Pattern error.Memory) = ⊥
-CanRefuse source letters (Pattern e) = IsRefused source letters e
-CanRefuse source letters Memory = Unit {0}
+abbrev pub IsPossibleConstructorError : (source letters : List ℕ) → RegExpError → Type 0
+IsPossibleConstructorError source letters Flags = are_flags letters ≡ false
+IsPossibleConstructorError source letters (Pattern error.Memory) = ⊥
+IsPossibleConstructorError source letters (Pattern e) = IsRefused source letters e
+IsPossibleConstructorError source letters Memory = Unit {0}

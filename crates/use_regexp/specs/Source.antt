@@ -5,27 +5,27 @@ use Rattle.use_regexp.specs.Flags.{letters_of}
 use Rattle.use_regexp.specs.declared.flags.Flags.{Flags}
 
 -- What follows the backslash in an escape: the name of a line terminator, or the unit itself.
-abbrev pub behind_backslash : ℕ → List ℕ
-behind_backslash c =
+abbrev pub escaped_unit_after_backslash : ℕ → List ℕ
+escaped_unit_after_backslash c =
     if c == 0x0A then codes "n" else if c == 0x0D then codes "r"
     else if c == 0x2028 then codes "u2028" else if c == 0x2029 then codes "u2029" else c ∷ []
 
 -- Whether a unit needs a backslash: it is a line terminator, or a slash outside of a class.
-abbrev pub wants_backslash : (in_class : Bool) → ℕ → Bool
-wants_backslash in_class c = is_line_terminator c || (c == 47 && not in_class)
+abbrev pub needs_backslash : (in_class : Bool) → ℕ → Bool
+needs_backslash in_class c = is_line_terminator c || (c == 47 && not in_class)
 
 -- Whether a class is open after a unit that does not follow a backslash.
-abbrev pub class_behind : (in_class : Bool) → ℕ → Bool
-class_behind in_class c = if c == 91 then true else if c == 93 then false else in_class
+abbrev pub is_class_open_after : (in_class : Bool) → ℕ → Bool
+is_class_open_after in_class c = if c == 91 then true else if c == 93 then false else in_class
 
 -- The escaped units. `escaped` says whether a backslash precedes them, and `in_class` whether a
 -- class is open.
 abbrev pub escaped_from : (escaped in_class : Bool) → List ℕ → List ℕ
 escaped_from escaped in_class [] = []
-escaped_from true in_class (c ∷ cs) = behind_backslash c ++ escaped_from false in_class cs
+escaped_from true in_class (c ∷ cs) = escaped_unit_after_backslash c ++ escaped_from false in_class cs
 escaped_from false in_class (c ∷ cs) =
-    (if wants_backslash in_class c then 92 ∷ behind_backslash c else c ∷ [])
-    ++ escaped_from (c == 92) (class_behind in_class c) cs
+    (if needs_backslash in_class c then 92 ∷ escaped_unit_after_backslash c else c ∷ [])
+    ++ escaped_from (c == 92) (is_class_open_after in_class c) cs
 
 -- The escaped source of a pattern. The empty pattern has the source `(?:)`.
 abbrev pub escaped_source : List ℕ → List ℕ

@@ -1,7 +1,7 @@
 //! Converts a script's numbers to the values that the calls take.
 
 ghost use Rattle.std.specs.Prelude.{◌≡◌};
-ghost use Rattle.use_regexp.specs.Coercions.{length_of, size_modulo_32_bits as size_of, uint32_of};
+ghost use Rattle.use_regexp.specs.Coercions.{length_of, size_modulo_2_32 as size_of, uint32_from_number};
 
 use num_traits::ToPrimitive;
 use std::num::saturating_f64_to_u64;
@@ -24,9 +24,9 @@ pub fn to_length(number: f64) -> usize
 /// The fraction is dropped, and the result is taken modulo 2^32: -1 gives 4,294,967,295. NaN and
 /// the infinities give 0.
 pub fn to_uint32(number: f64) -> u32
-    ensures { result ≡ uint32_of number }
+    ensures { result ≡ uint32_from_number number }
 {
-    let size = size_modulo_32_bits(number);
+    let size = size_modulo_2_32(number);
     if number < 0.0 {
         size.wrapping_neg()
     } else {
@@ -35,7 +35,7 @@ pub fn to_uint32(number: f64) -> u32
 }
 
 // Returns the whole part of the number's absolute value, modulo 2^32.
-fn size_modulo_32_bits(number: f64) -> u32
+fn size_modulo_2_32(number: f64) -> u32
     ensures { result ≡ size_of number }
 {
     match number.abs().to_u128() {

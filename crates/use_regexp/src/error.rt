@@ -1,7 +1,7 @@
 //! Errors of the constructor of a regular expression.
 
 ghost use Rattle.std.specs.Prelude.{◌≡◌};
-ghost use Rattle.use_regexp.specs.Refusals.{of_pattern};
+ghost use Rattle.use_regexp.specs.Refusals.{constructor_error_of};
 
 use regress_match::Error;
 use std::alloc::AllocError;
@@ -10,7 +10,7 @@ use std::alloc::AllocError;
 #[derive(Clone, Copy, Debug, PartialEq, Eq, thiserror::Error)]
 pub enum RegExpError {
     /// A letter is not the letter of a flag, or occurs twice.
-    #[error("the flags are refused")]
+    #[error("a flag is unknown or occurs twice")]
     Flags,
     /// The pattern has a syntax error or exceeds a limit.
     #[error("{0}")]
@@ -31,7 +31,7 @@ impl From<AllocError> for RegExpError {
 }
 
 impl From<Error> for RegExpError {
-    ghost from_gives = { λ refused e. e ≡ of_pattern refused };
+    ghost from_gives = { λ refused e. e ≡ constructor_error_of refused };
 
     fn from(error: Error) -> Self {
         match error {

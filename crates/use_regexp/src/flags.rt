@@ -8,7 +8,7 @@ use regress_match::Flags as PatternFlags;
 use std::alloc::{AllocError, Global};
 
 /// The letters of the flags, in the order of the standard.
-const LETTERS: [u16; 7] = [100, 103, 105, 109, 115, 117, 121];
+const FLAG_LETTERS: [u16; 7] = [100, 103, 105, 109, 115, 117, 121];
 
 /// The flags of a regular expression (21.2.5). `d` is a flag of the 13th edition (ES2022).
 #[derive(Clone, Copy, Debug, Default, PartialEq, Eq)]
@@ -32,7 +32,7 @@ pub struct Flags {
 }
 
 impl Flags {
-    ghost use Rattle.use_regexp.specs.Flags.{flags_of, keeps_index as keeps, letters_of, tree_flags};
+    ghost use Rattle.use_regexp.specs.Flags.{flags_of, uses_last_index as keeps, letters_of, tree_flags};
     ghost use Rattle.regress_match.specs.PublicFlagsAsSpecFlags.{spec_flags_of as engine_flags};
 
     /// Returns the flags with these letters, in any order. Returns `None` if a letter is not the
@@ -76,7 +76,7 @@ impl Flags {
     }
 
     // Checks whether a search begins at `lastIndex` and sets it.
-    pub(crate) fn keeps_index(self) -> bool
+    pub(crate) fn uses_last_index(self) -> bool
         ensures { result ≡ keeps self }
     {
         self.global || self.sticky
@@ -113,7 +113,7 @@ fn are_flags(letters: &[u16]) -> bool
 {
     let mut rest = letters;
     while let Some((letter, behind)) = rest.split_first() {
-        if !LETTERS.contains(letter) || behind.contains(letter) {
+        if !FLAG_LETTERS.contains(letter) || behind.contains(letter) {
             return false;
         }
         rest = behind;

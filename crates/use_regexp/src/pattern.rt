@@ -4,7 +4,7 @@ ghost use Rattle.std.specs.Prelude.{◌≡◌, ◌++◌, ◌∷◌, ◌≤◌, [
 ghost use Rattle.std.specs.Option.{option_to_list};
 ghost use Rattle.regress_search.specs.MatchesAsSpecAnswers.{answer_of};
 ghost use Rattle.regress_match.specs.CompileErrors.{IsOutOfMemory};
-ghost use Rattle.use_regexp.specs.Refusals.{CanRefuse};
+ghost use Rattle.use_regexp.specs.Refusals.{IsPossibleConstructorError};
 
 use crate::error::RegExpError;
 use crate::flags::Flags;
@@ -23,8 +23,8 @@ pub struct Pattern {
 
 impl Pattern {
     ghost use Rattle.use_regexp.specs.Compiled.{IsPatternOf};
-    ghost use Rattle.use_regexp.specs.Exec.{StandsFrom, first_match, found, last_behind, match_here, search_index as search_index_of};
-    ghost use Rattle.use_regexp.specs.Loops.{AreFoundInTurn, AreTaken, index_after_match};
+    ghost use Rattle.use_regexp.specs.Exec.{IsRangeFromIndexOn, first_match, found, last_index_after_search, match_beginning_at_index, search_index as search_index_of};
+    ghost use Rattle.use_regexp.specs.Loops.{AreSuccessiveSearchResults, AreMatchesOfCall, index_after_match};
 
     /// Compiles a pattern of the whole language, with annex B, with the flags of these letters
     /// (21.2.3.2.2, RegExpInitialize). With `u`, the source is read as UTF-16. Without it, each
@@ -36,7 +36,7 @@ impl Pattern {
     /// pattern is refused, and `Memory` if an allocation fails.
     pub fn new(alloc: Global, source: &[u16], letters: &[u16]) -> Result<Pattern, RegExpError>
         ensures compiled { IfOk result (IsPatternOf source.now letters.now) }
-        ensures refused { IfErr result (CanRefuse source.now letters.now) }
+        ensures refused { IfErr result (IsPossibleConstructorError source.now letters.now) }
     {
         let Some(flags) = Flags::of_letters(letters) else {
             return Err(RegExpError::Flags);
@@ -80,8 +80,12 @@ impl Pattern {
     }
 
     // Returns the match that begins at an index, if there is one. No other index is tried.
-    pub(crate) fn match_here(&self, text: &[u16], at: usize) -> Result<Option<Match>, SearchError>
-        ensures found { IfOk result (λ m. option_map answer_of m ≡ match_here self.now text.now at) }
+    pub(crate) fn match_beginning_at_index(
+        &self,
+        text: &[u16],
+        at: usize,
+    ) -> Result<Option<Match>, SearchError>
+        ensures found { IfOk result (λ m. option_map answer_of m ≡ match_beginning_at_index self.now text.now at) }
         ensures refused { IfErr result IsOutOfMemory }
     {
         let start = units::character_start(self.flags.unicode, text, at);
@@ -102,12 +106,12 @@ impl Pattern {
     pub fn find(&self, text: &[u16], last_index: usize) -> Result<Option<Match>, SearchError>
         ensures found { IfOk result (λ m. option_map answer_of m ≡ found self.now text.now last_index) }
         ensures stands { IfOk result (λ m. IfSome m (λ f.
-            StandsFrom self.now text.now (search_index_of self.now last_index) (answer_of f))) }
+            IsRangeFromIndexOn self.now text.now (search_index_of self.now last_index) (answer_of f))) }
         ensures refused { IfErr result IsOutOfMemory }
     {
         let index = self.search_index(last_index);
         if self.flags.sticky {
-            self.match_here(text, index)
+            self.match_beginning_at_index(text, index)
         } else {
             self.first_match(text, index)
         }
@@ -118,7 +122,7 @@ impl Pattern {
     fn search_index(&self, last_index: usize) -> usize
         ensures { result ≡ search_index_of self.now last_index }
     {
-        if self.flags.keeps_index() {
+        if self.flags.uses_last_index() {
             last_index
         } else {
             0
@@ -127,10 +131,10 @@ impl Pattern {
 
     /// Returns `lastIndex` after a search. With `g` or `y`, it is the end of the match, or 0 if
     /// there is none. Otherwise it is unchanged.
-    pub fn last_behind(&self, last_index: usize, found: Option<&Match>) -> usize
-        ensures { result ≡ last_behind self.now last_index (option_map (λ m. answer_of m.now) found.entry) }
+    pub fn last_index_after_search(&self, last_index: usize, found: Option<&Match>) -> usize
+        ensures { result ≡ last_index_after_search self.now last_index (option_map (λ m. answer_of m.now) found.entry) }
     {
-        if !self.flags.keeps_index() {
+        if !self.flags.uses_last_index() {
             return last_index;
         }
         match found {
@@ -153,9 +157,14 @@ impl Pattern {
     }
 
     // Returns all matches that successive searches find from an index on.
-    fn all_from(&self, alloc: Global, text: &[u16], first: usize) -> Result<Vec<Match>, SearchError>
+    fn all_matches_from_index(
+        &self,
+        alloc: Global,
+        text: &[u16],
+        first: usize,
+    ) -> Result<Vec<Match>, SearchError>
         requires { IsTrue self.now.flags.global }
-        ensures taken { IfOk result (λ v. AreFoundInTurn self.now text.now first (map answer_of v.items)) }
+        ensures taken { IfOk result (λ v. AreSuccessiveSearchResults self.now text.now first (map answer_of v.items)) }
         ensures refused { IfErr result IsOutOfMemory }
     {
         let mut matches = Vec::new(alloc);
@@ -180,11 +189,11 @@ impl Pattern {
         first: usize,
         last_index: usize,
     ) -> Result<Vec<Match>, SearchError>
-        ensures taken { IfOk result (λ v. AreTaken self.now text.now first last_index (map answer_of v.items)) }
+        ensures taken { IfOk result (λ v. AreMatchesOfCall self.now text.now first last_index (map answer_of v.items)) }
         ensures refused { IfErr result IsOutOfMemory }
     {
         if self.flags.global {
-            return self.all_from(alloc, text, first);
+            return self.all_matches_from_index(alloc, text, first);
         }
         let found = self.find(text, last_index)?;
         let matches = listed(alloc, found)?;
@@ -193,14 +202,14 @@ impl Pattern {
 
     /// Returns `lastIndex` after these matches. With `g` it is 0, because the last search has found
     /// no match.
-    pub fn last_taken(&self, last_index: usize, matches: &[Match]) -> usize
+    pub fn last_index_after_matches(&self, last_index: usize, matches: &[Match]) -> usize
         ensures { result ≡ (if self.now.flags.global then 0
-            else last_behind self.now last_index (slice_get (map answer_of matches.now) 0)) }
+            else last_index_after_search self.now last_index (slice_get (map answer_of matches.now) 0)) }
     {
         if self.flags.global {
             return 0;
         }
-        self.last_behind(last_index, matches.first())
+        self.last_index_after_search(last_index, matches.first())
     }
 }
 

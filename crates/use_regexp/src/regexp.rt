@@ -3,7 +3,7 @@
 ghost use Rattle.std.specs.Prelude.{◌≡◌, IfErr, IfOk, OnErr, if◌then◌else◌, is_some, map, option_map, slice_get};
 ghost use Rattle.regress_search.specs.MatchesAsSpecAnswers.{answer_of};
 ghost use Rattle.regress_match.specs.CompileErrors.{IsOutOfMemory};
-ghost use Rattle.use_regexp.specs.{Compiled.{IsPatternOf}, Exec.{found, last_behind}, Loops.{AreTaken, LeavesTaken}, Refusals.{CanRefuse}};
+ghost use Rattle.use_regexp.specs.{Compiled.{IsPatternOf}, Exec.{found, last_index_after_search}, Loops.{AreMatchesOfCall, SetsLastIndexAfterMatches}, Refusals.{IsPossibleConstructorError}};
 ghost use Rattle.use_regexp.specs.Source.{escaped_source, literal_of};
 
 use crate::error::RegExpError;
@@ -39,7 +39,7 @@ impl RegExp {
     pub fn new(alloc: Global, source: &[u16], letters: &[u16]) -> Result<RegExp, RegExpError>
         ensures compiled { IfOk result (λ r. IsPatternOf source.now letters.now r.pattern) }
         ensures first { IfOk result (λ r. r.last_index ≡ 0) }
-        ensures refused { IfErr result (CanRefuse source.now letters.now) }
+        ensures refused { IfErr result (IsPossibleConstructorError source.now letters.now) }
     {
         let pattern = Pattern::new(alloc, source, letters)?;
         Ok(RegExp {
@@ -99,13 +99,15 @@ impl RegExp {
         ensures found { IfOk result (λ m. option_map answer_of m
             ≡ found self.old.pattern text.now self.old.last_index) }
         ensures last { IfOk result (λ m. self.new.last_index
-            ≡ last_behind self.old.pattern self.old.last_index (option_map answer_of m)) }
+            ≡ last_index_after_search self.old.pattern self.old.last_index (option_map answer_of m)) }
         ensures same { self.new.pattern ≡ self.old.pattern }
         ensures refused { IfErr result IsOutOfMemory }
         ensures unchanged { OnErr result (self.new ≡ self.old) }
     {
         let found = self.pattern.find(text, self.last_index)?;
-        let last_index = self.pattern.last_behind(self.last_index, found.as_ref());
+        let last_index = self
+            .pattern
+            .last_index_after_search(self.last_index, found.as_ref());
         self.last_index = last_index;
         Ok(found)
     }
@@ -117,7 +119,7 @@ impl RegExp {
     /// Returns the errors of `exec`.
     pub fn test(&mut self, text: &[u16]) -> Result<bool, SearchError>
         ensures tested { IfOk result (λ b. b ≡ is_some (found self.old.pattern text.now self.old.last_index)) }
-        ensures last { IfOk result (λ b. self.new.last_index ≡ last_behind self.old.pattern
+        ensures last { IfOk result (λ b. self.new.last_index ≡ last_index_after_search self.old.pattern
             self.old.last_index (found self.old.pattern text.now self.old.last_index)) }
         ensures same { self.new.pattern ≡ self.old.pattern }
         ensures refused { IfErr result IsOutOfMemory }
@@ -153,24 +155,26 @@ impl RegExp {
     /// `Memory` if an allocation fails. Then `self` is unchanged.
     pub fn match_text(&mut self, alloc: Global, text: &[u16]) -> Result<Vec<Match>, SearchError>
         ensures taken { IfOk result (λ v.
-            AreTaken self.old.pattern text.now 0 self.old.last_index (map answer_of v.items)) }
-        ensures last { IfOk result (λ _. LeavesTaken self.old self.new text.now) }
+            AreMatchesOfCall self.old.pattern text.now 0 self.old.last_index (map answer_of v.items)) }
+        ensures last { IfOk result (λ _. SetsLastIndexAfterMatches self.old self.new text.now) }
         ensures same { self.new.pattern ≡ self.old.pattern }
         ensures refused { IfErr result IsOutOfMemory }
         ensures unchanged { OnErr result (self.new ≡ self.old) }
     {
         let matches = self.pattern.taken(alloc, text, 0, self.last_index)?;
-        self.pass(matches.as_slice());
+        self.set_last_index_after(matches.as_slice());
         Ok(matches)
     }
 
     // Sets `lastIndex` to its value after these matches.
-    pub(crate) fn pass(&mut self, matches: &[Match])
+    pub(crate) fn set_last_index_after(&mut self, matches: &[Match])
         ensures last { self.new.last_index ≡ (if self.old.pattern.flags.global then 0
-            else last_behind self.old.pattern self.old.last_index (slice_get (map answer_of matches.now) 0)) }
+            else last_index_after_search self.old.pattern self.old.last_index (slice_get (map answer_of matches.now) 0)) }
         ensures same { self.new.pattern ≡ self.old.pattern }
     {
-        let last_index = self.pattern.last_taken(self.last_index, matches);
+        let last_index = self
+            .pattern
+            .last_index_after_matches(self.last_index, matches);
         self.last_index = last_index;
     }
 
@@ -183,7 +187,7 @@ impl RegExp {
     /// `Memory` if an allocation fails.
     pub fn match_all(&self, alloc: Global, text: &[u16]) -> Result<Vec<Match>, SearchError>
         ensures taken { IfOk result (λ v.
-            AreTaken self.now.pattern text.now self.now.last_index self.now.last_index (map answer_of v.items)) }
+            AreMatchesOfCall self.now.pattern text.now self.now.last_index self.now.last_index (map answer_of v.items)) }
         ensures refused { IfErr result IsOutOfMemory }
     {
         self.pattern

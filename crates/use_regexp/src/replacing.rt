@@ -6,8 +6,8 @@ ghost use Rattle.regex_meaning.specs.Replace.{replaced};
 ghost use Rattle.regress_search.specs.MatchesAsSpecAnswers.{answer_of};
 ghost use Rattle.regress_match.specs.{ClosureReplacement.{IsClosureErrorOrOutOfMemory}, StringClosures.{ClosureCanBeCalled}};
 ghost use Rattle.regress_match.specs.{CompileErrors.{IsOutOfMemory}, ExpansionsAndMatchRanges.{MatchRangesLieWithinUnits}};
-ghost use Rattle.use_regexp.specs.Loops.{LeavesTaken};
-ghost use Rattle.use_regexp.specs.Replace.{CanBeTaken, CanRefuseAt, CanRefuseWith, IsReplaced, IsReplacedBy, IsReplacedWith, StandInUnits, substituted};
+ghost use Rattle.use_regexp.specs.Loops.{SetsLastIndexAfterMatches};
+ghost use Rattle.use_regexp.specs.Replace.{ClosureAcceptsMatches, IsPossibleErrorForMatches, IsPossibleReplaceError, IsReplaced, IsReplacedBy, IsReplacedWith, AreRangesInOrderFrom, substituted};
 
 use crate::regexp::RegExp;
 use crate::template::substitute;
@@ -34,14 +34,14 @@ impl RegExp {
     ) -> Result<Vec<u16>, SearchError>
         ensures made { IfOk result (λ v.
             IsReplaced self.old.pattern self.old.last_index text.now template.now v.items) }
-        ensures last { IfOk result (λ _. LeavesTaken self.old self.new text.now) }
+        ensures last { IfOk result (λ _. SetsLastIndexAfterMatches self.old self.new text.now) }
         ensures same { self.new.pattern ≡ self.old.pattern }
         ensures refused { IfErr result IsOutOfMemory }
         ensures unchanged { OnErr result (self.new ≡ self.old) }
     {
         let matches = self.pattern.taken(alloc, text, 0, self.last_index)?;
-        let made = write_template(alloc, text, matches.as_slice(), template)?;
-        self.pass(matches.as_slice());
+        let made = replace_matches_by_template(alloc, text, matches.as_slice(), template)?;
+        self.set_last_index_after(matches.as_slice());
         Ok(made)
     }
 
@@ -62,23 +62,28 @@ impl RegExp {
     ) -> Result<Vec<u16>, ReplaceError<E>>
     where
         F: Fn(&Match) -> Result<Vec<u16>, E>,
-        requires { CanBeTaken (F.pre with) self.old.pattern text.now self.old.last_index }
+        requires { ClosureAcceptsMatches (F.pre with) self.old.pattern text.now self.old.last_index }
         ensures made { IfOk result (λ v.
             IsReplacedWith (F.post with) self.old.pattern text.now self.old.last_index v.items) }
-        ensures last { IfOk result (λ _. LeavesTaken self.old self.new text.now) }
+        ensures last { IfOk result (λ _. SetsLastIndexAfterMatches self.old self.new text.now) }
         ensures same { self.new.pattern ≡ self.old.pattern }
-        ensures refused { IfErr result (CanRefuseWith (F.post with) self.old.pattern text.now self.old.last_index) }
+        ensures refused { IfErr result (IsPossibleReplaceError (F.post with) self.old.pattern text.now self.old.last_index) }
         ensures unchanged { OnErr result (self.new ≡ self.old) }
     {
         let matches = self.pattern.taken(alloc, text, 0, self.last_index)?;
-        let made = write_answers(alloc, text, matches.as_slice(), with)?;
-        self.pass(matches.as_slice());
+        let made = replace_matches_by_closure(alloc, text, matches.as_slice(), with)?;
+        self.set_last_index_after(matches.as_slice());
         Ok(made)
     }
 }
 
 // Appends the text between `from` and a match, and returns the end of the match.
-fn reach(made: &mut Vec<u16>, text: &[u16], from: usize, found: &Match) -> Result<usize, AllocError>
+fn append_units_before_match(
+    made: &mut Vec<u16>,
+    text: &[u16],
+    from: usize,
+    found: &Match,
+) -> Result<usize, AllocError>
     requires rising { from ≤ found.now.range.start }
     requires fits { MatchRangesLieWithinUnits text.now (answer_of found.now) }
     ensures made { IfOk result (λ _. made.new.items
@@ -90,13 +95,13 @@ fn reach(made: &mut Vec<u16>, text: &[u16], from: usize, found: &Match) -> Resul
 }
 
 // Returns the text with the expansion of the template in place of each match.
-fn write_template(
+fn replace_matches_by_template(
     alloc: Global,
     text: &[u16],
     matches: &[Match],
     template: &[u16],
 ) -> Result<Vec<u16>, AllocError>
-    requires { StandInUnits text.now 0 (map answer_of matches.now) }
+    requires { AreRangesInOrderFrom text.now 0 (map answer_of matches.now) }
     ensures { IfOk result (λ v. v.items
         ≡ replaced text.now 0 (substituted text.now template.now (map answer_of matches.now))) }
 {
@@ -104,7 +109,7 @@ fn write_template(
     let mut from = 0;
     let mut rest = matches;
     while let Some((found, behind)) = rest.split_first() {
-        from = reach(&mut made, text, from, found)?;
+        from = append_units_before_match(&mut made, text, from, found)?;
         substitute(alloc, &mut made, text, found, template)?;
         rest = behind;
     }
@@ -113,7 +118,10 @@ fn write_template(
 }
 
 // Appends the closure's result for a match.
-fn write_answer<E>(made: &mut Vec<u16>, answer: Result<Vec<u16>, E>) -> Result<(), ReplaceError<E>>
+fn push_closure_result<E>(
+    made: &mut Vec<u16>,
+    answer: Result<Vec<u16>, E>,
+) -> Result<(), ReplaceError<E>>
     ensures made { IfOk result (λ _. IsOkAnd answer (λ piece. made.new.items ≡ made.old.items ++ piece.items)) }
     ensures refused { IfErr result (IsClosureErrorOrOutOfMemory answer) }
 {
@@ -123,7 +131,7 @@ fn write_answer<E>(made: &mut Vec<u16>, answer: Result<Vec<u16>, E>) -> Result<(
 }
 
 // Returns the text with the result of the closure in place of each match.
-fn write_answers<E, F>(
+fn replace_matches_by_closure<E, F>(
     alloc: Global,
     text: &[u16],
     matches: &[Match],
@@ -131,17 +139,17 @@ fn write_answers<E, F>(
 ) -> Result<Vec<u16>, ReplaceError<E>>
 where
     F: Fn(&Match) -> Result<Vec<u16>, E>,
-    requires in_text { StandInUnits text.now 0 (map answer_of matches.now) }
+    requires in_text { AreRangesInOrderFrom text.now 0 (map answer_of matches.now) }
     requires executable { ClosureCanBeCalled (F.pre with) (map answer_of matches.now) }
     ensures made { IfOk result (λ v. IsReplacedBy (F.post with) text.now (map answer_of matches.now) v.items) }
-    ensures refused { IfErr result (CanRefuseAt (F.post with) (map answer_of matches.now)) }
+    ensures refused { IfErr result (IsPossibleErrorForMatches (F.post with) (map answer_of matches.now)) }
 {
     let mut made = Vec::new(alloc);
     let mut from = 0;
     let mut rest = matches;
     while let Some((found, behind)) = rest.split_first() {
-        from = reach(&mut made, text, from, found)?;
-        write_answer(&mut made, with(found))?;
+        from = append_units_before_match(&mut made, text, from, found)?;
+        push_closure_result(&mut made, with(found))?;
         rest = behind;
     }
     made.extend_from_slice(&text[from..])?;

@@ -2,7 +2,7 @@
 
 ghost use Rattle.std.specs.Prelude.{◌≡◌, ◌++◌, ◌∷◌, IfOk, false, if◌then◌else◌, []};
 ghost use Rattle.regex_meaning.specs.Text.{is_line_terminator as is_terminator_of};
-ghost use Rattle.use_regexp.specs.Source.{behind_backslash, class_behind, escaped_from, escaped_source, wants_backslash as wants};
+ghost use Rattle.use_regexp.specs.Source.{escaped_unit_after_backslash, is_class_open_after, escaped_from, escaped_source, needs_backslash as wants};
 
 use std::alloc::{AllocError, Global};
 
@@ -36,11 +36,11 @@ fn push_escaped(out: &mut Vec<u16>, source: &[u16]) -> Result<(), AllocError>
     let mut in_class = false;
     for unit in source {
         if escaped {
-            push_behind_backslash(out, *unit)?;
+            push_after_backslash(out, *unit)?;
             escaped = false;
         } else {
             push_plain(out, in_class, *unit)?;
-            in_class = is_in_class(in_class, *unit);
+            in_class = is_class_open_after_unit(in_class, *unit);
             escaped = *unit == BACKSLASH;
         }
     }
@@ -50,17 +50,17 @@ fn push_escaped(out: &mut Vec<u16>, source: &[u16]) -> Result<(), AllocError>
 // Appends a unit that does not follow a backslash.
 fn push_plain(out: &mut Vec<u16>, in_class: bool, unit: u16) -> Result<(), AllocError>
     ensures { IfOk result (λ _. out.new.items ≡ out.old.items
-        ++ (if wants in_class unit then 92 ∷ behind_backslash unit else unit ∷ [])) }
+        ++ (if wants in_class unit then 92 ∷ escaped_unit_after_backslash unit else unit ∷ [])) }
 {
-    if !wants_backslash(in_class, unit) {
+    if !needs_backslash(in_class, unit) {
         return Ok(out.push(unit)?);
     }
     out.push(BACKSLASH)?;
-    push_behind_backslash(out, unit)
+    push_after_backslash(out, unit)
 }
 
 // Checks whether a unit needs a backslash: it is a line terminator, or a slash outside of a class.
-fn wants_backslash(in_class: bool, unit: u16) -> bool
+fn needs_backslash(in_class: bool, unit: u16) -> bool
     ensures { result ≡ wants in_class unit }
 {
     is_line_terminator(unit) || (unit == SLASH && !in_class)
@@ -74,8 +74,8 @@ fn is_line_terminator(unit: u16) -> bool
 }
 
 // Checks whether a class is open after a unit that does not follow a backslash.
-fn is_in_class(in_class: bool, unit: u16) -> bool
-    ensures { result ≡ class_behind in_class unit }
+fn is_class_open_after_unit(in_class: bool, unit: u16) -> bool
+    ensures { result ≡ is_class_open_after in_class unit }
 {
     if unit == 91 {
         true
@@ -88,8 +88,8 @@ fn is_in_class(in_class: bool, unit: u16) -> bool
 
 // Appends what follows the backslash in an escape: the name of a line terminator, or the unit
 // itself.
-fn push_behind_backslash(out: &mut Vec<u16>, unit: u16) -> Result<(), AllocError>
-    ensures { IfOk result (λ _. out.new.items ≡ out.old.items ++ behind_backslash unit) }
+fn push_after_backslash(out: &mut Vec<u16>, unit: u16) -> Result<(), AllocError>
+    ensures { IfOk result (λ _. out.new.items ≡ out.old.items ++ escaped_unit_after_backslash unit) }
 {
     if unit == 0x0A {
         push_ascii(out, b"n")

@@ -3,7 +3,7 @@
 ghost use Rattle.std.specs.Prelude.{◌≡◌, ◌++◌, ◌∷◌, ◌⊎◌, ◌≤◌, [], IfErr, IfNone, IfOk, IfSome, None, Some, length, map, option_map, take};
 ghost use Rattle.regress_search.specs.MatchesAsSpecAnswers.{answer_of, range_as_pair};
 ghost use Rattle.regress_match.specs.CompileErrors.{IsOutOfMemory};
-ghost use Rattle.use_regexp.specs.Split.{ArePieces, IsSeparator, IsSplit, before_end as before_end_of, chosen, pieces_of_none, separator};
+ghost use Rattle.use_regexp.specs.Split.{ArePieces, IsSeparator, IsSplit, before_end as before_end_of, chosen, pieces_of_empty_text, separator};
 
 use crate::pattern::Pattern;
 use crate::regexp::RegExp;
@@ -34,7 +34,7 @@ impl RegExp {
     {
         let limit = limit as usize;
         if text.is_empty() {
-            return self.pattern.pieces_of_none(alloc, text, limit);
+            return self.pattern.pieces_of_empty_text(alloc, text, limit);
         }
         self.pattern.pieces(alloc, text, limit)
     }
@@ -42,18 +42,18 @@ impl RegExp {
 
 impl Pattern {
     // Returns the pieces of an empty text. There is none if the pattern matches the empty text.
-    fn pieces_of_none(
+    fn pieces_of_empty_text(
         &self,
         alloc: Global,
         text: &[u16],
         limit: usize,
     ) -> Result<Vec<Option<Range<usize>>>, SearchError>
         ensures pieces { IfOk result (λ v. map (option_map range_as_pair) v.items
-            ≡ take limit (pieces_of_none self.now text.now)) }
+            ≡ take limit (pieces_of_empty_text self.now text.now)) }
         ensures refused { IfErr result IsOutOfMemory }
     {
         let mut pieces = Vec::new(alloc);
-        if self.match_here(text, 0)?.is_none() {
+        if self.match_beginning_at_index(text, 0)?.is_none() {
             push_piece(&mut pieces, 0, 0)?;
         }
         pieces.truncate(limit);
@@ -72,7 +72,7 @@ impl Pattern {
     {
         let mut pieces = Vec::new(alloc);
         let mut from = 0;
-        'cuts: while let Some(found) = self.wanted_separator(
+        'cuts: while let Some(found) = self.next_separator_within_limit(
             text,
             from,
             pieces.as_slice(),
@@ -88,7 +88,7 @@ impl Pattern {
 
     // Returns the next separator after the start of a piece. Returns `None` if there are already
     // `limit` pieces.
-    fn wanted_separator(
+    fn next_separator_within_limit(
         &self,
         text: &[u16],
         from: usize,
@@ -117,13 +117,13 @@ impl Pattern {
         ensures refused { IfErr result IsOutOfMemory }
     {
         let first = self.first_match(text, from)?;
-        let chosen = self.passed(text, from, first)?;
+        let chosen = self.first_match_past_empty_one(text, from, first)?;
         Ok(before_end(text, chosen))
     }
 
     // Returns the first match from the start of a piece on. If it is empty and begins there,
     // returns the first match from the next index on.
-    fn passed(
+    fn first_match_past_empty_one(
         &self,
         text: &[u16],
         from: usize,

@@ -6,17 +6,17 @@ ghost use Rattle.std.specs.List.{list_all};
 ghost use Rattle.regex_meaning.specs.{MatchGroupsByNumberAndName.{Answer}, Replace.{text_of}};
 ghost use Rattle.regress_search.specs.MatchesAsSpecAnswers.{answer_of, range_as_pair};
 ghost use Rattle.regress_match.specs.ExpansionsAndMatchRanges.{MatchRangesLieWithinUnits, IsRangeWithinUnits};
-ghost use Rattle.use_regexp.specs.Template.{IsWritten, behind_dollar, is_ascii, is_greater, is_group as is_group_of, name_end as name_end_of, named};
-ghost use Rattle.use_regexp.specs.Template.{named_text, numbered, plain, said, substitution, two_digits as two_digits_of};
+ghost use Rattle.use_regexp.specs.Template.{IsWritten, expansion_after_dollar, is_ascii, is_greater_than_sign, has_group_of_number as is_group_of, end_of_group_name as name_end_of, named};
+ghost use Rattle.use_regexp.specs.Template.{named_text, numbered, plain, said, substitution, two_digit_number_or_zero as two_digits_of};
 
 use regress_match::{Match, Range};
 use std::alloc::{AllocError, Global};
 
 const DOLLAR: u16 = 36;
 
-const LESS: u16 = 60;
+const LESS_THAN_SIGN: u16 = 60;
 
-const GREATER: u16 = 62;
+const GREATER_THAN_SIGN: u16 = 62;
 
 // Appends the expansion of a template for a match (21.1.3.16.1, GetSubstitution). Each iteration
 // reads at least one unit.
@@ -36,13 +36,13 @@ pub(crate) fn substitute(
         let Some((first, behind)) = rest.split_first() else {
             return Ok(());
         };
-        rest = push_said(alloc, out, text, found, *first, behind)?;
+        rest = push_expansion_of_first_part(alloc, out, text, found, *first, behind)?;
     }
     Ok(())
 }
 
 // Appends the expansion of the first part of a template, and returns the rest.
-fn push_said<'a>(
+fn push_expansion_of_first_part<'a>(
     alloc: Global,
     out: &mut Vec<u16>,
     text: &[u16],
@@ -55,14 +55,14 @@ fn push_said<'a>(
         (said text.now (answer_of found.now) first behind.now)) }
 {
     if first == DOLLAR {
-        return push_behind_dollar(alloc, out, text, found, behind);
+        return push_expansion_after_dollar(alloc, out, text, found, behind);
     }
     out.push(first)?;
     Ok(behind)
 }
 
 // Appends the expansion of `$` and the units after it. Returns the rest.
-fn push_behind_dollar<'a>(
+fn push_expansion_after_dollar<'a>(
     alloc: Global,
     out: &mut Vec<u16>,
     text: &[u16],
@@ -71,17 +71,17 @@ fn push_behind_dollar<'a>(
 ) -> Result<&'a [u16], AllocError>
     requires { MatchRangesLieWithinUnits text.now (answer_of found.now) }
     ensures { IfOk result (λ rest. IsWritten out.old.items out.new.items rest.now
-        (behind_dollar text.now (answer_of found.now) signs.now)) }
+        (expansion_after_dollar text.now (answer_of found.now) signs.now)) }
 {
     let Some((sign, rest)) = signs.split_first() else {
         out.push(DOLLAR)?;
         return Ok(signs);
     };
     if is_digit(*sign) {
-        return push_numbered(out, text, found, *sign, rest);
+        return push_numbered_group(out, text, found, *sign, rest);
     }
-    if *sign == LESS {
-        return push_named(alloc, out, text, found, rest);
+    if *sign == LESS_THAN_SIGN {
+        return push_named_group_or_literal(alloc, out, text, found, rest);
     }
     push_plain(out, text, found, *sign)?;
     Ok(rest)
@@ -118,7 +118,7 @@ fn is_digit(unit: u16) -> bool
 
 // Appends the text of the group with a number of two digits, or else of one digit. If there is
 // neither, appends `$` and the digit.
-fn push_numbered<'a>(
+fn push_numbered_group<'a>(
     out: &mut Vec<u16>,
     text: &[u16],
     found: &Match,
@@ -131,12 +131,12 @@ fn push_numbered<'a>(
         (numbered text.now (answer_of found.now) digit rest.now)) }
 {
     let one = usize::from(digit - 48);
-    let two = two_digits(one, rest);
-    if is_group(found, two) {
+    let two = two_digit_number_or_zero(one, rest);
+    if has_group_of_number(found, two) {
         push_range(out, text, found.group(two))?;
         return Ok(&rest[1..]);
     }
-    if is_group(found, one) {
+    if has_group_of_number(found, one) {
         push_range(out, text, found.group(one))?;
         return Ok(rest);
     }
@@ -146,14 +146,14 @@ fn push_numbered<'a>(
 }
 
 // Checks whether the pattern has a group with this number.
-fn is_group(found: &Match, number: usize) -> bool
+fn has_group_of_number(found: &Match, number: usize) -> bool
     ensures { result ≡ is_group_of (answer_of found.now) number }
 {
     0 < number && number <= found.captures.len()
 }
 
 // Returns the number with a first digit and the digit after it. Returns 0 if no digit follows.
-fn two_digits(first: usize, rest: &[u16]) -> usize
+fn two_digit_number_or_zero(first: usize, rest: &[u16]) -> usize
     requires { first < 10 }
     ensures { result ≡ two_digits_of first rest.now }
 {
@@ -165,7 +165,7 @@ fn two_digits(first: usize, rest: &[u16]) -> usize
 
 // If any group has a name, appends the text of the group with the name before `>`. Otherwise
 // appends `$<`.
-fn push_named<'a>(
+fn push_named_group_or_literal<'a>(
     alloc: Global,
     out: &mut Vec<u16>,
     text: &[u16],
@@ -176,9 +176,9 @@ fn push_named<'a>(
     ensures { IfOk result (λ left. IsWritten out.old.items out.new.items left.now
         (named text.now (answer_of found.now) rest.now)) }
 {
-    let Some(end) = name_end(found, rest) else {
+    let Some(end) = end_of_group_name(found, rest) else {
         out.push(DOLLAR)?;
-        out.push(LESS)?;
+        out.push(LESS_THAN_SIGN)?;
         return Ok(rest);
     };
     push_name(alloc, out, text, found, &rest[..end])?;
@@ -187,22 +187,22 @@ fn push_named<'a>(
 
 // Returns the index at which a name ends. Returns `None` if it does not end, or if no group has a
 // name.
-fn name_end(found: &Match, rest: &[u16]) -> Option<usize>
+fn end_of_group_name(found: &Match, rest: &[u16]) -> Option<usize>
     ensures end { result ≡ name_end_of (answer_of found.now) rest.now }
     ensures inside { IfSome result (λ end. end < length rest.now) }
 {
     if found.named_groups().len() == 0 {
         return None;
     }
-    greater_in(rest)
+    index_of_greater_than_sign(rest)
 }
 
 // Returns the index of the first `>`.
-fn greater_in(rest: &[u16]) -> Option<usize>
-    ensures found { result ≡ position is_greater rest.now }
+fn index_of_greater_than_sign(rest: &[u16]) -> Option<usize>
+    ensures found { result ≡ position is_greater_than_sign rest.now }
     ensures inside { IfSome result (λ at. at < length rest.now) }
 {
-    rest.iter().position(|unit| *unit == GREATER)
+    rest.iter().position(|unit| *unit == GREATER_THAN_SIGN)
 }
 
 // Appends the text of the group with this name, if it exists and matched.

@@ -3,7 +3,7 @@
 ghost use Rattle.std.specs.Prelude.{◌≡◌, ◌≤◌, ◌∷◌, IfOk, length};
 ghost use Rattle.regex_meaning.specs.Laws.{is_within_pair as is_pair_at};
 ghost use Rattle.regex_meaning.specs.Text.{decode_surrogate_pair, is_high_surrogate, is_low_surrogate, utf16_characters};
-ghost use Rattle.use_regexp.specs.Units.{advanced as advanced_of, character_start as start_of, characters_of};
+ghost use Rattle.use_regexp.specs.Units.{advanced as advanced_of, character_start as start_of_character_at, characters_of};
 
 use std::alloc::{AllocError, Global};
 
@@ -37,7 +37,7 @@ fn is_within_pair(text: &[u16], index: usize) -> bool
 // Returns the index at which the character at an index begins. With `u`, it is one unit before an
 // index within a surrogate pair (21.2.2.2).
 pub(crate) fn character_start(unicode: bool, text: &[u16], index: usize) -> usize
-    ensures { result ≡ start_of unicode text.now index }
+    ensures { result ≡ start_of_character_at unicode text.now index }
 {
     if unicode && is_within_pair(text, index) {
         index - 1

@@ -2,7 +2,7 @@
 
 use crate::json;
 use crate::script::{
-    Literal, begins_number, behind_blanks, first, is, number, pattern, push, string, units_of, word,
+    Literal, begins_number, first, is, number, pattern, push, skip_blanks, string, units_of, word,
 };
 use crate::stop::{Malformed, Stop};
 use std::alloc::{AllocError, Global};
@@ -20,7 +20,7 @@ const NO_LIMIT: u32 = u32::MAX;
 /// fails.
 pub fn answer(alloc: Global, out: &mut String, line: &str) -> Result<(), Stop> {
     let units = units_of(alloc, line)?;
-    let line = behind_blanks(&units);
+    let line = skip_blanks(&units);
     if line.is_empty() {
         return Ok(());
     }
@@ -49,16 +49,16 @@ fn answer_calls(
     re: &mut RegExp,
     line: &[u16],
 ) -> Result<(), Stop> {
-    let (last_index, behind) = index(alloc, behind_blanks(line))?;
+    let (last_index, behind) = index(alloc, skip_blanks(line))?;
     re.last_index = last_index;
-    let mut rest = behind_blanks(behind);
+    let mut rest = skip_blanks(behind);
     for _ in 0..line.len() {
         if rest.is_empty() {
             break;
         }
         let (call, behind) = read_call(alloc, rest)?;
         answer_call(alloc, out, re, &call)?;
-        rest = behind_blanks(behind);
+        rest = skip_blanks(behind);
     }
     Ok(())
 }
@@ -125,9 +125,13 @@ fn takes_text(method: Method) -> bool {
 }
 
 // Reads a string if `is_wanted`. Returns it with the rest of the line.
-fn string_if(alloc: Global, is_wanted: bool, line: &[u16]) -> Result<(Vec<u16>, &[u16]), Stop> {
+fn read_string_if_wanted(
+    alloc: Global,
+    is_wanted: bool,
+    line: &[u16],
+) -> Result<(Vec<u16>, &[u16]), Stop> {
     if is_wanted {
-        string(alloc, behind_blanks(line))
+        string(alloc, skip_blanks(line))
     } else {
         Ok((Vec::new(alloc), line))
     }
@@ -139,9 +143,9 @@ fn read_call(alloc: Global, line: &[u16]) -> Result<(Call, &[u16]), Stop> {
     let Some(method) = method_of(name) else {
         return Err(Stop::Malformed(Malformed::NoCall));
     };
-    let (text, rest) = string_if(alloc, takes_text(method), rest)?;
-    let (template, rest) = string_if(alloc, method == Method::Replace, rest)?;
-    let (limit, rest) = limit_if(alloc, method == Method::Split, rest)?;
+    let (text, rest) = read_string_if_wanted(alloc, takes_text(method), rest)?;
+    let (template, rest) = read_string_if_wanted(alloc, method == Method::Replace, rest)?;
+    let (limit, rest) = read_limit_if_wanted(alloc, method == Method::Split, rest)?;
     let call = Call {
         method,
         text,
@@ -153,8 +157,12 @@ fn read_call(alloc: Global, line: &[u16]) -> Result<(Call, &[u16]), Stop> {
 
 // Reads the limit of a split if `is_wanted` and a number follows. Returns it with the rest of the
 // line.
-fn limit_if(alloc: Global, is_wanted: bool, line: &[u16]) -> Result<(u32, &[u16]), Stop> {
-    let rest = behind_blanks(line);
+fn read_limit_if_wanted(
+    alloc: Global,
+    is_wanted: bool,
+    line: &[u16],
+) -> Result<(u32, &[u16]), Stop> {
+    let rest = skip_blanks(line);
     if !is_wanted || !begins_number(rest) {
         return Ok((NO_LIMIT, line));
     }
@@ -176,9 +184,9 @@ fn value(alloc: Global, out: &mut String, re: &mut RegExp, call: &Call) -> Resul
     let text = call.text.as_slice();
     let indices = re.flags().has_indices;
     match call.method {
-        Method::Exec => found_or_null(out, indices, text, re.exec(text)?)?,
+        Method::Exec => write_match_or_null(out, indices, text, re.exec(text)?)?,
         Method::Test => json::truth(out, re.test(text)?)?,
-        Method::Search => index_or_none(out, re.search(text)?)?,
+        Method::Search => write_index_or_minus_one(out, re.search(text)?)?,
         Method::Match => matches(alloc, out, re, text)?,
         Method::MatchAll => every(out, indices, text, &re.match_all(alloc, text)?)?,
         Method::Replace => json::string(out, &re.replace(alloc, text, &call.template)?)?,
@@ -193,7 +201,7 @@ fn value(alloc: Global, out: &mut String, re: &mut RegExp, call: &Call) -> Resul
 }
 
 // Writes a match, or `null`.
-fn found_or_null(
+fn write_match_or_null(
     out: &mut String,
     indices: bool,
     text: &[u16],
@@ -206,7 +214,7 @@ fn found_or_null(
 }
 
 // Writes the start of a match, or -1.
-fn index_or_none(out: &mut String, at: Option<usize>) -> Result<(), AllocError> {
+fn write_index_or_minus_one(out: &mut String, at: Option<usize>) -> Result<(), AllocError> {
     match at {
         Some(at) => { write!(out, "{at}") }
         None => out.push_str("-1"),
@@ -221,7 +229,7 @@ fn matches(alloc: Global, out: &mut String, re: &mut RegExp, text: &[u16]) -> Re
     if flags.global && !found.is_empty() {
         texts(out, text, &found)?;
     } else {
-        found_or_null(out, flags.has_indices, text, found.pop())?;
+        write_match_or_null(out, flags.has_indices, text, found.pop())?;
     }
     Ok(())
 }
@@ -275,7 +283,11 @@ fn replace_with(
     re: &mut RegExp,
     text: &[u16],
 ) -> Result<(), Stop> {
-    let made = re.replace_with(alloc, text, |found: &Match| told(alloc, text, found));
+    let made = re.replace_with(
+        alloc,
+        text,
+        |found: &Match| replacement_for_match(alloc, text, found),
+    );
     match made {
         Ok(made) => Ok(json::string(out, &made)?),
         Err(ReplaceError::Search(refused)) => Err(refused.into()),
@@ -285,21 +297,27 @@ fn replace_with(
 
 // Returns the replacement of a match for `replaceWith`: `<index:match|group..>`. A group that did
 // not match is `-`.
-fn told(alloc: Global, text: &[u16], found: &Match) -> Result<Vec<u16>, AllocError> {
+fn replacement_for_match(
+    alloc: Global,
+    text: &[u16],
+    found: &Match,
+) -> Result<Vec<u16>, AllocError> {
     let start = found.start();
     let begun = format!(in alloc; "<{start}")?;
-    let mut told = units_of(alloc, &begun)?;
+    let mut replacement_for_match = units_of(alloc, &begun)?;
     let mut sign = 58;
     for group in found.groups() {
-        push(&mut told, sign)?;
+        push(&mut replacement_for_match, sign)?;
         match group {
             Some(range) => {
-                told.extend_from_slice(text.get(range.start..range.end).unwrap_or(&[]))?
+                replacement_for_match.extend_from_slice(
+                    text.get(range.start..range.end).unwrap_or(&[]),
+                )?
             }
-            None => push(&mut told, 45)?,
+            None => push(&mut replacement_for_match, 45)?,
         }
         sign = 124;
     }
-    push(&mut told, 62)?;
-    Ok(told)
+    push(&mut replacement_for_match, 62)?;
+    Ok(replacement_for_match)
 }

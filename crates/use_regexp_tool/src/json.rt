@@ -3,7 +3,7 @@
 use std::alloc::AllocError;
 use use_regexp::{Match, Range};
 
-const HEX: [char; 16] = [
+const HEX_DIGITS: [char; 16] = [
     '0', '1', '2', '3', '4', '5', '6', '7', '8', '9', 'a', 'b', 'c', 'd', 'e', 'f',
 ];
 
@@ -35,7 +35,7 @@ fn push_escape(out: &mut String, unit: u16) -> Result<(), AllocError> {
 
 // Writes the last hexadecimal digit of a number.
 fn push_digit(out: &mut String, number: u16) -> Result<(), AllocError> {
-    out.push(HEX[(number % 16) as usize])
+    out.push(HEX_DIGITS[(number % 16) as usize])
 }
 
 /// Writes the text in a range, or `null`.

@@ -12,10 +12,10 @@ use crate::calls::answer;
 use crate::stop::Stop;
 use anyhow::{Context, Result, bail};
 use std::process::ExitCode;
-use use_support::{CommandLine, Given, Program, TROUBLE, run};
+use use_support::{CommandLine, EXIT_STATUS_FAILURE, Given, Program, run};
 
 // The exit status if a pattern or its flags were refused.
-const THROWN: u8 = 1;
+const EXIT_STATUS_THROWN: u8 = 1;
 
 const ABOUT: &str = "Answers the calls of RegExp methods on the lines of standard input, in JSON.";
 
@@ -47,12 +47,12 @@ fn answer_line(rt: &HostRuntime, line: &str) -> Result<u8> {
         Ok(()) => 0,
         Err(Stop::SyntaxError) => {
             answers.push_str("{\"error\":\"SyntaxError\"}\n")?;
-            THROWN
+            EXIT_STATUS_THROWN
         }
         Err(Stop::Malformed(why)) => {
             let why = why.text();
             write!(answers, "{{\"error\":\"malformed line: {why}\"}}\n")?;
-            TROUBLE
+            EXIT_STATUS_FAILURE
         }
         Err(Stop::Memory) => bail!("out of memory"),
     };

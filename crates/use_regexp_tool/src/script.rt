@@ -36,7 +36,7 @@ fn is_digit(unit: u16) -> bool {
 }
 
 /// Returns the line without leading blanks.
-pub fn behind_blanks(line: &[u16]) -> &[u16] {
+pub fn skip_blanks(line: &[u16]) -> &[u16] {
     match line.iter().position(|unit| !is_blank(*unit)) {
         Some(end) => &line[end..],
         None => &[],
@@ -52,7 +52,7 @@ pub fn word(line: &[u16]) -> (&[u16], &[u16]) {
 }
 
 /// Returns the part before the next blank, and the rest.
-fn before_blank(line: &[u16]) -> (&[u16], &[u16]) {
+fn split_at_blank(line: &[u16]) -> (&[u16], &[u16]) {
     match line.iter().position(|unit| is_blank(*unit)) {
         Some(end) => line.split_at(end),
         None => (line, &[]),
@@ -69,7 +69,7 @@ pub fn is(word: &[u16], name: &str) -> bool {
 }
 
 // The names of numbers without digits.
-const NAMED: [(&str, f64); 3] = [
+const NAMED_NUMBERS: [(&str, f64); 3] = [
     ("NaN", f64::NAN),
     ("Infinity", f64::INFINITY),
     ("-Infinity", f64::NEG_INFINITY),
@@ -77,7 +77,7 @@ const NAMED: [(&str, f64); 3] = [
 
 // Returns the number with this name.
 fn named_number(word: &[u16]) -> Option<f64> {
-    for (name, value) in NAMED {
+    for (name, value) in NAMED_NUMBERS {
         if is(word, name) {
             return Some(value);
         }
@@ -89,12 +89,12 @@ fn named_number(word: &[u16]) -> Option<f64> {
 pub fn begins_number(line: &[u16]) -> bool {
     match line.first() {
         Some(unit) if is_digit(*unit) || *unit == 45 => true,
-        _ => named_number(before_blank(line).0).is_some(),
+        _ => named_number(split_at_blank(line).0).is_some(),
     }
 }
 
 // Checks whether a unit may occur in a number with digits.
-fn is_of_number(unit: u16) -> bool {
+fn may_occur_in_number(unit: u16) -> bool {
     is_digit(unit) || matches!(unit, 43 | 45 | 46 | 69 | 101)
 }
 
@@ -103,7 +103,7 @@ fn digits_of(alloc: Global, word: &[u16]) -> Result<String, Stop> {
     let mut text = String::new(alloc);
     for unit in word {
         match u8::try_from(*unit) {
-            Ok(byte) if is_of_number(*unit) => text.push(char::from(byte))?,
+            Ok(byte) if may_occur_in_number(*unit) => text.push(char::from(byte))?,
             _ => return Err(Stop::Malformed(Malformed::NoNumber)),
         }
     }
@@ -112,7 +112,7 @@ fn digits_of(alloc: Global, word: &[u16]) -> Result<String, Stop> {
 
 /// Parses a number that ends at the next blank: a decimal number, `NaN`, `Infinity` or `-Infinity`.
 pub fn number(alloc: Global, line: &[u16]) -> Result<(f64, &[u16]), Stop> {
-    let (word, rest) = before_blank(line);
+    let (word, rest) = split_at_blank(line);
     if let Some(value) = named_number(word) {
         return Ok((value, rest));
     }
@@ -136,7 +136,7 @@ fn until(line: &[u16], end: Option<usize>) -> Option<(&[u16], &[u16])>
 
 // Returns the index of the slash that ends a pattern. A slash in a class or after a backslash does
 // not.
-fn slash_in(line: &[u16]) -> Option<usize>
+fn index_of_closing_slash(line: &[u16]) -> Option<usize>
     ensures { IfSome result (λ at. at < length line.now) }
 {
     let mut escaped = false;
@@ -155,7 +155,7 @@ fn slash_in(line: &[u16]) -> Option<usize>
 }
 
 // Returns the index of the quote that ends a string. A quote after a backslash does not.
-fn quote_in(line: &[u16]) -> Option<usize>
+fn index_of_closing_quote(line: &[u16]) -> Option<usize>
     ensures { IfSome result (λ at. at < length line.now) }
 {
     let mut escaped = false;
@@ -176,10 +176,10 @@ pub fn string(alloc: Global, line: &[u16]) -> Result<(Vec<u16>, &[u16]), Stop> {
     let Some((34, behind)) = first(line) else {
         return Err(Stop::Malformed(Malformed::NoString));
     };
-    let Some((inside, rest)) = until(behind, quote_in(behind)) else {
+    let Some((inside, rest)) = until(behind, index_of_closing_quote(behind)) else {
         return Err(Stop::Malformed(Malformed::UnclosedString));
     };
-    let text = unescaped(alloc, inside)?;
+    let text = decode_json_string(alloc, inside)?;
     Ok((text, rest))
 }
 
@@ -197,20 +197,20 @@ enum Escape {
     // Outside of an escape.
     Outside,
     // After the backslash.
-    Begun,
+    AfterBackslash,
     // After `\u`. The first number is how many of its four digits follow after the next one, and
     // the second is the value of the digits before it.
     Hex(u8, u16),
 }
 
 // Decodes a JSON string, given the part between its quotes.
-fn unescaped(alloc: Global, inside: &[u16]) -> Result<Vec<u16>, Stop> {
+fn decode_json_string(alloc: Global, inside: &[u16]) -> Result<Vec<u16>, Stop> {
     let mut text = Vec::new(alloc);
     let mut escape = Escape::Outside;
     for unit in inside {
-        let (next, told) = step(escape, *unit)?;
-        if let Some(told) = told {
-            push(&mut text, told)?;
+        let (next, replacement_for_match) = step(escape, *unit)?;
+        if let Some(replacement_for_match) = replacement_for_match {
+            push(&mut text, replacement_for_match)?;
         }
         escape = next;
     }
@@ -223,16 +223,19 @@ fn unescaped(alloc: Global, inside: &[u16]) -> Result<Vec<u16>, Stop> {
 // Reads a unit. Returns the next state, and the unit of the value that is now complete, if any.
 fn step(escape: Escape, unit: u16) -> Result<(Escape, Option<u16>), Malformed> {
     match escape {
-        Escape::Outside if unit == 92 => Ok((Escape::Begun, None)),
+        Escape::Outside if unit == 92 => Ok((Escape::AfterBackslash, None)),
         Escape::Outside if unit < 32 => Err(Malformed::ControlCharacter),
         Escape::Outside => Ok((Escape::Outside, Some(unit))),
-        Escape::Begun if unit == 117 => Ok((Escape::Hex(3, 0), None)),
-        Escape::Begun => match named(unit) {
-            Some(told) => Ok((Escape::Outside, Some(told))),
+        Escape::AfterBackslash if unit == 117 => Ok((Escape::Hex(3, 0), None)),
+        Escape::AfterBackslash => match named(unit) {
+            Some(replacement_for_match) => Ok((Escape::Outside, Some(replacement_for_match))),
             None => Err(Malformed::InvalidEscape),
         },
         Escape::Hex(left, value) => match hex_digit(unit) {
-            Some(digit) => Ok(behind_digit(left, value.wrapping_mul(16).wrapping_add(digit))),
+            Some(digit) => Ok(state_after_hex_digit(
+                left,
+                value.wrapping_mul(16).wrapping_add(digit),
+            )),
             None => Err(Malformed::InvalidEscape),
         },
     }
@@ -240,7 +243,7 @@ fn step(escape: Escape, unit: u16) -> Result<(Escape, Option<u16>), Malformed> {
 
 // Returns the state after a digit of `\u`: `left` digits remain, and the digits so far have the
 // value `value`.
-fn behind_digit(left: u8, value: u16) -> (Escape, Option<u16>) {
+fn state_after_hex_digit(left: u8, value: u16) -> (Escape, Option<u16>) {
     if left == 0 {
         (Escape::Outside, Some(value))
     } else {
@@ -275,15 +278,15 @@ fn named(unit: u16) -> Option<u16> {
 /// Parses a pattern and its flags: `/pattern/flags`, or two JSON strings.
 pub fn pattern(alloc: Global, line: &[u16]) -> Result<(Literal, &[u16]), Stop> {
     match first(line) {
-        Some((47, behind)) => between_slashes(alloc, behind),
+        Some((47, behind)) => read_literal_after_slash(alloc, behind),
         Some((34, _)) => quoted(alloc, line),
         _ => Err(Stop::Malformed(Malformed::NoPattern)),
     }
 }
 
 // Parses a pattern and its flags after the first slash.
-fn between_slashes(alloc: Global, line: &[u16]) -> Result<(Literal, &[u16]), Stop> {
-    let Some((source, rest)) = until(line, slash_in(line)) else {
+fn read_literal_after_slash(alloc: Global, line: &[u16]) -> Result<(Literal, &[u16]), Stop> {
+    let Some((source, rest)) = until(line, index_of_closing_slash(line)) else {
         return Err(Stop::Malformed(Malformed::NoPattern));
     };
     let (flags, rest) = word(rest);
@@ -295,6 +298,6 @@ fn between_slashes(alloc: Global, line: &[u16]) -> Result<(Literal, &[u16]), Sto
 // Parses a pattern and its flags as two strings.
 fn quoted(alloc: Global, line: &[u16]) -> Result<(Literal, &[u16]), Stop> {
     let (source, rest) = string(alloc, line)?;
-    let (flags, rest) = string(alloc, behind_blanks(rest))?;
+    let (flags, rest) = string(alloc, skip_blanks(rest))?;
     Ok((Literal { source, flags }, rest))
 }

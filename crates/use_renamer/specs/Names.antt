@@ -24,12 +24,12 @@ abbrev pub new_name : Regex → (template name : List ℕ) → List ℕ
 new_name re template name = replaced name 0 (matches_with_expansions name template (utf8_answers re name 0))
 
 -- The pairs whose two names differ.
-abbrev pub changing : List (List ℕ × List ℕ) → List (List ℕ × List ℕ)
-changing moves = filter (λ m. not (bytes_eq m.0 m.1)) moves
+abbrev pub pairs_of_different_names : List (List ℕ × List ℕ) → List (List ℕ × List ℕ)
+pairs_of_different_names moves = filter (λ m. not (bytes_eq m.0 m.1)) moves
 
 -- The names that change, each with its new name, in order.
 abbrev pub changes : Regex → (template : List ℕ) → (names : List (List ℕ)) → List (List ℕ × List ℕ)
-changes re template names = changing (map (λ name. (name, new_name re template name)) names)
+changes re template names = pairs_of_different_names (map (λ name. (name, new_name re template name)) names)
 
 -- No two of these names are equal.
 abbrev pub AllDiffer : List (List ℕ) → Type 0
@@ -47,14 +47,14 @@ all_differ name_of (x ∷ xs) = is_none (find (λ y. bytes_eq (name_of x) (name_
 -- The renamings in a folder lose no file, in any order, and also if only some of them are done:
 -- each new name is a valid file name, all new names differ, and nothing in the folder has a new
 -- name.
-pub record AreSafe (folder : List (List ℕ)) (moves : List (List ℕ × List ℕ)) : Type 0 where
+pub record AreRenamingsSafe (folder : List (List ℕ)) (moves : List (List ℕ × List ℕ)) : Type 0 where
   pub stay : All (λ m. IsTrue (is_file_name m.1)) moves
   pub distinct : AllDiffer (map (λ m. m.1) moves)
   pub free : All (λ m. ¬ Contains folder m.1) moves
 
 -- When renamings are refused: an allocation failed, or they are not safe.
-abbrev pub CanRefuse : (folder : List (List ℕ)) → (moves : List (List ℕ × List ℕ)) → Refusal → Type 0
-CanRefuse folder moves e = (e ≡ Memory) ⊎ ¬ AreSafe folder moves
+abbrev pub IsReasonToRefuse : (folder : List (List ℕ)) → (moves : List (List ℕ × List ℕ)) → Refusal → Type 0
+IsReasonToRefuse folder moves e = (e ≡ Memory) ⊎ ¬ AreRenamingsSafe folder moves
 
 -- The names as bytes.
 abbrev pub texts : {A : Type 0} → List (String A) → List (List ℕ)
@@ -69,14 +69,14 @@ abbrev pub moves_of : List Rename → List (List ℕ × List ℕ)
 moves_of renames = map move_of renames
 
 -- The name of a group and the text that it matched. Empty if it did not match.
-abbrev pub described : (text : List ℕ) → List ℕ × Option (ℕ × ℕ) → List ℕ
-described text (name, None) = []
-described text (name, Some range) = codes " " ++ (name ++ (codes "=" ++ slice_range text range.0 range.1))
+abbrev pub group_name_and_text : (text : List ℕ) → List ℕ × Option (ℕ × ℕ) → List ℕ
+group_name_and_text text (name, None) = []
+group_name_and_text text (name, Some range) = codes " " ++ (name ++ (codes "=" ++ slice_range text range.0 range.1))
 
 -- All named groups of a match.
 abbrev pub groups_shown : (text : List ℕ) → Answer → List ℕ
-groups_shown text m = flat_map (described text) (named_groups m)
+groups_shown text m = flat_map (group_name_and_text text) (named_groups m)
 
 -- All named groups of the first match. Empty if there is no match.
-abbrev pub parts_of : Regex → (name : List ℕ) → List ℕ
-parts_of re name = option_map_or (groups_shown name) (slice_get (utf8_answers re name 0) 0) []
+abbrev pub shown_groups_of_first_match : Regex → (name : List ℕ) → List ℕ
+shown_groups_of_first_match re name = option_map_or (groups_shown name) (slice_get (utf8_answers re name 0) 0) []

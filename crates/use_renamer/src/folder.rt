@@ -7,7 +7,7 @@ use std::io::{ErrorKind, IsTerminal};
 
 // If there are this many files or more, progress is shown on a terminal, each time this many are
 // renamed.
-const MANY: usize = 1000;
+const MIN_FILES_FOR_PROGRESS: usize = 1000;
 
 /// The contents of a folder: the names of its files, and the names of everything else. Both are
 /// sorted.
@@ -66,9 +66,9 @@ pub fn list(rt: &HostRuntime, path: &str) -> Result<Folder> {
 /// Returns an error if a file cannot be renamed, or if something has its new name by then. The
 /// files before it are already renamed, and no further file is.
 pub fn apply(rt: &HostRuntime, folder: &str, plan: &[Rename]) -> Result<()> {
-    let tells = rt.stderr().is_terminal() && plan.len() >= MANY;
+    let tells = rt.stderr().is_terminal() && plan.len() >= MIN_FILES_FOR_PROGRESS;
     for (done, Rename { from, to }) in plan.iter().enumerate() {
-        if tells && done % MANY == 0 {
+        if tells && done % MIN_FILES_FOR_PROGRESS == 0 {
             eprint!(rt; "\r{done} of {} files", plan.len())?;
         }
         move_file(rt, folder, from.as_str(), to.as_str())?;

@@ -3,7 +3,7 @@
 ghost use Rattle.std.specs.Prelude.{◌≡◌, ◌++◌, IfErr, IfOk, IfSome, option_map, string_bytes};
 ghost use Rattle.regress_search.specs.MatchesAsSpecAnswers.{answer_of, range_as_pair};
 ghost use Rattle.regress_match.specs.{CompileErrors.{IsOutOfMemory}, ExpansionsAndMatchRanges.{MatchFitsText, IsCharBoundaryRange}};
-ghost use Rattle.use_renamer.specs.Names.{described, groups_shown, parts_of};
+ghost use Rattle.use_renamer.specs.Names.{group_name_and_text, groups_shown, shown_groups_of_first_match};
 
 use regress_match::{Match, Range, Regex, SearchError};
 use std::alloc::{AllocError, Global};
@@ -14,7 +14,7 @@ use std::alloc::{AllocError, Global};
 ///
 /// `Memory` if an allocation fails.
 pub fn parts(alloc: Global, re: &Regex, name: &str) -> Result<String, SearchError>
-    ensures shown { IfOk result (λ s. string_bytes s ≡ parts_of re.now name.now) }
+    ensures shown { IfOk result (λ s. string_bytes s ≡ shown_groups_of_first_match re.now name.now) }
     ensures refused { IfErr result IsOutOfMemory }
 {
     match re.find(name)? {
@@ -44,7 +44,7 @@ fn push_group(
 ) -> Result<(), AllocError>
     requires { IfSome (option_map range_as_pair range) (IsCharBoundaryRange text.now) }
     ensures { IfOk result (λ _. string_bytes line.new
-        ≡ string_bytes line.old ++ described text.now (name.now, option_map range_as_pair range)) }
+        ≡ string_bytes line.old ++ group_name_and_text text.now (name.now, option_map range_as_pair range)) }
 {
     let Some(range) = range else {
         return Ok(());

@@ -2,7 +2,7 @@
 
 ghost use Rattle.std.specs.Prelude.{◌≡◌, ◌||◌, ◌++◌, ◌∷◌, [], IfErr, IfOk, OnOk, bytes_eq, find, is_none, not, option_map, string_bytes};
 ghost use Rattle.regress_match.specs.CompileErrors.{IsOutOfMemory};
-ghost use Rattle.use_renamer.specs.Names.{AreSafe, CanRefuse, all_differ, changes, changing, is_among, is_file_name, moves_of, texts};
+ghost use Rattle.use_renamer.specs.Names.{AreRenamingsSafe, IsReasonToRefuse, all_differ, changes, pairs_of_different_names, is_among, is_file_name, moves_of, texts};
 
 use crate::names::{is_among, is_file_name};
 use regress_match::{Regex, SearchError};
@@ -24,13 +24,13 @@ pub enum Refusal {
     Memory,
     /// The new name is not a valid file name.
     #[error("{from} would become {to:?}, which is no name in this folder")]
-    NoName {
+    InvalidNewName {
         from: String,
         to: String,
     },
     /// Something in the folder already has the new name.
     #[error("{from} would become {to}, which is there already")]
-    Taken {
+    NewNameExists {
         from: String,
         to: String,
     },
@@ -81,9 +81,9 @@ pub fn plan(
     ensures planned { IfOk result (λ plan. moves_of plan.items
         ≡ changes re.now template.now (texts files.now)) }
     ensures safe { let folder = texts files.now ++ texts others.now in
-        IfOk result (λ plan. AreSafe folder (moves_of plan.items)) }
+        IfOk result (λ plan. AreRenamingsSafe folder (moves_of plan.items)) }
     ensures refused { let folder = texts files.now ++ texts others.now in
-        IfErr result (CanRefuse folder (changes re.now template.now (texts files.now))) }
+        IfErr result (IsReasonToRefuse folder (changes re.now template.now (texts files.now))) }
 {
     let renames = changes(alloc, re, template, files)?;
     check(&renames, files, others)?;
@@ -112,7 +112,7 @@ fn changes(
 // Appends a renaming if the names differ.
 fn push_change(renames: &mut Vec<Rename>, name: &String, new: String) -> Result<(), AllocError>
     ensures { IfOk result (λ _. moves_of renames.new.items
-        ≡ moves_of renames.old.items ++ changing ((string_bytes name.now, string_bytes new) ∷ [])) }
+        ≡ moves_of renames.old.items ++ pairs_of_different_names ((string_bytes name.now, string_bytes new) ∷ [])) }
 {
     if name.as_str() == new.as_str() {
         return Ok(());
@@ -124,23 +124,23 @@ fn push_change(renames: &mut Vec<Rename>, name: &String, new: String) -> Result<
 // Returns an error if the renamings would lose a file or leave the folder.
 fn check(renames: &[Rename], files: &[String], others: &[String]) -> Result<(), Refusal>
     ensures safe { let folder = texts files.now ++ texts others.now in
-        OnOk result (AreSafe folder (moves_of renames.now)) }
+        OnOk result (AreRenamingsSafe folder (moves_of renames.now)) }
     ensures refused { let folder = texts files.now ++ texts others.now in
-        IfErr result (CanRefuse folder (moves_of renames.now)) }
+        IfErr result (IsReasonToRefuse folder (moves_of renames.now)) }
 {
-    if let Some(Rename { from, to }) = first_no_name(renames) {
-        return Err(Refusal::NoName {
+    if let Some(Rename { from, to }) = first_with_invalid_new_name(renames) {
+        return Err(Refusal::InvalidNewName {
             from: from.clone()?,
             to: to.clone()?,
         });
     }
-    if let Some(Rename { from, to }) = first_taken(renames, files, others) {
-        return Err(Refusal::Taken {
+    if let Some(Rename { from, to }) = first_with_existing_new_name(renames, files, others) {
+        return Err(Refusal::NewNameExists {
             from: from.clone()?,
             to: to.clone()?,
         });
     }
-    if let Some((Rename { from, to }, other)) = first_pair(renames) {
+    if let Some((Rename { from, to }, other)) = first_two_with_same_new_name(renames) {
         return Err(Refusal::Same {
             from: from.clone()?,
             other: other.from.clone()?,
@@ -151,7 +151,7 @@ fn check(renames: &[Rename], files: &[String], others: &[String]) -> Result<(), 
 }
 
 // Returns the first renaming whose new name is not a valid file name.
-fn first_no_name(renames: &[Rename]) -> Option<&Rename>
+fn first_with_invalid_new_name(renames: &[Rename]) -> Option<&Rename>
     ensures { option_map (λ r. r.now) result
         ≡ find (λ r. not (is_file_name (string_bytes r.to))) renames.now }
 {
@@ -161,7 +161,11 @@ fn first_no_name(renames: &[Rename]) -> Option<&Rename>
 }
 
 // Returns the first renaming whose new name exists in the folder.
-fn first_taken<'a>(renames: &'a [Rename], files: &[String], others: &[String]) -> Option<&'a Rename>
+fn first_with_existing_new_name<'a>(
+    renames: &'a [Rename],
+    files: &[String],
+    others: &[String],
+) -> Option<&'a Rename>
     ensures { option_map (λ r. r.now) result
         ≡ find (λ r. is_among string_bytes (string_bytes r.to) files.now
         || is_among string_bytes (string_bytes r.to) others.now) renames.now }
@@ -172,12 +176,12 @@ fn first_taken<'a>(renames: &'a [Rename], files: &[String], others: &[String]) -
 }
 
 // Returns the first two renamings with the same new name.
-fn first_pair(renames: &[Rename]) -> Option<(&Rename, &Rename)>
+fn first_two_with_same_new_name(renames: &[Rename]) -> Option<(&Rename, &Rename)>
     ensures { is_none result ≡ all_differ (λ r. string_bytes r.to) renames.now }
 {
     let mut left = renames;
     while let Some((first, behind)) = left.split_first() {
-        if let Some(second) = first_to(first.to.as_str(), behind) {
+        if let Some(second) = first_renaming_to(first.to.as_str(), behind) {
             return Some((first, second));
         }
         left = behind;
@@ -186,7 +190,7 @@ fn first_pair(renames: &[Rename]) -> Option<(&Rename, &Rename)>
 }
 
 // Returns the first renaming with this new name.
-fn first_to<'a>(name: &str, renames: &'a [Rename]) -> Option<&'a Rename>
+fn first_renaming_to<'a>(name: &str, renames: &'a [Rename]) -> Option<&'a Rename>
     ensures { option_map (λ r. r.now) result
         ≡ find (λ r. bytes_eq name.now (string_bytes r.to)) renames.now }
 {

@@ -44,8 +44,8 @@ fn write_plan(line: &mut String, plan: &Result<Vec<Rename>, Refusal>) -> Result<
             }
             Ok(())
         }
-        Err(Refusal::NoName { from, to }) => write!(line, "{from}>{to}: no name"),
-        Err(Refusal::Taken { from, to }) => write!(line, "{from}>{to}: taken"),
+        Err(Refusal::InvalidNewName { from, to }) => write!(line, "{from}>{to}: no name"),
+        Err(Refusal::NewNameExists { from, to }) => write!(line, "{from}>{to}: taken"),
         Err(Refusal::Same { from, other, to }) => write!(line, "{from}>{to} {other}>{to}: same"),
         Err(Refusal::Memory) => line.push_str("no memory"),
     }

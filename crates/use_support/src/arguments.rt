@@ -41,7 +41,7 @@ pub enum Form {
     /// An optional word: its name, and its default.
     WordOr(&'static str, &'static str),
     /// An optional word, which need not be UTF-8: its name.
-    WordIf(&'static str),
+    OptionalLossyWord(&'static str),
     /// Any number of words, which need not be UTF-8: their name.
     Words(&'static str),
 }
@@ -113,7 +113,7 @@ impl Argument {
             Form::Version(letter, _) => option(alloc, id, Some(letter)).action(ArgAction::Version),
             Form::Word(name) => word(alloc, id, name).required(true),
             Form::WordOr(name, default) => word(alloc, id, name).default_value(default),
-            Form::WordIf(name) => word(alloc, id, name),
+            Form::OptionalLossyWord(name) => word(alloc, id, name),
             Form::Words(name) => word(alloc, id, name).num_args(0..),
         };
         arg.help(self.2).hide(self.2.is_empty())
@@ -170,7 +170,7 @@ impl<'a> Given<'a> {
     ) -> Result<Self, AllocError> {
         let mut given = Given {
             values: Vec::new(alloc),
-            lossy: words.lossy_texts(alloc)?,
+            lossy: words.non_utf8_words(alloc)?,
             unreadable: None,
         };
         for argument in line.arguments {
@@ -180,15 +180,19 @@ impl<'a> Given<'a> {
                     given.values.push((id, ""))?;
                 }
             } else if let Some(texts) = matches.get_strs(id) {
-                given.push_all(argument, texts)?;
+                given.push_values_of_argument(argument, texts)?;
             }
         }
         Ok(given)
     }
 
     // Adds the values of an argument.
-    fn push_all(&mut self, argument: &Argument, texts: &[&'a str]) -> Result<(), AllocError> {
-        let is_text = !matches!(argument.1, Form::WordIf(_) | Form::Words(_));
+    fn push_values_of_argument(
+        &mut self,
+        argument: &Argument,
+        texts: &[&'a str],
+    ) -> Result<(), AllocError> {
+        let is_text = !matches!(argument.1, Form::OptionalLossyWord(_) | Form::Words(_));
         for text in texts {
             if is_text && !self.lossy.is_empty() && text.contains('\u{fffd}') {
                 self.unreadable = Some(*text);
@@ -203,7 +207,7 @@ impl<'a> Given<'a> {
         self.unreadable
     }
 
-    /// Checks whether the value of a `WordIf` or a `Words` was not UTF-8. In such a value, U+FFFD
+    /// Checks whether the value of a `OptionalLossyWord` or a `Words` was not UTF-8. In such a value, U+FFFD
     /// replaces the invalid bytes.
     pub fn is_lossy(&self, word: &str) -> bool {
         self.lossy.iter().any(|of| *of == word)

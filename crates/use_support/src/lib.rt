@@ -12,7 +12,7 @@ use std::io::ErrorKind;
 use std::process::ExitCode;
 
 /// The exit status of a program that fails.
-pub const TROUBLE: u8 = 2;
+pub const EXIT_STATUS_FAILURE: u8 = 2;
 
 /// A program: its command line, and what it does.
 pub trait Program {
@@ -27,7 +27,7 @@ pub trait Program {
     fn run(rt: &HostRuntime, given: &Given<'_>) -> Result<u8>;
 }
 
-/// Runs a program, and returns its exit status. If it fails, the status is `TROUBLE`, and the
+/// Runs a program, and returns its exit status. If it fails, the status is `EXIT_STATUS_FAILURE`, and the
 /// reason is printed on standard error after the program's name.
 pub fn run<P: Program>(rt: &HostRuntime) -> ExitCode {
     match run_command_line::<P>(rt) {
@@ -35,7 +35,7 @@ pub fn run<P: Program>(rt: &HostRuntime) -> ExitCode {
         Err(why) => {
             let name = P::line().name;
             let _ = eprintln!(rt; "{name}: {why:#}");
-            ExitCode::from(TROUBLE)
+            ExitCode::from(EXIT_STATUS_FAILURE)
         }
     }
 }
@@ -78,7 +78,11 @@ fn run_words<P: Program>(rt: &HostRuntime, words: &Words) -> Result<u8> {
         }
         Err(why) => {
             why.print(rt)?;
-            Ok(if why.use_stderr() { TROUBLE } else { 0 })
+            Ok(if why.use_stderr() {
+                EXIT_STATUS_FAILURE
+            } else {
+                0
+            })
         }
     }
 }
@@ -144,7 +148,7 @@ impl Words {
     }
 
     // Returns the words that are not UTF-8.
-    fn lossy_texts(&self, alloc: Global) -> Result<Vec<&str>, AllocError> {
+    fn non_utf8_words(&self, alloc: Global) -> Result<Vec<&str>, AllocError> {
         let mut texts = Vec::new(alloc);
         for index in &self.lossy {
             if let Some(text) = self.texts.get(*index) {

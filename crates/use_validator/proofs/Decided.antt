@@ -8,7 +8,7 @@ use Rattle.regress_search.specs.declared.exec.work_matches.WorkError.TheVariants
 use Rattle.regress_match.specs.ProgramTreesAndAnswers.{bytes_as_utf8_text, tree_for_byte_units, utf8_answers}
 use Rattle.regress_match.specs.WorkBounds.{YieldsMatchesIfWorkSuffices, enough_work_for_text}
 use Rattle.regress_match.specs.declared.api.regex.Regex.{Regex}
-use Rattle.use_validator.specs.Judge.{by_matches}
+use Rattle.use_validator.specs.Judge.{verdict_of_matches}
 use Rattle.use_validator.specs.declared.judge.Verdict.{Verdict}
 use Rattle.use_validator.specs.declared.judge.Verdict.TheVariants.{Matches, NoMatch}
 
@@ -16,17 +16,17 @@ use Rattle.use_validator.specs.declared.judge.Verdict.TheVariants.{Matches, NoMa
 
 module _ (re : Regex) (text : List ℕ) (per_unit work : ℕ) (it behind : RemainingAnswersAndWork) (yields : YieldsMatchesIfWorkSuffices (tree_for_byte_units re) (bytes_as_utf8_text re text) 0 per_unit work it) where
   abbrev truth : Verdict
-  truth = by_matches (utf8_answers re text 0)
+  truth = verdict_of_matches (utf8_answers re text 0)
 
   -- The first item is a match.
   pub work-match : (item : Result Match WorkError) (m : Match) → item ≡ Ok m → NextYieldsWithinWork it (Some item) behind → Matches ≡ truth
   work-match item m is gives =
       let came = subst (λ r. NextYieldsWithinWork it (Some r) behind) is gives in
-      ap by_matches (sym came.0.0 ∙ yields.answers)
+      ap verdict_of_matches (sym came.0.0 ∙ yields.answers)
 
   -- There is no item.
   pub work-none : NextYieldsWithinWork it None behind → NoMatch ≡ truth
-  work-none gives = ap by_matches (sym gives.0.0 ∙ yields.answers)
+  work-none gives = ap verdict_of_matches (sym gives.0.0 ∙ yields.answers)
 
   -- `WorkLimit` does not occur if the work suffices.
   pub never-out : enough_work_for_text per_unit (bytes_as_utf8_text re text) ≤ work → (item : Result Match WorkError) (e : WorkError) → item ≡ Err e → e ≡ WorkLimit

@@ -17,7 +17,7 @@ use Rattle.regress_search.specs.declared.exec.SearchError.{SearchError}
 use Rattle.regress_search.specs.declared.exec.SearchError.TheVariants.{StepLimit}
 use Rattle.regress_match.specs.ProgramTreesAndAnswers.{bytes_as_utf8_text, tree_for_byte_units, utf8_answers_within_steps, utf8_steps_suffice}
 use Rattle.regress_match.specs.declared.api.regex.Regex.{Regex}
-use Rattle.use_validator.specs.Judge.{by_matches, verdict_of, within}
+use Rattle.use_validator.specs.Judge.{verdict_of_matches, verdict_of, within}
 use Rattle.use_validator.specs.declared.judge.Verdict.{Verdict}
 use Rattle.use_validator.specs.declared.judge.Verdict.TheVariants.{Matches, NoMatch, OutOfSteps}
 
@@ -35,13 +35,13 @@ module _ (tree : Tree) (text : Text) (is : HasRisingPlaceOffsets text) (steps : 
   abbrev Told : Verdict → Type 0
   Told = FollowsFromCounts (answers_within tree text (Some steps) 0) (finishes_within tree text (Some steps) 0)
 
-  enough : (first : Option Answer) → first_answer tree.root text 0 ≡ first → nat_le (need_from tree text 0) steps ≡ true → Told (by_matches all)
+  enough : (first : Option Answer) → first_answer tree.root text 0 ≡ first → nat_le (need_from tree text 0) steps ≡ true → Told (verdict_of_matches all)
   enough None f e =
       let none : all ≡ [] = answers-go_on tree.root text is 0 ∙ ap (λ a. answer_then_list tree.root text a (next_start tree.root text 0)) f in
-      subst (λ ms. Told (by_matches ms)) (sym none) (within-none tree text is (Some steps) 0 f e)
+      subst (λ ms. Told (verdict_of_matches ms)) (sym none) (within-none tree text is (Some steps) 0 f e)
   enough (Some m) f e =
       let some = answers-go_on tree.root text is 0 ∙ ap (λ a. answer_then_list tree.root text a (next_start tree.root text 0)) f in
-      subst (λ ms. Told (by_matches ms)) (sym some) (m, _, (within-some tree text is (Some steps) 0 m f e).0)
+      subst (λ ms. Told (verdict_of_matches ms)) (sym some) (m, _, (within-some tree text is (Some steps) 0 m f e).0)
 
   by : (b : Bool) → nat_le (need_from tree text 0) steps ≡ b → Told (within b all)
   by true e = enough (first_answer tree.root text 0) refl e

@@ -11,7 +11,7 @@ use Rattle.std.specs.Ordering.{match_ordering}
 use Rattle.std.specs.BTreeMap.{insert_entry, is_at}
 use Rattle.regex_meaning.proofs.OptionLemmas.{some-same}
 use Rattle.regress_match.specs.declared.api.regex.Regex.{Regex}
-use Rattle.use_validator.specs.Patterns.{AreOfTheirTexts, AreProgramsOf, IsPatternOf, IsProgramOf}
+use Rattle.use_validator.specs.Patterns.{AreCompiledFromTheirTexts, AreProgramsOf, IsProgramOfAsProposition, IsProgramOf}
 
 abbrev Entry : Type 0
 Entry = String Global × Regex
@@ -32,14 +32,14 @@ module _ (k : String Global) (re : Regex) (is : IsProgramOf (string_bytes k) re)
   insert-keeps [] h = (is, tt)
   insert-keeps (e ∷ es) h = put-in (string_cmp k e.0) e es (insert_entry string_cmp es k re) refl h (insert-keeps es h.1)
 
-  kept-more : (es next : List Entry) → AreOfTheirTexts es → next ≡ insert_entry string_cmp es k re → AreOfTheirTexts next
+  kept-more : (es next : List Entry) → AreCompiledFromTheirTexts es → next ≡ insert_entry string_cmp es k re → AreCompiledFromTheirTexts next
   kept-more es next h e = ∥∥₁_map h (λ all. subst AreProgramsOf (sym e) (insert-keeps es all))
 
   -- The patterns after an insertion, which may have been refused.
-  pub kept-after : {T E : Type 0} (result : Result T E) (es next : List Entry) → AreOfTheirTexts es
-      → OnOk result (next ≡ insert_entry string_cmp es k re) → OnErr result (next ≡ es) → AreOfTheirTexts next
+  pub kept-after : {T E : Type 0} (result : Result T E) (es next : List Entry) → AreCompiledFromTheirTexts es
+      → OnOk result (next ≡ insert_entry string_cmp es k re) → OnErr result (next ≡ es) → AreCompiledFromTheirTexts next
   kept-after (Ok x) es next h more same = kept-more es next h more
-  kept-after (Err e) es next h more same = subst AreOfTheirTexts (sym same) h
+  kept-after (Err e) es next h more same = subst AreCompiledFromTheirTexts (sym same) h
 
 -- ---- The pattern with a given text
 
@@ -57,7 +57,7 @@ module _ (text : List ℕ) where
   looked_up [] re h is = absurd (cc is)
   looked_up (e ∷ es) re h is = at-first (test e.0) e (lookup test es) re refl h.0 (looked_up es re h.1) is
 
-  pub kept-found : (es : List Entry) (found : Option (Bor Regex)) → AreOfTheirTexts es → option_copied found ≡ lookup test es
-      → IfSome found (λ re. IsPatternOf text re.now)
+  pub kept-found : (es : List Entry) (found : Option (Bor Regex)) → AreCompiledFromTheirTexts es → option_copied found ≡ lookup test es
+      → IfSome found (λ re. IsProgramOfAsProposition text re.now)
   kept-found es None h is = tt
   kept-found es (Some re) h is = ∥∥₁_map h (λ all. looked_up es re.now all (sym is))

@@ -4,7 +4,7 @@ use Rattle.std.specs.Prelude.{◌==◌, nat_eq, if◌then◌else◌, Option, Som
 use Rattle.std.proofs.lemmas.Bool.{cases_Bool}
 use Rattle.serde_json.specs.Data.{Data, Members, object}
 use Rattle.serde_json.specs.Find.{get_member, pointer as points_to, step, unescape, walk}
-use Rattle.use_validator.specs.Pointer.{LeadsToMember, escape, escaped, longer}
+use Rattle.use_validator.specs.Pointer.{LeadsToMember, escape, escaped, pointer_with_name}
 use Rattle.use_validator.proofs.Escapes.{names-read_back}
 
 -- The bytes have no slash.
@@ -38,16 +38,16 @@ then-step : (name : List ℕ) (f g : Data → Option Data) → ((d : Data) → f
 then-step name f g h None = refl
 then-step name f g h (Some d) = h d
 
-walk-longer : (part rest name : List ℕ) (d : Data) → NoSlash name → walk part (rest ++ 47 ∷ name) d ≡ option_and_then (step name) (walk part rest d)
+walk-pointer_with_name : (part rest name : List ℕ) (d : Data) → NoSlash name → walk part (rest ++ 47 ∷ name) d ≡ option_and_then (step name) (walk part rest d)
 unfolding walk
-walk-longer part [] name d h = by (step part d)
+walk-pointer_with_name part [] name d h = by (step part d)
   where
     by : (o : Option Data) → option_and_then (walk [] name) o ≡ option_and_then (step name) o
     by None = refl
     by (Some e) = walk-name [] name e h
-walk-longer part (x ∷ rest) name d h = elim (cases_Bool (nat_eq x 47)) [
-  | inl e ↦ rw e (then-step name (walk [] (rest ++ 47 ∷ name)) (walk [] rest) (λ e. walk-longer [] rest name e h) (step part d))
-  | inr e ↦ rw e (walk-longer (part ++ x ∷ []) rest name d h)
+walk-pointer_with_name part (x ∷ rest) name d h = elim (cases_Bool (nat_eq x 47)) [
+  | inl e ↦ rw e (then-step name (walk [] (rest ++ 47 ∷ name)) (walk [] rest) (λ e. walk-pointer_with_name [] rest name e h) (step part d))
+  | inr e ↦ rw e (walk-pointer_with_name (part ++ x ∷ []) rest name d h)
 ]
 
 -- The step by an escaped name.
@@ -62,6 +62,6 @@ leads-to-member [] name whole members e =
 leads-to-member (x ∷ rest) name whole members e = elim (cases_Bool (nat_eq x 47)) [
   | inl slash ↦
       let here : walk [] rest whole ≡ Some (object members) = rw slash at e in
-      rw slash (walk-longer [] rest (escape name) whole (escape-no-slash name) ∙ ap (option_and_then (step (escape name))) here ∙ member-step name members)
+      rw slash (walk-pointer_with_name [] rest (escape name) whole (escape-no-slash name) ∙ ap (option_and_then (step (escape name))) here ∙ member-step name members)
   | inr other ↦ let never : None ≡ Some (object members) = rw other at e in absurd (cc)
 ]

@@ -12,13 +12,13 @@ abbrev pub steps_needed : Regex → (text : List ℕ) → ℕ
 steps_needed re text = need_from (tree_for_byte_units re) (bytes_as_utf8_text re text) 0
 
 -- The verdict for a list of matches: whether there are any.
-abbrev pub by_matches : List Answer → Verdict
-by_matches [] = NoMatch
-by_matches (m ∷ ms) = Matches
+abbrev pub verdict_of_matches : List Answer → Verdict
+verdict_of_matches [] = NoMatch
+verdict_of_matches (m ∷ ms) = Matches
 
 -- The verdict for a list of matches. If the steps do not suffice, it is `OutOfSteps`.
 abbrev pub within : (enough : Bool) → List Answer → Verdict
-within true ms = by_matches ms
+within true ms = verdict_of_matches ms
 within false ms = OutOfSteps
 
 -- The verdict for a text. The text matches if the pattern has a match anywhere in it.
@@ -27,7 +27,7 @@ verdict_of re text steps = within (nat_le (steps_needed re text) steps) (utf8_an
 
 -- The verdict is right: it says whether there are matches. It may be `OutOfSteps` only if the steps
 -- do not suffice.
-abbrev pub IsToldOf : Regex → (text : List ℕ) → (steps : ℕ) → Verdict → Type 0
-IsToldOf re text steps verdict =
-    (verdict ≡ by_matches (utf8_answers re text 0))
+abbrev pub IsVerdictRight : Regex → (text : List ℕ) → (steps : ℕ) → Verdict → Type 0
+IsVerdictRight re text steps verdict =
+    (verdict ≡ verdict_of_matches (utf8_answers re text 0))
     ⊎ ((nat_le (steps_needed re text) steps ≡ false) × (verdict ≡ OutOfSteps))

@@ -6,7 +6,7 @@ use Rattle.regex_meaning.specs.Laws.{Each}
 use Rattle.regex_meaning.specs.EcmaGrammarWithAnnexB.{ecmascript}
 use Rattle.regress_match.specs.ProgramTreesAndAnswers.{IsCompiledWithSyntax}
 use Rattle.regress_match.specs.declared.api.regex.Regex.{Regex}
-use Rattle.use_validator.specs.Judge.{IsToldOf}
+use Rattle.use_validator.specs.Judge.{IsVerdictRight}
 use Rattle.use_validator.specs.declared.judge.Verdict.{Verdict}
 
 -- `re` is the compiled pattern with this text. It is read in the language of ECMAScript 2018, with
@@ -19,14 +19,15 @@ abbrev pub AreProgramsOf : List (String Global × Regex) → Type 0
 AreProgramsOf entries = Each (λ e. IsProgramOf (string_bytes e.0) e.1) entries
 
 -- `IsProgramOf` as a proposition.
-abbrev pub IsPatternOf : (text : List ℕ) → Regex → Type 0
-IsPatternOf text re = ∥ IsProgramOf text re ∥₁
+abbrev pub IsProgramOfAsProposition : (text : List ℕ) → Regex → Type 0
+IsProgramOfAsProposition text re = ∥ IsProgramOf text re ∥₁
 
 -- `AreProgramsOf` as a proposition.
-abbrev pub AreOfTheirTexts : List (String Global × Regex) → Type 0
-AreOfTheirTexts entries = ∥ AreProgramsOf entries ∥₁
+abbrev pub AreCompiledFromTheirTexts : List (String Global × Regex) → Type 0
+AreCompiledFromTheirTexts entries = ∥ AreProgramsOf entries ∥₁
 
 -- The verdict of the pattern with this text on a text, where the search is limited to `steps`
 -- steps, or to work that suffices.
 abbrev pub IsVerdictOf : (pattern text : List ℕ) → (steps : ℕ) → Verdict → Type 0
-IsVerdictOf pattern text steps verdict = (re : Regex) × IsPatternOf pattern re × IsToldOf re text steps verdict
+IsVerdictOf pattern text steps verdict = (re : Regex) × IsProgramOfAsProposition pattern re
+    × IsVerdictRight re text steps verdict

@@ -13,12 +13,12 @@ unfoldable pub escape : (name : List ℕ) → List ℕ
 escape name = flat_map escaped name
 
 -- The pointer with one more name.
-abbrev pub longer : (pointer name : List ℕ) → List ℕ
-longer pointer name = pointer ++ 47 ∷ escape name
+abbrev pub pointer_with_name : (pointer name : List ℕ) → List ℕ
+pointer_with_name pointer name = pointer ++ 47 ∷ escape name
 
--- If `pointer` leads to an object, then `longer pointer name` leads to the object's member with
+-- If `pointer` leads to an object, then `pointer_with_name pointer name` leads to the object's member with
 -- this name (and to nothing if there is none), as `serde_json` reads pointers.
 abbrev pub LeadsToMember : Type 0
 LeadsToMember = (pointer name : List ℕ) (whole : Data) (members : Members)
     → points_to pointer whole ≡ Some (object members)
-    → points_to (longer pointer name) whole ≡ get_member name members
+    → points_to (pointer_with_name pointer name) whole ≡ get_member name members

@@ -23,7 +23,7 @@ impl Rule<'_> {
     pub fn holds(&self, alloc: Global, value: &Value) -> Result<bool, AllocError> {
         Ok(match &self.claim {
             Claim::Never => false,
-            Claim::IsOfTypes(kinds) => kinds.iter().any(|kind| is_of(*kind, value)),
+            Claim::IsOfTypes(kinds) => kinds.iter().any(|kind| value_has_kind(*kind, value)),
             Claim::IsOneOf(values) => values.iter().any(|one| one == value),
             Claim::Is(one) => *one == value,
             Claim::AtLeast(measure, least) => {
@@ -36,7 +36,8 @@ impl Rule<'_> {
                 number.is_none_or(|number| is_in(number, *range, bound))
             }
             Claim::Has(name) => has(value, name, true),
-            Claim::HasWith(with, name) => !has(value, with, false) || has(value, name, true),
+            Claim::HasSecondIfFirst(with, name) => !has(value, with, false)
+                || has(value, name, true),
         })
     }
 
@@ -50,7 +51,7 @@ impl Rule<'_> {
         let mut text = String::from_str(alloc, before)?;
         match &self.claim {
             Claim::Never | Claim::HasDistinctItems => {}
-            Claim::Has(name) | Claim::HasWith(_, name) => text.push_str(name)?,
+            Claim::Has(name) | Claim::HasSecondIfFirst(_, name) => text.push_str(name)?,
             _ => self.push_value(alloc, &mut text)?,
         }
         text.push_str(behind)?;
@@ -83,7 +84,7 @@ fn words(claim: &Claim<'_>) -> (&'static str, &'static str) {
         Claim::Number(Range::MoreThan, _) => ("not more than ", ""),
         Claim::Number(Range::LessThan, _) => ("not less than ", ""),
         Claim::Number(Range::MultipleOf, _) => ("not a multiple of ", ""),
-        Claim::Has(_) | Claim::HasWith(_, _) => ("the member \"", "\" is missing"),
+        Claim::Has(_) | Claim::HasSecondIfFirst(_, _) => ("the member \"", "\" is missing"),
     }
 }
 
@@ -96,7 +97,7 @@ fn unit(measure: Measure) -> &'static str {
 }
 
 // Checks whether a value has a type.
-fn is_of(kind: Kind, value: &Value) -> bool
+fn value_has_kind(kind: Kind, value: &Value) -> bool
     ensures { IsOfKind kind (view value.now) result }
 {
     match kind {

@@ -22,7 +22,7 @@ wrong with it, and in parentheses where the schema says so. `pattern` and `patte
 flag u. `$ref` leads within the schema's own document. A keyword that the program does not check is an error.
 Status: 0 if the document is valid, 1 if it is not, 2 if that cannot be told.";
 
-const STEPS: &str = "100000";
+const DEFAULT_STEPS: &str = "100000";
 
 impl<'a> Options<'a> {
     /// Reads the options from the given arguments.
@@ -54,7 +54,7 @@ pub static LINE: CommandLine = CommandLine {
         ),
         Argument(
             "steps",
-            Number(None, "N", Some(STEPS)),
+            Number(None, "N", Some(DEFAULT_STEPS)),
             "How many steps a search may take. If they are too few, only patterns with a work bound are decided",
         ),
         Argument(

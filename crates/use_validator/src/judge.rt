@@ -2,7 +2,7 @@
 
 ghost use Rattle.std.specs.Prelude.{◌≡◌, ◌≤◌, ◌<◌, ◌^◌, IfOk, SomeIff};
 ghost use Rattle.regress_match.specs.{ProgramTreesAndAnswers.{bytes_as_utf8_text, utf8_answers}, WorkBounds.{enough_work_for_text}};
-ghost use Rattle.use_validator.specs.Judge.{IsToldOf, by_matches, verdict_of};
+ghost use Rattle.use_validator.specs.Judge.{IsVerdictRight, verdict_of_matches, verdict_of};
 
 use regress_match::{BoundedRegex, Regex, SearchError, Unbounded, WorkError};
 use std::alloc::AllocError;
@@ -43,8 +43,8 @@ pub fn judge(re: &Regex, text: &str, steps: u64) -> Result<Verdict, AllocError>
 /// # Errors
 ///
 /// `AllocError` if an allocation fails.
-pub fn decide(re: &Regex, text: &str, steps: u64) -> Result<Verdict, AllocError>
-    ensures { IfOk result (IsToldOf re.now text.now steps) }
+pub fn judge_with_work_if_needed(re: &Regex, text: &str, steps: u64) -> Result<Verdict, AllocError>
+    ensures { IfOk result (IsVerdictRight re.now text.now steps) }
 {
     let verdict = judge(re, text, steps)?;
     if verdict != Verdict::OutOfSteps {
@@ -52,7 +52,7 @@ pub fn decide(re: &Regex, text: &str, steps: u64) -> Result<Verdict, AllocError>
     }
     match re.bounded() {
         Ok(bounded) => match enough(&bounded, text) {
-            Some(work) => judge_in_work(&bounded, text, work),
+            Some(work) => judge_within_work(&bounded, text, work),
             None => Ok(verdict),
         },
         Err(Unbounded::Memory) => Err(AllocError),
@@ -70,9 +70,13 @@ fn enough(bounded: &BoundedRegex<'_>, text: &str) -> Option<u64>
 
 // Checks whether the pattern has a match in the text, with at most `work` work. This much work has
 // to suffice.
-fn judge_in_work(bounded: &BoundedRegex<'_>, text: &str, work: u64) -> Result<Verdict, AllocError>
+fn judge_within_work(
+    bounded: &BoundedRegex<'_>,
+    text: &str,
+    work: u64,
+) -> Result<Verdict, AllocError>
     requires { enough_work_for_text bounded.now.per_unit (bytes_as_utf8_text bounded.now.re text.now) ≤ work }
-    ensures { IfOk result (λ verdict. verdict ≡ by_matches (utf8_answers bounded.now.re text.now 0)) }
+    ensures { IfOk result (λ verdict. verdict ≡ verdict_of_matches (utf8_answers bounded.now.re text.now 0)) }
 {
     let Ok(mut matches) = bounded.find_from(text, 0, work) else {
         return Err(AllocError);

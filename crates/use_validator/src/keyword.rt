@@ -21,7 +21,7 @@ pub enum Range {
 
 /// A keyword that checks a value itself.
 #[derive(Clone, Copy)]
-pub enum OfValue {
+pub enum ValueKeyword {
     Type,
     Enum,
     Const,
@@ -35,14 +35,14 @@ pub enum OfValue {
 
 /// A keyword that checks a string by a pattern.
 #[derive(Clone, Copy)]
-pub enum OfText {
+pub enum TextKeyword {
     Pattern,
     Format,
 }
 
 /// A keyword that applies other schemas to the same value.
 #[derive(Clone, Copy)]
-pub enum OfSame {
+pub enum SameValueKeyword {
     Ref,
     AllOf,
     AnyOf,
@@ -54,7 +54,7 @@ pub enum OfSame {
 
 /// A keyword that applies other schemas to the value's items or members.
 #[derive(Clone, Copy)]
-pub enum OfChild {
+pub enum ChildKeyword {
     Properties,
     PatternProperties,
     AdditionalProperties,
@@ -72,10 +72,10 @@ pub enum Keyword {
     Dialect,
     Id,
     Definitions,
-    Value(OfValue),
-    Text(OfText),
-    Same(OfSame),
-    Child(OfChild),
+    Value(ValueKeyword),
+    Text(TextKeyword),
+    Same(SameValueKeyword),
+    Child(ChildKeyword),
 }
 
 static KEYWORDS: &[(&str, Keyword)] = &[
@@ -98,69 +98,84 @@ static KEYWORDS: &[(&str, Keyword)] = &[
     ("$id", Keyword::Id),
     ("$defs", Keyword::Definitions),
     ("definitions", Keyword::Definitions),
-    ("type", Keyword::Value(OfValue::Type)),
-    ("enum", Keyword::Value(OfValue::Enum)),
-    ("const", Keyword::Value(OfValue::Const)),
+    ("type", Keyword::Value(ValueKeyword::Type)),
+    ("enum", Keyword::Value(ValueKeyword::Enum)),
+    ("const", Keyword::Value(ValueKeyword::Const)),
     (
         "minLength",
-        Keyword::Value(OfValue::AtLeast(Measure::Characters)),
+        Keyword::Value(ValueKeyword::AtLeast(Measure::Characters)),
     ),
     (
         "maxLength",
-        Keyword::Value(OfValue::AtMost(Measure::Characters)),
+        Keyword::Value(ValueKeyword::AtMost(Measure::Characters)),
     ),
-    ("minItems", Keyword::Value(OfValue::AtLeast(Measure::Items))),
-    ("maxItems", Keyword::Value(OfValue::AtMost(Measure::Items))),
+    (
+        "minItems",
+        Keyword::Value(ValueKeyword::AtLeast(Measure::Items)),
+    ),
+    (
+        "maxItems",
+        Keyword::Value(ValueKeyword::AtMost(Measure::Items)),
+    ),
     (
         "minProperties",
-        Keyword::Value(OfValue::AtLeast(Measure::Members)),
+        Keyword::Value(ValueKeyword::AtLeast(Measure::Members)),
     ),
     (
         "maxProperties",
-        Keyword::Value(OfValue::AtMost(Measure::Members)),
+        Keyword::Value(ValueKeyword::AtMost(Measure::Members)),
     ),
-    ("uniqueItems", Keyword::Value(OfValue::UniqueItems)),
-    ("required", Keyword::Value(OfValue::Required)),
+    ("uniqueItems", Keyword::Value(ValueKeyword::UniqueItems)),
+    ("required", Keyword::Value(ValueKeyword::Required)),
     (
         "dependentRequired",
-        Keyword::Value(OfValue::DependentRequired),
+        Keyword::Value(ValueKeyword::DependentRequired),
     ),
-    ("minimum", Keyword::Value(OfValue::Number(Range::AtLeast))),
-    ("maximum", Keyword::Value(OfValue::Number(Range::AtMost))),
+    (
+        "minimum",
+        Keyword::Value(ValueKeyword::Number(Range::AtLeast)),
+    ),
+    (
+        "maximum",
+        Keyword::Value(ValueKeyword::Number(Range::AtMost)),
+    ),
     (
         "exclusiveMinimum",
-        Keyword::Value(OfValue::Number(Range::MoreThan)),
+        Keyword::Value(ValueKeyword::Number(Range::MoreThan)),
     ),
     (
         "exclusiveMaximum",
-        Keyword::Value(OfValue::Number(Range::LessThan)),
+        Keyword::Value(ValueKeyword::Number(Range::LessThan)),
     ),
     (
         "multipleOf",
-        Keyword::Value(OfValue::Number(Range::MultipleOf)),
+        Keyword::Value(ValueKeyword::Number(Range::MultipleOf)),
     ),
-    ("pattern", Keyword::Text(OfText::Pattern)),
-    ("format", Keyword::Text(OfText::Format)),
-    ("$ref", Keyword::Same(OfSame::Ref)),
-    ("allOf", Keyword::Same(OfSame::AllOf)),
-    ("anyOf", Keyword::Same(OfSame::AnyOf)),
-    ("oneOf", Keyword::Same(OfSame::OneOf)),
-    ("not", Keyword::Same(OfSame::Not)),
-    ("if", Keyword::Same(OfSame::If)),
-    ("dependentSchemas", Keyword::Same(OfSame::DependentSchemas)),
-    ("properties", Keyword::Child(OfChild::Properties)),
+    ("pattern", Keyword::Text(TextKeyword::Pattern)),
+    ("format", Keyword::Text(TextKeyword::Format)),
+    ("$ref", Keyword::Same(SameValueKeyword::Ref)),
+    ("allOf", Keyword::Same(SameValueKeyword::AllOf)),
+    ("anyOf", Keyword::Same(SameValueKeyword::AnyOf)),
+    ("oneOf", Keyword::Same(SameValueKeyword::OneOf)),
+    ("not", Keyword::Same(SameValueKeyword::Not)),
+    ("if", Keyword::Same(SameValueKeyword::If)),
+    (
+        "dependentSchemas",
+        Keyword::Same(SameValueKeyword::DependentSchemas),
+    ),
+    ("properties", Keyword::Child(ChildKeyword::Properties)),
     (
         "patternProperties",
-        Keyword::Child(OfChild::PatternProperties),
+        Keyword::Child(ChildKeyword::PatternProperties),
     ),
     (
         "additionalProperties",
-        Keyword::Child(OfChild::AdditionalProperties),
+        Keyword::Child(ChildKeyword::AdditionalProperties),
     ),
-    ("propertyNames", Keyword::Child(OfChild::PropertyNames)),
-    ("prefixItems", Keyword::Child(OfChild::PrefixItems)),
-    ("items", Keyword::Child(OfChild::Items)),
-    ("contains", Keyword::Child(OfChild::Contains)),
+    ("propertyNames", Keyword::Child(ChildKeyword::PropertyNames)),
+    ("prefixItems", Keyword::Child(ChildKeyword::PrefixItems)),
+    ("items", Keyword::Child(ChildKeyword::Items)),
+    ("contains", Keyword::Child(ChildKeyword::Contains)),
 ];
 
 impl Keyword {

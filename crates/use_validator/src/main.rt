@@ -21,7 +21,7 @@ mod search;
 mod walk;
 
 use crate::command::{LINE, Options};
-use crate::numbers::make_whole;
+use crate::numbers::convert_whole_numbers;
 use crate::report::Outcome;
 use crate::rows::answer_rows;
 use crate::schema::Schema;
@@ -30,7 +30,7 @@ use anyhow::{Result, bail};
 use serde_json::Value;
 use std::process::ExitCode;
 use std::{fs, io};
-use use_support::{CommandLine, Given, Program, TROUBLE, run};
+use use_support::{CommandLine, EXIT_STATUS_FAILURE, Given, Program, run};
 
 // Reads a file as text. `-` is standard input.
 fn read(rt: &HostRuntime, path: &str) -> io::Result<String> {
@@ -48,7 +48,7 @@ fn read_value(rt: &HostRuntime, path: &str) -> Result<Value> {
     };
     match Value::from_str(rt.alloc(), text.as_str()) {
         Ok(mut value) => {
-            make_whole(&mut value);
+            convert_whole_numbers(&mut value);
             Ok(value)
         }
         Err(why) => bail!("{path}: {why}"),
@@ -83,7 +83,7 @@ impl Program for Validator {
         Ok(match validate(rt, &Options::of(given))? {
             Outcome::Holds => 0,
             Outcome::Fails => 1,
-            Outcome::Undecided => TROUBLE,
+            Outcome::Undecided => EXIT_STATUS_FAILURE,
         })
     }
 }

@@ -23,17 +23,17 @@ const EXPONENT_BITS: u64 = 0x7ff << 52;
 
 /// Converts each whole number in a value to an integer, so that equal numbers are equal values: 1.0
 /// becomes 1. Numbers that do not fit in an integer of 64 bits are unchanged.
-pub fn make_whole(value: &mut Value) {
+pub fn convert_whole_numbers(value: &mut Value) {
     match value {
         Value::Number(number) => *number = whole(*number),
         Value::Array(items) => {
             for item in items.iter_mut() {
-                make_whole(item);
+                convert_whole_numbers(item);
             }
         }
         Value::Object(members) => {
             for (_, member) in members.iter_mut() {
-                make_whole(member);
+                convert_whole_numbers(member);
             }
         }
         _ => {}

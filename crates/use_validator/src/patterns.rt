@@ -3,7 +3,7 @@
 ghost use Rattle.std.specs.Prelude.{◌≡◌, IfOk, IfSome, codes, string_bytes};
 ghost use Rattle.regex_meaning.specs.FlagLettersAndEscaping.{flags_from_letters};
 ghost use Rattle.regress_match.specs.PublicFlagsAsSpecFlags.{spec_flags_of};
-ghost use Rattle.use_validator.specs.Patterns.{AreOfTheirTexts, IsPatternOf, IsProgramOf};
+ghost use Rattle.use_validator.specs.Patterns.{AreCompiledFromTheirTexts, IsProgramOfAsProposition, IsProgramOf};
 
 use anyhow::{Result, bail};
 use regress_match::{Error, Flags, Regex, Syntax};
@@ -17,7 +17,7 @@ const SYNTAX: Syntax = Syntax::EcmaScript2018;
 #[derive(Drop)]
 pub struct Patterns {
     compiled: BTreeMap<String, Regex>,
-    ghost of_their_texts: { AreOfTheirTexts compiled.entries },
+    ghost compiled_from_their_texts: { AreCompiledFromTheirTexts compiled.entries },
 }
 
 impl Patterns {
@@ -29,7 +29,7 @@ impl Patterns {
 
     /// Returns the compiled pattern with this text. Returns `None` if the schema does not have it.
     pub fn get(&self, pattern: &str) -> Option<&Regex>
-        ensures { IfSome result (λ re. IsPatternOf pattern.now re.now) }
+        ensures { IfSome result (λ re. IsProgramOfAsProposition pattern.now re.now) }
     {
         self.compiled.get(pattern)
     }

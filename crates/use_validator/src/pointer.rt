@@ -2,7 +2,7 @@
 
 ghost use Rattle.std.specs.Prelude.{◌≡◌, ◌++◌, IfOk, string_bytes};
 ghost use Rattle.std.specs.Char.{encode_utf8};
-ghost use Rattle.use_validator.specs.Pointer.{LeadsToMember, escape, longer};
+ghost use Rattle.use_validator.specs.Pointer.{LeadsToMember, escape, pointer_with_name};
 
 use std::alloc::{AllocError, Global};
 
@@ -14,12 +14,12 @@ use std::alloc::{AllocError, Global};
 ///
 /// `AllocError` if an allocation fails.
 pub fn child(alloc: Global, pointer: &str, name: &str) -> Result<String, AllocError>
-    ensures { IfOk result (λ s. string_bytes s ≡ longer pointer.now name.now) }
+    ensures { IfOk result (λ s. string_bytes s ≡ pointer_with_name pointer.now name.now) }
 {
-    let mut longer = String::from_str(alloc, pointer)?;
-    longer.push('/')?;
-    push_name(&mut longer, name)?;
-    Ok(longer)
+    let mut pointer_with_name = String::from_str(alloc, pointer)?;
+    pointer_with_name.push('/')?;
+    push_name(&mut pointer_with_name, name)?;
+    Ok(pointer_with_name)
 }
 
 // Appends an escaped name.

@@ -1,7 +1,7 @@
 //! Reads schemas.
 
 use crate::formats::Format;
-use crate::keyword::{Keyword, OfChild, OfSame, OfText, OfValue, Range};
+use crate::keyword::{ChildKeyword, Keyword, Range, SameValueKeyword, TextKeyword, ValueKeyword};
 use crate::numbers::is_positive;
 use crate::patterns::Patterns;
 use crate::pointer::child;
@@ -118,7 +118,7 @@ impl<'s> Part<'s> {
     }
 
     // Refuses each value, like the schema `false`.
-    fn refuse_all(&mut self, schema: &'s Value) -> Result<(), AllocError> {
+    fn add_claim_refusing_all(&mut self, schema: &'s Value) -> Result<(), AllocError> {
         Ok(
             self.rules.push(Rule {
                 keyword: "",
@@ -174,7 +174,7 @@ impl<'s> Reader<'s> {
         let schema = found.schema;
         let mut part = Part::new(self.alloc, found.place.clone()?);
         if schema.as_bool() == Some(false) {
-            part.refuse_all(schema)?;
+            part.add_claim_refusing_all(schema)?;
         }
         if let Some(members) = schema.as_object() {
             for (keyword, value) in members {
@@ -236,12 +236,17 @@ impl<'s> Reader<'s> {
     }
 
     // Reads `pattern` or `format`.
-    fn read_text(&mut self, part: &mut Part<'s>, member: Member<'s>, word: OfText) -> Result<()> {
+    fn read_text(
+        &mut self,
+        part: &mut Part<'s>,
+        member: Member<'s>,
+        word: TextKeyword,
+    ) -> Result<()> {
         let name = text(part, member)?;
         let (pattern, format) = match word {
-            OfText::Pattern => (String::from_str(self.alloc, name)?, None),
-            OfText::Format if !self.reading.assert_format => return Ok(()),
-            OfText::Format => match Format::of(name) {
+            TextKeyword::Pattern => (String::from_str(self.alloc, name)?, None),
+            TextKeyword::Format if !self.reading.assert_format => return Ok(()),
+            TextKeyword::Format => match Format::of(name) {
                 Some(format) => (format.pattern(self.alloc)?, Some(format.name)),
                 None => return self.read_unknown(part, member, UNKNOWN_FORMAT),
             },
@@ -260,15 +265,30 @@ impl<'s> Reader<'s> {
     }
 
     // Reads a keyword that applies other schemas to the same value.
-    fn read_same(&mut self, part: &mut Part<'s>, member: Member<'s>, word: OfSame) -> Result<()> {
+    fn read_same(
+        &mut self,
+        part: &mut Part<'s>,
+        member: Member<'s>,
+        word: SameValueKeyword,
+    ) -> Result<()> {
         match word {
-            OfSame::Ref => self.read_ref(part, member),
-            OfSame::AllOf => self.read_all_of(part, member),
-            OfSame::AnyOf => self.read_some_of(part, member, Counting::AnyOf, Limits::at_least(1)),
-            OfSame::OneOf => self.read_some_of(part, member, Counting::OneOf, Limits::exactly(1)),
-            OfSame::Not => self.read_not(part, member),
-            OfSame::If => self.read_if(part, member),
-            OfSame::DependentSchemas => {
+            SameValueKeyword::Ref => self.read_ref(part, member),
+            SameValueKeyword::AllOf => self.read_all_of(part, member),
+            SameValueKeyword::AnyOf => self.read_some_of(
+                part,
+                member,
+                Counting::AnyOf,
+                Limits::at_least(1),
+            ),
+            SameValueKeyword::OneOf => self.read_some_of(
+                part,
+                member,
+                Counting::OneOf,
+                Limits::exactly(1),
+            ),
+            SameValueKeyword::Not => self.read_not(part, member),
+            SameValueKeyword::If => self.read_if(part, member),
+            SameValueKeyword::DependentSchemas => {
                 part.with_member = self.named(part, member)?;
                 Ok(())
             }
@@ -320,21 +340,26 @@ impl<'s> Reader<'s> {
     }
 
     // Reads a keyword that applies other schemas to items or members.
-    fn read_child(&mut self, part: &mut Part<'s>, member: Member<'s>, word: OfChild) -> Result<()> {
+    fn read_child(
+        &mut self,
+        part: &mut Part<'s>,
+        member: Member<'s>,
+        word: ChildKeyword,
+    ) -> Result<()> {
         match word {
-            OfChild::Properties => part.named = self.named(part, member)?,
-            OfChild::PatternProperties => {
+            ChildKeyword::Properties => part.named = self.named(part, member)?,
+            ChildKeyword::PatternProperties => {
                 part.by_pattern = self.named(part, member)?;
                 self.compile_names(part, member)?;
             }
-            OfChild::AdditionalProperties => part.others = Some(self.schema(part, member)?),
-            OfChild::PropertyNames => {
+            ChildKeyword::AdditionalProperties => part.others = Some(self.schema(part, member)?),
+            ChildKeyword::PropertyNames => {
                 let number = self.schema(part, member)?;
                 part.tests.push(Test::Names(number))?;
             }
-            OfChild::PrefixItems => part.first = self.list(part, member)?,
-            OfChild::Items => part.rest = Some(self.schema(part, member)?),
-            OfChild::Contains => self.read_contains(part, member)?,
+            ChildKeyword::PrefixItems => part.first = self.list(part, member)?,
+            ChildKeyword::Items => part.rest = Some(self.schema(part, member)?),
+            ChildKeyword::Contains => self.read_contains(part, member)?,
         }
         Ok(())
     }
@@ -441,22 +466,22 @@ fn read_value<'s>(
     alloc: Global,
     part: &mut Part<'s>,
     member: Member<'s>,
-    word: OfValue,
+    word: ValueKeyword,
 ) -> Result<()> {
     let claim = match word {
-        OfValue::Type => Claim::IsOfTypes(kinds(alloc, part, member)?),
-        OfValue::Enum => Claim::IsOneOf(array(part, member)?),
-        OfValue::Const => Claim::Is(member.value),
-        OfValue::AtLeast(measure) => Claim::AtLeast(measure, size(part, member)?),
-        OfValue::AtMost(measure) => Claim::AtMost(measure, size(part, member)?),
-        OfValue::Number(range) => Claim::Number(range, bound(part, member, range)?),
-        OfValue::UniqueItems => match member.value.as_bool() {
+        ValueKeyword::Type => Claim::IsOfTypes(kinds(alloc, part, member)?),
+        ValueKeyword::Enum => Claim::IsOneOf(array(part, member)?),
+        ValueKeyword::Const => Claim::Is(member.value),
+        ValueKeyword::AtLeast(measure) => Claim::AtLeast(measure, size(part, member)?),
+        ValueKeyword::AtMost(measure) => Claim::AtMost(measure, size(part, member)?),
+        ValueKeyword::Number(range) => Claim::Number(range, bound(part, member, range)?),
+        ValueKeyword::UniqueItems => match member.value.as_bool() {
             Some(true) => Claim::HasDistinctItems,
             Some(false) => return Ok(()),
             None => return refuse(part, member, "is no boolean"),
         },
-        OfValue::Required => return read_required(part, member),
-        OfValue::DependentRequired => return read_dependent(part, member),
+        ValueKeyword::Required => return read_required(part, member),
+        ValueKeyword::DependentRequired => return read_dependent(part, member),
     };
     Ok(part.claim(member, claim)?)
 }
@@ -480,7 +505,7 @@ fn read_dependent<'s>(part: &mut Part<'s>, member: Member<'s>) -> Result<()> {
         };
         for name in names {
             match name.as_str() {
-                Some(name) => part.claim(member, Claim::HasWith(with.as_str(), name))?,
+                Some(name) => part.claim(member, Claim::HasSecondIfFirst(with.as_str(), name))?,
                 None => return refuse(part, member, "has a name that is no string"),
             }
         }

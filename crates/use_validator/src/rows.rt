@@ -1,7 +1,7 @@
 //! Rows of standard input for tests. Each row has a schema and a document.
 
 use crate::command::Options;
-use crate::numbers::make_whole;
+use crate::numbers::convert_whole_numbers;
 use crate::reader::Reading;
 use crate::report::{Finding, Outcome, Report};
 use crate::schema::Schema;
@@ -87,7 +87,7 @@ fn reading(schema: &str, mut reading: Reading) -> (&str, Reading) {
 
 fn value(alloc: Global, text: &str) -> Result<Value> {
     let mut value = Value::from_str(alloc, text)?;
-    make_whole(&mut value);
+    convert_whole_numbers(&mut value);
     Ok(value)
 }
 

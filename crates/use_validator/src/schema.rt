@@ -31,7 +31,7 @@ pub enum Claim<'s> {
     Number(Range, Number),
     Has(&'s str),
     /// If the value has the first member, it has the second.
-    HasWith(&'s str, &'s str),
+    HasSecondIfFirst(&'s str, &'s str),
 }
 
 /// A claim, and the keyword that makes it. The name of the schema `false` is empty.

@@ -3,7 +3,7 @@
 ghost use Rattle.std.specs.Prelude.{IfOk};
 ghost use Rattle.use_validator.specs.Patterns.{IsVerdictOf};
 
-use crate::judge::{Verdict, decide};
+use crate::judge::{Verdict, judge_with_work_if_needed};
 use crate::patterns::Patterns;
 use anyhow::{Result, bail};
 
@@ -28,6 +28,6 @@ impl<'p> Search<'p> {
         let Some(re) = self.patterns.get(pattern) else {
             bail!("the schema has no pattern {pattern}");
         };
-        Ok(decide(re, text, self.steps)?)
+        Ok(judge_with_work_if_needed(re, text, self.steps)?)
     }
 }

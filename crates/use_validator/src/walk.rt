@@ -13,7 +13,7 @@ use std::io::IsTerminal;
 
 // A value of the document, its position, and the number of the part of the schema to check it with.
 #[derive(Drop)]
-struct Spot<'v> {
+struct PendingCheck<'v> {
     pointer: String,
     value: &'v Value,
     part: usize,
@@ -30,7 +30,7 @@ struct Walk<'p> {
 }
 
 // On a terminal, progress is shown each time this many values were checked.
-const MANY: u64 = 100_000;
+const VALUES_PER_PROGRESS_UPDATE: u64 = 100_000;
 
 // The maximum nesting depth of tests of schemas.
 const DEPTH: u32 = 300;
@@ -57,7 +57,7 @@ pub fn report(
     };
     let mut report = Report::new(alloc, false);
     let mut spots = Vec::new(alloc);
-    spots.push(Spot::new(String::new(alloc), document, 0))?;
+    spots.push(PendingCheck::new(String::new(alloc), document, 0))?;
     for done in 1..u64::MAX {
         let Some(spot) = spots.pop() else {
             break;
@@ -71,7 +71,7 @@ pub fn report(
 
 // Shows the progress on a terminal.
 fn tell(rt: &HostRuntime, done: u64) -> io::Result<()> {
-    if done % MANY == 0 && rt.stderr().is_terminal() {
+    if done % VALUES_PER_PROGRESS_UPDATE == 0 && rt.stderr().is_terminal() {
         eprint!(rt; "\r{done} values")?;
     }
     Ok(())
@@ -85,9 +85,9 @@ fn clear(rt: &HostRuntime) -> io::Result<()> {
     Ok(())
 }
 
-impl<'v> Spot<'v> {
+impl<'v> PendingCheck<'v> {
     fn new(pointer: String, value: &'v Value, part: usize) -> Self {
-        Spot {
+        PendingCheck {
             pointer,
             value,
             part,
@@ -101,9 +101,9 @@ impl<'p> Walk<'p> {
     #[cycle(walk)]
     fn step<'v>(
         self,
-        spot: &Spot<'v>,
+        spot: &PendingCheck<'v>,
         depth: u32,
-        spots: &mut Vec<Spot<'v>>,
+        spots: &mut Vec<PendingCheck<'v>>,
         report: &mut Report,
     ) -> Result<()> {
         let Some(part) = self.parts.get(spot.part) else {
@@ -115,10 +115,10 @@ impl<'p> Walk<'p> {
         for test in &part.tests {
             self.check_test(test, spot, depth, &mut next, report)?;
         }
-        self.push_same(part, spot, &mut next)?;
+        self.push_same_value_with_its_parts(part, spot, &mut next)?;
         self.push_items(part, spot, &mut next)?;
         self.push_members(part, spot, &mut next, report)?;
-        Ok(put_back(&mut next, spots)?)
+        Ok(push_in_reverse_order(&mut next, spots)?)
     }
 
     // Checks a value with a test, which depends on whether other parts hold.
@@ -126,9 +126,9 @@ impl<'p> Walk<'p> {
     fn check_test<'v>(
         self,
         test: &Test,
-        spot: &Spot<'v>,
+        spot: &PendingCheck<'v>,
         depth: u32,
-        next: &mut Vec<Spot<'v>>,
+        next: &mut Vec<PendingCheck<'v>>,
         report: &mut Report,
     ) -> Result<()> {
         match test {
@@ -143,7 +143,7 @@ impl<'p> Walk<'p> {
                 let tally = self.count(counted, spot, depth)?;
                 let outcome = tally.conclude(limits.least, limits.most);
                 let told = by.complaint(tally.possible < limits.least);
-                self.tell_test(by.keyword(), spot, outcome, told, report)
+                self.add_test_finding(by.keyword(), spot, outcome, told, report)
             }
             Test::If {
                 test,
@@ -152,9 +152,11 @@ impl<'p> Walk<'p> {
             } => {
                 let of = self.same(spot, *test)?;
                 match self.outcome(of, depth)? {
-                    Outcome::Holds => self.push_if_some(spot, *then, next),
-                    Outcome::Fails => self.push_if_some(spot, *otherwise, next),
-                    outcome => self.tell_test("if", spot, outcome, "", report),
+                    Outcome::Holds => self.push_same_value_with_part_if_some(spot, *then, next),
+                    Outcome::Fails => self.push_same_value_with_part_if_some(
+                        spot, *otherwise, next,
+                    ),
+                    outcome => self.add_test_finding("if", spot, outcome, "", report),
                 }
             }
             Test::Names(part) => self.check_names(*part, spot, depth, report),
@@ -163,10 +165,10 @@ impl<'p> Walk<'p> {
 
     // Counts the parts that hold for a value, or the items for which a part holds.
     #[cycle(walk)]
-    fn count(self, counted: &Counted, spot: &Spot<'_>, depth: u32) -> Result<Tally> {
+    fn count(self, counted: &Counted, spot: &PendingCheck<'_>, depth: u32) -> Result<Tally> {
         let mut tally = Tally::NONE;
         let mut tried = Vec::new(self.alloc);
-        self.push_counted(counted, spot, &mut tried)?;
+        self.push_values_to_count(counted, spot, &mut tried)?;
         for of in tried {
             tally.count(self.outcome(of, depth)?);
         }
@@ -178,7 +180,7 @@ impl<'p> Walk<'p> {
     fn check_names(
         self,
         part: usize,
-        spot: &Spot<'_>,
+        spot: &PendingCheck<'_>,
         depth: u32,
         report: &mut Report,
     ) -> Result<()> {
@@ -188,15 +190,15 @@ impl<'p> Walk<'p> {
         for (name, _) in members {
             let pointer = child(self.alloc, spot.pointer.as_str(), name.as_str())?;
             let value = Value::String(name.clone()?);
-            let outcome = self.outcome(Spot::new(pointer, &value, part), depth)?;
-            self.tell_name(name.as_str(), spot, outcome, report)?;
+            let outcome = self.outcome(PendingCheck::new(pointer, &value, part), depth)?;
+            self.add_member_name_finding(name.as_str(), spot, outcome, report)?;
         }
         Ok(())
     }
 
     // Checks whether a part holds for a value.
     #[cycle(walk)]
-    fn outcome(self, spot: Spot<'_>, depth: u32) -> Result<Outcome> {
+    fn outcome(self, spot: PendingCheck<'_>, depth: u32) -> Result<Outcome> {
         let Some(depth) = depth.checked_sub(1) else {
             bail!(
                 "the value at \"{}\": more than {DEPTH} tests of the schema stand in one another",
@@ -224,7 +226,7 @@ impl<'p> Walk<'p> {
     fn check_rules(
         self,
         part: &Part<'_>,
-        spot: &Spot<'_>,
+        spot: &PendingCheck<'_>,
         report: &mut Report,
     ) -> Result<(), AllocError> {
         for rule in &part.rules {
@@ -241,7 +243,12 @@ impl<'p> Walk<'p> {
     }
 
     // Checks a string with the patterns that apply to it.
-    fn check_texts(self, part: &Part<'_>, spot: &Spot<'_>, report: &mut Report) -> Result<()> {
+    fn check_texts(
+        self,
+        part: &Part<'_>,
+        spot: &PendingCheck<'_>,
+        report: &mut Report,
+    ) -> Result<()> {
         let Some(text) = spot.value.as_str() else {
             return Ok(());
         };
@@ -264,10 +271,10 @@ impl<'p> Walk<'p> {
     }
 
     // Adds a finding that a value fails a test, or that this is undecided.
-    fn tell_test(
+    fn add_test_finding(
         self,
         keyword: &str,
-        spot: &Spot<'_>,
+        spot: &PendingCheck<'_>,
         outcome: Outcome,
         told: &str,
         report: &mut Report,
@@ -285,10 +292,10 @@ impl<'p> Walk<'p> {
     }
 
     // Adds a finding that a member's name is refused, or that this is undecided.
-    fn tell_name(
+    fn add_member_name_finding(
         self,
         name: &str,
-        spot: &Spot<'_>,
+        spot: &PendingCheck<'_>,
         outcome: Outcome,
         report: &mut Report,
     ) -> Result<()> {
@@ -307,7 +314,13 @@ impl<'p> Walk<'p> {
     }
 
     // Adds a finding at a keyword of the part.
-    fn tell(self, keyword: &str, spot: &Spot<'_>, told: String, report: &mut Report) -> Result<()> {
+    fn tell(
+        self,
+        keyword: &str,
+        spot: &PendingCheck<'_>,
+        told: String,
+        report: &mut Report,
+    ) -> Result<()> {
         let Some(part) = self.parts.get(spot.part) else {
             bail!("the schema has no such part");
         };
@@ -332,7 +345,7 @@ impl<'p> Walk<'p> {
 
     // Returns the same value with another part. If more parts were applied to the value than there
     // are, one was applied twice, and would be applied infinitely often.
-    fn same<'v>(self, spot: &Spot<'v>, part: usize) -> Result<Spot<'v>> {
+    fn same<'v>(self, spot: &PendingCheck<'v>, part: usize) -> Result<PendingCheck<'v>> {
         if spot.applied >= self.parts.len() {
             let place = self.parts.get(part).map_or("", |part| part.place.as_str());
             bail!(
@@ -340,7 +353,7 @@ impl<'p> Walk<'p> {
                 spot.pointer
             );
         }
-        Ok(Spot {
+        Ok(PendingCheck {
             pointer: spot.pointer.clone()?,
             value: spot.value,
             part,
@@ -348,11 +361,11 @@ impl<'p> Walk<'p> {
         })
     }
 
-    fn push_if_some<'v>(
+    fn push_same_value_with_part_if_some<'v>(
         self,
-        spot: &Spot<'v>,
+        spot: &PendingCheck<'v>,
         part: Option<usize>,
-        next: &mut Vec<Spot<'v>>,
+        next: &mut Vec<PendingCheck<'v>>,
     ) -> Result<()> {
         match part {
             Some(part) => Ok(next.push(self.same(spot, part)?)?),
@@ -361,11 +374,11 @@ impl<'p> Walk<'p> {
     }
 
     // Pushes the value with each part that applies to it onto the stack.
-    fn push_same<'v>(
+    fn push_same_value_with_its_parts<'v>(
         self,
         part: &Part<'_>,
-        spot: &Spot<'v>,
-        next: &mut Vec<Spot<'v>>,
+        spot: &PendingCheck<'v>,
+        next: &mut Vec<PendingCheck<'v>>,
     ) -> Result<()> {
         for number in &part.here {
             next.push(self.same(spot, *number)?)?;
@@ -382,11 +395,11 @@ impl<'p> Walk<'p> {
     }
 
     // Pushes what is counted onto the stack.
-    fn push_counted<'v>(
+    fn push_values_to_count<'v>(
         self,
         counted: &Counted,
-        spot: &Spot<'v>,
-        next: &mut Vec<Spot<'v>>,
+        spot: &PendingCheck<'v>,
+        next: &mut Vec<PendingCheck<'v>>,
     ) -> Result<()> {
         match counted {
             Counted::Parts(parts) => {
@@ -409,8 +422,8 @@ impl<'p> Walk<'p> {
     fn push_items<'v>(
         self,
         part: &Part<'_>,
-        spot: &Spot<'v>,
-        next: &mut Vec<Spot<'v>>,
+        spot: &PendingCheck<'v>,
+        next: &mut Vec<PendingCheck<'v>>,
     ) -> Result<(), AllocError> {
         let Some(items) = spot.value.as_array() else {
             return Ok(());
@@ -427,22 +440,22 @@ impl<'p> Walk<'p> {
     // Returns an item of an array, with a part.
     fn item<'v>(
         self,
-        spot: &Spot<'_>,
+        spot: &PendingCheck<'_>,
         i: usize,
         value: &'v Value,
         part: usize,
-    ) -> Result<Spot<'v>, AllocError> {
+    ) -> Result<PendingCheck<'v>, AllocError> {
         let name = format!(in self.alloc; "{i}")?;
         let pointer = child(self.alloc, spot.pointer.as_str(), name.as_str())?;
-        Ok(Spot::new(pointer, value, part))
+        Ok(PendingCheck::new(pointer, value, part))
     }
 
     // Pushes the members of an object onto the stack, each with its parts.
     fn push_members<'v>(
         self,
         part: &Part<'_>,
-        spot: &Spot<'v>,
-        next: &mut Vec<Spot<'v>>,
+        spot: &PendingCheck<'v>,
+        next: &mut Vec<PendingCheck<'v>>,
         report: &mut Report,
     ) -> Result<()> {
         if !part.has_parts_for_members() {
@@ -453,7 +466,7 @@ impl<'p> Walk<'p> {
         };
         for (name, value) in members {
             let pointer = child(self.alloc, spot.pointer.as_str(), name.as_str())?;
-            let member = Spot::new(pointer, value, spot.part);
+            let member = PendingCheck::new(pointer, value, spot.part);
             self.push_member(part, name.as_str(), &member, next, report)?;
         }
         Ok(())
@@ -464,27 +477,29 @@ impl<'p> Walk<'p> {
         self,
         part: &Part<'_>,
         name: &str,
-        member: &Spot<'v>,
-        next: &mut Vec<Spot<'v>>,
+        member: &PendingCheck<'v>,
+        next: &mut Vec<PendingCheck<'v>>,
         report: &mut Report,
     ) -> Result<()> {
         let named = part.named.get(name).copied();
-        push_with(member, named, next)?;
-        let by_pattern = self.push_by_patterns(part, name, member, next, report)?;
+        push_member_with_part_if_some(member, named, next)?;
+        let by_pattern = self.push_with_parts_of_matching_patterns(
+            part, name, member, next, report,
+        )?;
         if named.is_none() && !by_pattern {
-            push_with(member, part.others, next)?;
+            push_member_with_part_if_some(member, part.others, next)?;
         }
         Ok(())
     }
 
     // Pushes a member onto the stack with the part of each pattern that its name matches. Returns
     // whether its name matches a pattern, or may match one.
-    fn push_by_patterns<'v>(
+    fn push_with_parts_of_matching_patterns<'v>(
         self,
         part: &Part<'_>,
         name: &str,
-        member: &Spot<'v>,
-        next: &mut Vec<Spot<'v>>,
+        member: &PendingCheck<'v>,
+        next: &mut Vec<PendingCheck<'v>>,
         report: &mut Report,
     ) -> Result<bool> {
         let mut matches = false;
@@ -493,11 +508,11 @@ impl<'p> Walk<'p> {
                 Verdict::NoMatch => {}
                 Verdict::Matches => {
                     matches = true;
-                    push_with(member, Some(*number), next)?;
+                    push_member_with_part_if_some(member, Some(*number), next)?;
                 }
                 Verdict::OutOfSteps => {
                     matches = true;
-                    self.tell_pattern(pattern.as_str(), member, report)?;
+                    self.add_undecided_pattern_finding(pattern.as_str(), member, report)?;
                 }
             }
         }
@@ -505,7 +520,12 @@ impl<'p> Walk<'p> {
     }
 
     // Adds a finding that it is undecided whether a pattern matches a member's name.
-    fn tell_pattern(self, pattern: &str, member: &Spot<'_>, report: &mut Report) -> Result<()> {
+    fn add_undecided_pattern_finding(
+        self,
+        pattern: &str,
+        member: &PendingCheck<'_>,
+        report: &mut Report,
+    ) -> Result<()> {
         if !report.note(Outcome::Undecided) {
             return Ok(());
         }
@@ -549,19 +569,22 @@ impl TextRule<'_> {
 }
 
 // If there is a part, pushes a member with it onto the stack.
-fn push_with<'v>(
-    member: &Spot<'v>,
+fn push_member_with_part_if_some<'v>(
+    member: &PendingCheck<'v>,
     part: Option<usize>,
-    next: &mut Vec<Spot<'v>>,
+    next: &mut Vec<PendingCheck<'v>>,
 ) -> Result<(), AllocError> {
     if let Some(part) = part {
-        next.push(Spot::new(member.pointer.clone()?, member.value, part))?;
+        next.push(PendingCheck::new(member.pointer.clone()?, member.value, part))?;
     }
     Ok(())
 }
 
 // Pushes the given items onto the stack in reverse order, so that the first one comes next.
-fn put_back<'v>(next: &mut Vec<Spot<'v>>, spots: &mut Vec<Spot<'v>>) -> Result<(), AllocError> {
+fn push_in_reverse_order<'v>(
+    next: &mut Vec<PendingCheck<'v>>,
+    spots: &mut Vec<PendingCheck<'v>>,
+) -> Result<(), AllocError> {
     for _ in 0..u64::MAX {
         let Some(spot) = next.pop() else {
             break;

@@ -93,17 +93,17 @@ impl fmt::Display for Flags {
     /// Writes the letters of the flags that are set, in the order `m i s u v`; `no_opt` has no
     /// letter.
     fn fmt<W: fmt::Write>(&self, f: &mut fmt::Formatter<W>) -> fmt::Result {
-        let multiline = letter_if(self.multiline, "m");
-        let icase = letter_if(self.icase, "i");
-        let dot_all = letter_if(self.dot_all, "s");
-        let unicode = letter_if(self.unicode, "u");
-        let unicode_sets = letter_if(self.unicode_sets, "v");
+        let multiline = letter_if_set_else_empty(self.multiline, "m");
+        let icase = letter_if_set_else_empty(self.icase, "i");
+        let dot_all = letter_if_set_else_empty(self.dot_all, "s");
+        let unicode = letter_if_set_else_empty(self.unicode, "u");
+        let unicode_sets = letter_if_set_else_empty(self.unicode_sets, "v");
         write!(f, "{multiline}{icase}{dot_all}{unicode}{unicode_sets}")
     }
 }
 
 // Returns the letter if the flag is set, and the empty text otherwise.
-fn letter_if(set: bool, letter: &str) -> &str
+fn letter_if_set_else_empty(set: bool, letter: &str) -> &str
     ensures { result.now ≡ (if set then letter.now else []) }
 {
     if set { letter } else { "" }

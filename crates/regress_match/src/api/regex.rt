@@ -82,7 +82,8 @@ impl Regex {
     ///
     /// - `Parse` if the text is not a valid pattern; `Error::diagnosis` returns what is wrong with
     ///   it, and where.
-    /// - `Emit` if it opens more than 65,535 groups, or its tree has too many loops or instructions.
+    /// - `Emit` if it opens more than 65,535 groups, or its tree has too many loops or
+    ///   instructions.
     /// - `Memory` if an allocation fails in any of these stages.
     pub fn with_flags(alloc: Global, pattern: &str, flags: Flags) -> Result<Regex, Error>
         ensures compiled { IfOk result (IsCompiledWith (spec_flags_of flags) (chars pattern.now)) }
@@ -296,6 +297,11 @@ impl Regex {
     ///
     /// A search for `[b]c` in `aabbc` needs five steps. With four, the first item is `StepLimit`
     /// (tested in `test_searches`).
+    ///
+    /// The clauses `answers` and `limited` say which matches the iterator returns, and whether
+    /// `StepLimit` follows. The clauses `in_text` and `ended` say that the matches are in the text
+    /// and ordered, and whether the iterator has ended at once. The clause `refused` says what an
+    /// error means.
     ///
     /// # Errors
     ///

@@ -84,7 +84,11 @@ fn append_text_before_match(
 }
 
 // Appends the rest of the text.
-fn append_rest(mut made: String, text: &str, from: usize) -> Result<String, AllocError>
+fn append_text_after_last_match(
+    mut made: String,
+    text: &str,
+    from: usize,
+) -> Result<String, AllocError>
     requires { IsCharBoundary text.now from }
     ensures { IfOk result (λ s. string_bytes s ≡ string_bytes made ++ drop from text.now) }
 {
@@ -106,12 +110,12 @@ fn expand_first<P: MatchProducer + Drop>(
 {
     let mut made = String::new(alloc);
     let Some(item) = matches.next() else {
-        return Ok(append_rest(made, text, 0)?);
+        return Ok(append_text_after_last_match(made, text, 0)?);
     };
     let found = item?;
     let from = append_text_before_match(&mut made, text, 0, &found)?;
     expand(&mut made, &found, text, replacement)?;
-    Ok(append_rest(made, text, from)?)
+    Ok(append_text_after_last_match(made, text, from)?)
 }
 
 // Returns the text with each match replaced.
@@ -133,5 +137,5 @@ fn expand_each<P: MatchProducer + Drop>(
         from = append_text_before_match(&mut made, text, from, &found)?;
         expand(&mut made, &found, text, replacement)?;
     }
-    Ok(append_rest(made, text, from)?)
+    Ok(append_text_after_last_match(made, text, from)?)
 }

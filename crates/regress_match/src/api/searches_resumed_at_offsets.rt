@@ -4,7 +4,7 @@ ghost use Rattle.std.specs.Prelude.{◌≡◌, ◌<◌, IfErr, IfOk, None, Some,
 ghost use Rattle.regex_meaning.specs.CodeUnitOffsets.{units, IsBoundaryOrPastEnd};
 ghost use Rattle.regress_match.specs.ProgramTreesAndAnswers.{units_as_ucs2_text, units_as_utf16_text, bytes_as_utf8_text, tree_for_byte_units};
 ghost use Rattle.regress_match.specs.ProgramTreesAndAnswers.{tree_for_16_bit_units};
-ghost use Rattle.regress_match.specs.{CompileErrors.{IsOutOfMemory}, Resuming.{ResumesFrom}};
+ghost use Rattle.regress_match.specs.{CompileErrors.{IsOutOfMemory}, Resuming.{IsResultOfNextFrom}};
 
 use crate::api::{Match, Regex, SearchError};
 use crate::executor_aliases::{
@@ -124,7 +124,7 @@ pub fn next_from<E: SingleAttemptExecutor>(
     start: usize,
 ) -> Result<Option<Step>, SearchError>
     requires { IsBoundaryOrPastEnd (E.text search.old) start }
-    ensures continues { ResumesFrom (E.tree search.old) (E.text search.old) (E.budget search.old) start result
+    ensures continues { IsResultOfNextFrom (E.tree search.old) (E.text search.old) (E.budget search.old) start result
         (E.budget search.new) }
     ensures same_tree { E.tree search.new ≡ E.tree search.old }
     ensures same_text { E.text search.new ≡ E.text search.old }

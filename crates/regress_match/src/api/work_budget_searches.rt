@@ -9,7 +9,7 @@ ghost use Rattle.regress_match.specs.CompileErrors.{IsOutOfMemory};
 ghost use Rattle.regress_match.specs.ExpansionsAndMatchRanges.{MatchesFitTextInOrderFrom};
 ghost use Rattle.regress_bounded.specs.CostsOfAttempts.{IteratorBeginsSearches};
 ghost use Rattle.regress_search.specs.CostsOfCalls.{without_costs};
-ghost use Rattle.regress_match.specs.WorkBounds.{IsHigherOfProgramWorkBounds, HasNoLookaroundOrBackref, IsPatternUnboundedBy, YieldsMatchesIfWorkSuffices, higher};
+ghost use Rattle.regress_match.specs.WorkBounds.{IsHigherOfProgramWorkBounds, NoTreeHasLookaroundOrBackreference, IsPatternUnboundedBy, YieldsMatchesIfWorkSuffices, max_of_two};
 
 use crate::api::{Regex, SearchError};
 use regress_bounded::executor::BoundedExecutor;
@@ -43,7 +43,7 @@ pub struct BoundedRegex<'r> {
 impl<'r> Model for BoundedRegex<'r> {
     ghost use Rattle.std.specs.Coded.{codes};
     ghost use Rattle.regex_pattern_front.specs.contracts.ir.Node as node;
-    ghost use Rattle.regress_match.specs.WorkBounds.{AreBoundsOf, BoundedView, higher_bound_of};
+    ghost use Rattle.regress_match.specs.WorkBounds.{AreWorkBoundsOfBothPrograms, BoundedView, higher_bound_of};
 
     ghost Value = { BoundedView };
 
@@ -51,7 +51,7 @@ impl<'r> Model for BoundedRegex<'r> {
 
     ghost view = { λ b. record { re = b.re.now; per_unit = higher_bound_of b.bytes b.units } };
 
-    ghost invariant = { λ b. AreBoundsOf b.re.now b.bytes b.units };
+    ghost invariant = { λ b. AreWorkBoundsOfBothPrograms b.re.now b.bytes b.units };
 }
 
 impl Regex {
@@ -59,18 +59,18 @@ impl Regex {
     ///
     /// # Errors
     ///
-    /// Returns the reason why no bound is known. `docs/LINEAR.md` has the full list of causes. It is
-    /// proved when the first two are returned, and tested when the others are.
+    /// Returns the reason why no bound is known. `docs/LINEAR.md` has the full list of causes. It
+    /// is proved when the first two are returned, and tested when the others are.
     ///
-    /// - `Lookaround` exactly if the pattern has one, and otherwise `Backreference` exactly if it has
-    ///   one.
+    /// - `Lookaround` exactly if the pattern has one, and otherwise `Backreference` exactly if it
+    ///   has one.
     /// - `Count` if the counts of its loops are too large, or its loops are nested too deeply.
     /// - `BoundTooLarge` if the bound is too large.
     /// - `Memory` if an allocation for computing the bound fails.
     pub fn bounded(&self) -> Result<BoundedRegex<'_>, Unbounded>
         ensures pattern { IfOk result (λ bounded. bounded.re ≡ self.now) }
         ensures enough { IfOk result (λ bounded. IsHigherOfProgramWorkBounds self.now bounded.per_unit) }
-        ensures plain { OnOk result (HasNoLookaroundOrBackref self.now) }
+        ensures plain { OnOk result (NoTreeHasLookaroundOrBackreference self.now) }
         ensures refused { IfErr result (IsPatternUnboundedBy self.now) }
     {
         let units = WorkBound::bound_for_units(self.unit_program())?;
@@ -107,7 +107,7 @@ impl<'r> BoundedRegex<'r> {
         ensures number { result ≡ self.now.per_unit }
         ensures enough { IsHigherOfProgramWorkBounds self.now.re result }
     {
-        higher(self.bytes.per_unit(), self.units.per_unit())
+        max_of_two(self.bytes.per_unit(), self.units.per_unit())
     }
 
     /// Returns an iterator over the matches in `text` from byte offset `start` on, like
@@ -121,6 +121,11 @@ impl<'r> BoundedRegex<'r> {
     ///
     /// A search for all matches of `a` in `ba` takes 3 units of work. With 2 units, `WorkLimit`
     /// follows the match (tested in `test_searches`).
+    ///
+    /// The clause `yields` says that the iterator yields the list of matches, and when the work
+    /// suffices for all of it. The clause `begins` says what determines the cost of its first call.
+    /// The clauses `in_text`, `ended` and `refused` say that the matches are in the text and
+    /// ordered, whether the iterator has ended at once, and what an error means.
     ///
     /// # Errors
     ///
@@ -150,6 +155,8 @@ impl<'r> BoundedRegex<'r> {
     }
 
     /// Like `find_from`, in ASCII text (`is_ascii`).
+    ///
+    /// The contract is that of `find_from`, for the text as ASCII.
     ///
     /// # Errors
     ///
@@ -237,8 +244,8 @@ impl<'r> BoundedRegex<'r> {
 }
 
 // Returns the higher of two numbers.
-fn higher(a: u64, b: u64) -> u64
-    ensures { result ≡ higher a b }
+fn max_of_two(a: u64, b: u64) -> u64
+    ensures { result ≡ max_of_two a b }
 {
     if a < b { b } else { a }
 }

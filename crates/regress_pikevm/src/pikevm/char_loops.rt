@@ -6,7 +6,7 @@ ghost use Rattle.regex_meaning.specs.CodeUnitOffsets.{IsBoundary};
 ghost use Rattle.regress_program.specs.InsnsAsSpec.{insn_as_spec_insn};
 ghost use Rattle.regress_machine.specs.InsnEffects.{state_after_char_loop_to_offset, IsNotStuck};
 ghost use Rattle.regress_search.specs.OffsetsAfterMatchedInsns.{ByteInsnHasByteText, char_test_of_insn};
-ghost use Rattle.regress_pikevm.specs.{InsnEffects.{effect_of_char_loop, ReachesExits, PushesExit}, States.{state_of, effect_of_next_states}};
+ghost use Rattle.regress_pikevm.specs.{InsnEffects.{effect_of_char_loop, LoopExitsAreStates, PushesExitIfWanted}, States.{machine_state_of, effect_of_next_states}};
 
 use super::insn_matchers;
 use super::states::{NextStates, State, copy_state};
@@ -27,6 +27,9 @@ pub(crate) struct CharLoopBoundsAndGreed {
 }
 
 /// Executes a char loop, whose body is an instruction that reads one character.
+///
+/// The clause says that the result is the loop's effect in the machine (`effect_of_char_loop`). The
+/// machine is not stuck there, and a body that reads bytes has a text of bytes.
 pub(crate) fn execute_char_loop<Input: InputIndexer, Dir: Direction>(
     run: CharLoopBoundsAndGreed,
     body: Insn,
@@ -41,7 +44,7 @@ pub(crate) fn execute_char_loop<Input: InputIndexer, Dir: Direction>(
     ensures { let s = searched.now in IfOk result (λ t. effect_of_next_states Input.Position.offset t
         ≡ effect_of_char_loop Input.Position.offset s.program.now (Input.text s.input) Dir.FORWARD run body state) }
 {
-    let (tries, states) = loop_exits(run, body, searched, dir, &state)?;
+    let (tries, states) = states_at_loop_exits(run, body, searched, dir, &state)?;
     Ok(NextStates::CharLoopExits(tries, states_by_priority(run.greedy, states)))
 }
 
@@ -57,7 +60,7 @@ fn states_by_priority<P: PositionType>(greedy: bool, mut states: Vec<State<P>>) 
 
 // Returns the number of characters that were tested, and the states at the exits in ascending order
 // of iterations.
-fn loop_exits<Input: InputIndexer, Dir: Direction>(
+fn states_at_loop_exits<Input: InputIndexer, Dir: Direction>(
     run: CharLoopBoundsAndGreed,
     body: Insn,
     searched: &ProgramAndInput<'_, Input>,
@@ -68,7 +71,7 @@ fn loop_exits<Input: InputIndexer, Dir: Direction>(
     requires boundary { IsBoundary (Input.text searched.now.input) (Input.Position.offset state.now.pos) }
     requires bytes { ByteInsnHasByteText body (Input.text searched.now.input) Input.Units.ARE_BYTES }
     requires within { state.now.ip + 2 < 2 ^ 64 }
-    ensures { let s = searched.now in IfOk result (λ r. ReachesExits Input.Position.offset
+    ensures { let s = searched.now in IfOk result (λ r. LoopExitsAreStates Input.Position.offset
         s.program.now (Input.text s.input) Dir.FORWARD run body state.now r.0 r.1.items) }
 {
     let mut states = Vec::new(*state.groups.allocator());
@@ -79,7 +82,7 @@ fn loop_exits<Input: InputIndexer, Dir: Direction>(
         if count == run.max_iters {
             return Ok((count, states));
         }
-        if !insn_matchers::insn_accepts_next_char(searched, body, dir, &mut at) {
+        if !insn_matchers::consume_next_char_if_accepted(searched, body, dir, &mut at) {
             return Ok((count + 1, states));
         }
         count += 1;
@@ -94,7 +97,7 @@ fn push_if_wanted<P: PositionType>(
     states: &mut Vec<State<P>>,
 ) -> Result<(), AllocError>
     requires { state.now.ip + 2 < 2 ^ 64 }
-    ensures { OnOk result (PushesExit P.offset wanted at state.now states.old.items states.new.items) }
+    ensures { OnOk result (PushesExitIfWanted P.offset wanted at state.now states.old.items states.new.items) }
 {
     if wanted {
         states.push(copy_state_after_char_loop(at, state)?)?;
@@ -108,8 +111,8 @@ pub fn copy_state_after_char_loop<P: PositionType>(
     state: &State<P>,
 ) -> Result<State<P>, AllocError>
     requires { state.now.ip + 2 < 2 ^ 64 }
-    ensures { IfOk result (λ s. state_of P.offset s
-        ≡ state_after_char_loop_to_offset (P.offset at) (state_of P.offset state.now)) }
+    ensures { IfOk result (λ s. machine_state_of P.offset s
+        ≡ state_after_char_loop_to_offset (P.offset at) (machine_state_of P.offset state.now)) }
 {
     let mut next = copy_state(state)?;
     next.ip += 2;

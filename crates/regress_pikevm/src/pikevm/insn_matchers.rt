@@ -16,9 +16,10 @@ use regress_search::insns_that_read_or_test_text::{
 use regress_search::program_and_input::ProgramAndInput;
 
 /// Checks whether an instruction that reads one character accepts the next character in the
-/// direction. If so, the position is moved past the character; otherwise it is unspecified.
+/// direction. If so, the position is moved past the character; otherwise it is unspecified. The
+/// clause (`HasPassed`) says both.
 #[inline(always)]
-pub fn insn_accepts_next_char<Input: InputIndexer, Dir: Direction>(
+pub fn consume_next_char_if_accepted<Input: InputIndexer, Dir: Direction>(
     searched: &ProgramAndInput<'_, Input>,
     insn: Insn,
     dir: Dir,
@@ -36,10 +37,10 @@ pub fn insn_accepts_next_char<Input: InputIndexer, Dir: Direction>(
     }
 }
 
-// Like `insn_accepts_next_char`, but the position may be no boundary and the instruction may be
-// another one. The precondition `can` excludes these cases.
+// Like `consume_next_char_if_accepted`, but the position may be no boundary and the instruction may
+// be another one. The precondition `can` excludes these cases.
 #[inline(always)]
-fn reads_one<Input: InputIndexer, Dir: Direction>(
+fn consume_char_if_accepted<Input: InputIndexer, Dir: Direction>(
     searched: &ProgramAndInput<'_, Input>,
     insn: Insn,
     dir: Dir,
@@ -53,13 +54,13 @@ fn reads_one<Input: InputIndexer, Dir: Direction>(
         Some (end_if_matched result (at pos.new))
         ≡ read_accepted_char (Input.text s.input) Dir.FORWARD s.program.now insn (at pos.old) }
 {
-    insn_accepts_next_char(searched, insn, dir, pos)
+    consume_next_char_if_accepted(searched, insn, dir, pos)
 }
 
 // Checks whether the bytes of the instruction are next in the direction, from any offset. If so,
 // the position is moved past them; otherwise it is unspecified.
 #[inline(always)]
-fn reads_literal<Input: InputIndexer, Dir: Direction>(
+fn consume_literal_if_next<Input: InputIndexer, Dir: Direction>(
     searched: &ProgramAndInput<'_, Input>,
     insn: Insn,
     dir: Dir,
@@ -80,7 +81,7 @@ fn reads_literal<Input: InputIndexer, Dir: Direction>(
 /// Checks whether an instruction that only reads or tests the text matches at a position. If so,
 /// the position is moved to where matching continues; otherwise it is unspecified.
 #[inline(always)]
-pub(crate) fn read_or_assertion_insn_matches<Input: InputIndexer, Dir: Direction>(
+pub(crate) fn match_read_or_assertion_insn<Input: InputIndexer, Dir: Direction>(
     searched: &ProgramAndInput<'_, Input>,
     insn: Insn,
     dir: Dir,
@@ -104,15 +105,15 @@ pub(crate) fn read_or_assertion_insn_matches<Input: InputIndexer, Dir: Direction
             input, invert, true, *pos,
         ),
         Insn::JustFail => false,
-        Insn::Char(_) => reads_one(searched, insn, dir, pos),
-        Insn::CharSet(_) => reads_one(searched, insn, dir, pos),
-        Insn::ByteSet2(_) => reads_one(searched, insn, dir, pos),
-        Insn::ByteSet3(_) => reads_one(searched, insn, dir, pos),
-        Insn::ByteSet4(_) => reads_one(searched, insn, dir, pos),
-        Insn::AsciiBracket(_) => reads_one(searched, insn, dir, pos),
-        Insn::Bracket(_) => reads_one(searched, insn, dir, pos),
-        Insn::MatchAny => reads_one(searched, insn, dir, pos),
-        Insn::MatchAnyExceptLineTerminator => reads_one(searched, insn, dir, pos),
-        _ => reads_literal(searched, insn, dir, pos),
+        Insn::Char(_) => consume_char_if_accepted(searched, insn, dir, pos),
+        Insn::CharSet(_) => consume_char_if_accepted(searched, insn, dir, pos),
+        Insn::ByteSet2(_) => consume_char_if_accepted(searched, insn, dir, pos),
+        Insn::ByteSet3(_) => consume_char_if_accepted(searched, insn, dir, pos),
+        Insn::ByteSet4(_) => consume_char_if_accepted(searched, insn, dir, pos),
+        Insn::AsciiBracket(_) => consume_char_if_accepted(searched, insn, dir, pos),
+        Insn::Bracket(_) => consume_char_if_accepted(searched, insn, dir, pos),
+        Insn::MatchAny => consume_char_if_accepted(searched, insn, dir, pos),
+        Insn::MatchAnyExceptLineTerminator => consume_char_if_accepted(searched, insn, dir, pos),
+        _ => consume_literal_if_next(searched, insn, dir, pos),
     }
 }

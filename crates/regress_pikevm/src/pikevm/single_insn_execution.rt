@@ -9,7 +9,7 @@ ghost use Rattle.regress_machine.specs.Machine.{running, waiting, goes, asks, st
 ghost use Rattle.regress_machine.specs.Machine.{effect_at_iteration_end, loop_again_effect};
 ghost use Rattle.regress_machine.specs.InsnEffects.{begin_capture_group_effect, end_capture_group_effect, reset_capture_group_effect, body_entered_with_iteration_count};
 ghost use Rattle.regress_machine.specs.InsnEffects.{IsNotStuck, is_read_or_assertion_insn};
-ghost use Rattle.regress_pikevm.specs.{InsnEffects.{effect_at, effect_of_insn, effect_of_range_backref, effect_of_backref}, States.{state_of, loop_of, effect_of_next_states}};
+ghost use Rattle.regress_pikevm.specs.{InsnEffects.{machine_effect_at_state, effect_of_insn, effect_of_range_backref, effect_of_backref}, States.{machine_state_of, loop_data_in_offsets, effect_of_next_states}};
 ghost use Rattle.regress_search.specs.OffsetsAfterMatchedInsns.{ByteInsnHasByteText};
 
 use super::char_loops::{CharLoopBoundsAndGreed, execute_char_loop};
@@ -20,7 +20,7 @@ use regress_input::front::{CaptureGroupID, LoopID, Sameness};
 use regress_input::indexing::InputIndexer;
 use regress_input::position::PositionType;
 use regress_program::insn::{Insn, LoopFields};
-use regress_search::insns_that_read_or_test_text::backref_matches;
+use regress_search::insns_that_read_or_test_text::read_backref_text;
 use regress_search::program_and_input::ProgramAndInput;
 use std::alloc::AllocError;
 
@@ -34,17 +34,21 @@ pub fn execute_insn<Input: InputIndexer, Dir: Direction>(
 ) -> Result<NextStates<Input::Position>, AllocError>
     requires code { map insn_as_spec_insn insns.now ≡ (compiled (tree_of searched.now.program.now)).insns }
     requires executable { let s = searched.now in
-        IsNotStuck (effect_at Input.Position.offset s.program.now (Input.text s.input) Dir.FORWARD state) }
+        IsNotStuck (machine_effect_at_state Input.Position.offset s.program.now (Input.text s.input) Dir.FORWARD state) }
     requires inside { Input.Position.offset state.pos ≤ units (Input.text searched.now.input) }
     ensures { let s = searched.now in IfOk result (λ t. effect_of_next_states Input.Position.offset t
-        ≡ effect_at Input.Position.offset s.program.now (Input.text s.input) Dir.FORWARD state) }
+        ≡ machine_effect_at_state Input.Position.offset s.program.now (Input.text s.input) Dir.FORWARD state) }
 {
     let insn = insns[state.ip];
-    perform(insn, searched, insns, dir, state)
+    execute_fetched_insn(insn, searched, insns, dir, state)
 }
 
 // Executes one instruction.
-fn perform<Input: InputIndexer, Dir: Direction>(
+// Contract: the result is the effect that the abstract machine gives the instruction in this state.
+// `code` and `executable` say that `insns` is the program's code, and that the instruction can run.
+// `bytes`, `inside` and `within` say that an instruction on bytes has a text of bytes, and that the
+// offset and the instruction's index are in range.
+fn execute_fetched_insn<Input: InputIndexer, Dir: Direction>(
     insn: Insn,
     searched: &ProgramAndInput<'_, Input>,
     insns: &[Insn],
@@ -66,9 +70,9 @@ fn perform<Input: InputIndexer, Dir: Direction>(
             state.ip = target as usize;
             Ok(NextStates::Continue(state))
         }
-        Insn::Alt { secondary } => fork(secondary, state),
-        Insn::EnterLoop { .. } => begin_iteration(insn.loop_fields(), state.ip, 0, state),
-        Insn::LoopAgain { begin } => end_body(insns[begin as usize], begin as usize, state),
+        Insn::Alt { secondary } => fork_thread_at_insn(secondary, state),
+        Insn::EnterLoop { .. } => execute_loop_start(insn.loop_fields(), state.ip, 0, state),
+        Insn::LoopAgain { begin } => execute_loop_end(insns[begin as usize], begin as usize, state),
         Insn::Loop1CharBody {
             min_iters,
             max_iters,
@@ -96,14 +100,16 @@ fn perform<Input: InputIndexer, Dir: Direction>(
             continuation,
             ..
         } => fork_lookaround(false, negate, continuation, state),
-        _ => Ok(execute_test(insn, searched, dir, state)),
+        _ => Ok(execute_read_or_assertion(insn, searched, dir, state)),
     }
 }
 
 // Executes an instruction that only reads or tests the text. The thread continues at the next
 // instruction, or fails.
+// The contract is that of `execute_fetched_insn` without `code`, for an instruction that only reads
+// or tests (`reader`).
 #[inline(always)]
-fn execute_test<Input: InputIndexer, Dir: Direction>(
+fn execute_read_or_assertion<Input: InputIndexer, Dir: Direction>(
     insn: Insn,
     searched: &ProgramAndInput<'_, Input>,
     dir: Dir,
@@ -118,7 +124,7 @@ fn execute_test<Input: InputIndexer, Dir: Direction>(
     ensures { let s = searched.now in effect_of_next_states Input.Position.offset result
         ≡ effect_of_insn Input.Position.offset s.program.now (Input.text s.input) Dir.FORWARD insn state }
 {
-    if insn_matchers::read_or_assertion_insn_matches(searched, insn, dir, &mut state.pos) {
+    if insn_matchers::match_read_or_assertion_insn(searched, insn, dir, &mut state.pos) {
         state.ip += 1;
         NextStates::Continue(state)
     } else {
@@ -127,9 +133,12 @@ fn execute_test<Input: InputIndexer, Dir: Direction>(
 }
 
 // Forks into a thread at the next instruction, which is preferred, and one at index `secondary`.
-fn fork<P: PositionType>(secondary: u32, mut state: State<P>) -> Result<NextStates<P>, AllocError>
+fn fork_thread_at_insn<P: PositionType>(
+    secondary: u32,
+    mut state: State<P>,
+) -> Result<NextStates<P>, AllocError>
     requires { state.ip + 1 < 2 ^ 64 }
-    ensures { let s = state_of P.offset state in IfOk result (λ t. effect_of_next_states P.offset t
+    ensures { let s = machine_state_of P.offset state in IfOk result (λ t. effect_of_next_states P.offset t
         ≡ goes (running (state_at_next_ip s) ∷ waiting (state_with_ip secondary s) ∷ [])) }
 {
     let mut second = copy_state(&state)?;
@@ -147,7 +156,7 @@ fn fork_lookaround<P: PositionType>(
     mut state: State<P>,
 ) -> Result<NextStates<P>, AllocError>
     requires { state.ip + 1 < 2 ^ 64 }
-    ensures { let s = state_of P.offset state in IfOk result (λ t. effect_of_next_states P.offset t
+    ensures { let s = machine_state_of P.offset state in IfOk result (λ t. effect_of_next_states P.offset t
         ≡ asks (direction_of_forward_flag forward) negate (state_at_next_ip s) (state_with_ip continuation s)) }
 {
     let mut inner = copy_state(&state)?;
@@ -164,9 +173,9 @@ fn fork_lookaround<P: PositionType>(
 // ---- Groups
 
 fn open_group<P: PositionType>(id: CaptureGroupID, mut state: State<P>) -> NextStates<P>
-    requires executable { IsNotStuck (begin_capture_group_effect id (state_of P.offset state)) }
+    requires executable { IsNotStuck (begin_capture_group_effect id (machine_state_of P.offset state)) }
     requires within { state.ip + 1 < 2 ^ 64 }
-    ensures { effect_of_next_states P.offset result ≡ begin_capture_group_effect id (state_of P.offset state) }
+    ensures { effect_of_next_states P.offset result ≡ begin_capture_group_effect id (machine_state_of P.offset state) }
 {
     let id = id as usize;
     state.ip += 1;
@@ -181,21 +190,21 @@ fn close_group<P: PositionType, Dir: Direction>(
     mut state: State<P>,
 ) -> NextStates<P>
     requires executable { IsNotStuck (end_capture_group_effect id (direction_of_forward_flag Dir.FORWARD)
-        (state_of P.offset state)) }
+        (machine_state_of P.offset state)) }
     requires within { state.ip + 1 < 2 ^ 64 }
     ensures { effect_of_next_states P.offset result ≡ end_capture_group_effect id
-        (direction_of_forward_flag Dir.FORWARD) (state_of P.offset state) }
+        (direction_of_forward_flag Dir.FORWARD) (machine_state_of P.offset state) }
 {
     let id = id as usize;
     let start = state.starts[id];
     state.ip += 1;
-    state.groups[id] = Some(ordered_span(dir, start, state.pos));
+    state.groups[id] = Some(span_in_ascending_order(dir, start, state.pos));
     NextStates::Continue(state)
 }
 
 // Returns the range between two positions, in ascending order. `to` was reached from `from`.
 #[inline(always)]
-fn ordered_span<P: PositionType, Dir: Direction>(_dir: Dir, from: P, to: P) -> (P, P)
+fn span_in_ascending_order<P: PositionType, Dir: Direction>(_dir: Dir, from: P, to: P) -> (P, P)
     ensures { (P.offset result.0, P.offset result.1)
         ≡ range_swapped_if_leftwards (direction_of_forward_flag Dir.FORWARD) (P.offset from) (P.offset to) }
 {
@@ -203,9 +212,9 @@ fn ordered_span<P: PositionType, Dir: Direction>(_dir: Dir, from: P, to: P) -> (
 }
 
 fn reset_group<P: PositionType>(id: CaptureGroupID, mut state: State<P>) -> NextStates<P>
-    requires executable { IsNotStuck (reset_capture_group_effect id (state_of P.offset state)) }
+    requires executable { IsNotStuck (reset_capture_group_effect id (machine_state_of P.offset state)) }
     requires within { state.ip + 1 < 2 ^ 64 }
-    ensures { effect_of_next_states P.offset result ≡ reset_capture_group_effect id (state_of P.offset state) }
+    ensures { effect_of_next_states P.offset result ≡ reset_capture_group_effect id (machine_state_of P.offset state) }
 {
     state.ip += 1;
     state.groups[id as usize] = None;
@@ -230,11 +239,11 @@ fn execute_backref<Input: InputIndexer, Dir: Direction>(
         (spec_sameness_of same) group state }
 {
     let range = state.groups[group as usize];
-    match_range_again(range, same, searched, dir, state)
+    read_range_again(range, same, searched, dir, state)
 }
 
 // Matches the characters of a range again. If there is no range, it matches the empty string.
-fn match_range_again<Input: InputIndexer, Dir: Direction>(
+fn read_range_again<Input: InputIndexer, Dir: Direction>(
     range: Option<(Input::Position, Input::Position)>,
     same: Sameness,
     searched: &ProgramAndInput<'_, Input>,
@@ -252,7 +261,7 @@ fn match_range_again<Input: InputIndexer, Dir: Direction>(
         state.ip += 1;
         return NextStates::Continue(state);
     };
-    if backref_matches(span.0, span.1, same, &searched.input, dir, &mut state.pos) {
+    if read_backref_text(span.0, span.1, same, &searched.input, dir, &mut state.pos) {
         state.ip += 1;
         NextStates::Continue(state)
     } else {
@@ -264,17 +273,17 @@ fn match_range_again<Input: InputIndexer, Dir: Direction>(
 
 // Executes the start of a loop before iteration `k`: enters the iteration, exits the loop, or forks
 // to both.
-fn begin_iteration<P: PositionType>(
+fn execute_loop_start<P: PositionType>(
     fields: LoopFields,
     begin: usize,
     k: usize,
     mut state: State<P>,
 ) -> Result<NextStates<P>, AllocError>
     requires executable { IsNotStuck (iterate_or_leave_at_loop_head (loop_fields_as_spec fields) begin k
-        (state_of P.offset state)) }
+        (machine_state_of P.offset state)) }
     requires within { begin + 1 < 2 ^ 64 }
     ensures { IfOk result (λ t. effect_of_next_states P.offset t
-        ≡ iterate_or_leave_at_loop_head (loop_fields_as_spec fields) begin k (state_of P.offset state)) }
+        ≡ iterate_or_leave_at_loop_head (loop_fields_as_spec fields) begin k (machine_state_of P.offset state)) }
 {
     let may_leave = fields.min_iters <= k;
     if k >= fields.max_iters {
@@ -286,11 +295,11 @@ fn begin_iteration<P: PositionType>(
         });
     }
     if !may_leave {
-        return Ok(NextStates::Continue(enter_iteration(fields.loop_id, begin, k, state)));
+        return Ok(NextStates::Continue(state_at_iteration_start(fields.loop_id, begin, k, state)));
     }
     let mut leaving = copy_state(&state)?;
     leaving.ip = fields.exit as usize;
-    let again = enter_iteration(fields.loop_id, begin, k, state);
+    let again = state_at_iteration_start(fields.loop_id, begin, k, state);
     if fields.greedy {
         Ok(NextStates::Fork(again, leaving))
     } else {
@@ -299,7 +308,7 @@ fn begin_iteration<P: PositionType>(
 }
 
 // Returns the state at the start of iteration `k`.
-fn enter_iteration<P: PositionType>(
+fn state_at_iteration_start<P: PositionType>(
     id: LoopID,
     begin: usize,
     k: usize,
@@ -307,7 +316,7 @@ fn enter_iteration<P: PositionType>(
 ) -> State<P>
     requires known { id < length state.loops.items }
     requires within { begin + 1 < 2 ^ 64 }
-    ensures { state_of P.offset result ≡ body_entered_with_iteration_count id begin k (state_of P.offset state) }
+    ensures { machine_state_of P.offset result ≡ body_entered_with_iteration_count id begin k (machine_state_of P.offset state) }
 {
     state.ip = begin + 1;
     state.loops[id as usize] = LoopData {
@@ -318,22 +327,22 @@ fn enter_iteration<P: PositionType>(
 }
 
 // Executes the end of an iteration. `head` is the first instruction of the loop.
-fn end_body<P: PositionType>(
+fn execute_loop_end<P: PositionType>(
     head: Insn,
     begin: usize,
     state: State<P>,
 ) -> Result<NextStates<P>, AllocError>
     requires executable { IsNotStuck (loop_again_effect (Some (insn_as_spec_insn head)) begin
-        (state_of P.offset state)) }
+        (machine_state_of P.offset state)) }
     requires within { begin + 1 < 2 ^ 64 }
     ensures { IfOk result (λ t. effect_of_next_states P.offset t
-        ≡ loop_again_effect (Some (insn_as_spec_insn head)) begin (state_of P.offset state)) }
+        ≡ loop_again_effect (Some (insn_as_spec_insn head)) begin (machine_state_of P.offset state)) }
 {
     match head {
         Insn::EnterLoop { .. } => {
             let fields = head.loop_fields();
             let last = state.loops[fields.loop_id as usize];
-            end_iteration(fields, begin, last, state)
+            execute_loop_end_with_data(fields, begin, last, state)
         }
         _ => unreachable!(),
     }
@@ -341,22 +350,22 @@ fn end_body<P: PositionType>(
 
 // Executes the end of an iteration, given the loop's data `last`. If the iteration is empty and
 // past the minimum, the thread fails.
-fn end_iteration<P: PositionType>(
+fn execute_loop_end_with_data<P: PositionType>(
     fields: LoopFields,
     begin: usize,
     last: LoopData<P>,
     state: State<P>,
 ) -> Result<NextStates<P>, AllocError>
     requires executable { IsNotStuck
-        (effect_at_iteration_end (loop_fields_as_spec fields) begin (loop_of P.offset last) (state_of P.offset state)) }
+        (effect_at_iteration_end (loop_fields_as_spec fields) begin (loop_data_in_offsets P.offset last) (machine_state_of P.offset state)) }
     requires within { begin + 1 < 2 ^ 64 }
     ensures { IfOk result (λ t. effect_of_next_states P.offset t
-        ≡ effect_at_iteration_end (loop_fields_as_spec fields) begin (loop_of P.offset last)
-        (state_of P.offset state)) }
+        ≡ effect_at_iteration_end (loop_fields_as_spec fields) begin (loop_data_in_offsets P.offset last)
+        (machine_state_of P.offset state)) }
 {
     if last.entry == state.pos && fields.min_iters < last.iters + 1 {
         Ok(NextStates::Dead)
     } else {
-        begin_iteration(fields, begin, last.iters + 1, state)
+        execute_loop_start(fields, begin, last.iters + 1, state)
     }
 }

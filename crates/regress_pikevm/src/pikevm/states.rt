@@ -5,7 +5,7 @@ ghost use Rattle.std.specs.Option.{option_to_list};
 ghost use Rattle.regex_pattern_front.specs.AstToSpecTree.{tree_of};
 ghost use Rattle.regress_program.specs.CompilationOfTreesAsFunction.{compiled};
 ghost use Rattle.regress_machine.specs.{Machine.{after_lookaround}, SearchFindsFirstOutcomeAtPlace.{state_before_first_insn}};
-ghost use Rattle.regress_pikevm.specs.States.{state_of, current_thread_if_any};
+ghost use Rattle.regress_pikevm.specs.States.{machine_state_of, current_thread_if_any};
 
 use regress_input::position::PositionType;
 use regress_program::insn::Program;
@@ -53,7 +53,7 @@ pub enum NextStates<P> {
 
 /// Copies a state.
 pub(crate) fn copy_state<P: PositionType>(state: &State<P>) -> Result<State<P>, AllocError>
-    ensures { IfOk result (λ s. state_of P.offset s ≡ state_of P.offset state.now) }
+    ensures { IfOk result (λ s. machine_state_of P.offset s ≡ machine_state_of P.offset state.now) }
 {
     Ok(State {
         ip: state.ip,
@@ -77,7 +77,7 @@ fn copies<T: Copy>(alloc: Global, value: T, count: usize) -> Result<Vec<T>, Allo
 
 /// Returns the state before the first instruction.
 pub fn initial_state<P: PositionType>(program: &Program, pos: P) -> Result<State<P>, AllocError>
-    ensures { IfOk result (λ s. state_of P.offset s
+    ensures { IfOk result (λ s. machine_state_of P.offset s
         ≡ state_before_first_insn (compiled (tree_of program.now)) (P.offset pos)) }
 {
     let alloc = program.allocator();
@@ -108,7 +108,7 @@ pub(crate) fn resume_after_lookaround<P: PositionType>(
     found: Option<State<P>>,
 ) -> Option<State<P>>
     ensures { current_thread_if_any P.offset result
-        ≡ after_lookaround negate (state_of P.offset after) (option_map (λ s. state_of P.offset s) found) }
+        ≡ after_lookaround negate (machine_state_of P.offset after) (option_map (λ s. machine_state_of P.offset s) found) }
 {
     match found {
         Some(mut inner) => {

@@ -45,6 +45,7 @@ impl Emitter {
         Ok(())
     }
 
+    // Emits the chunk with this number: at most 16 bytes.
     fn emit_chunk(&mut self, bytes: &[u8], chunk: usize) -> Result<(), AllocError>
         requires { chunk * 16 < length bytes.now }
         ensures { OnOk result (emitter_state self.new
@@ -97,6 +98,7 @@ impl Emitter {
         Ok(())
     }
 
+    // Emits one character of a string or, with `icase`, the set of its case variants.
     fn emit_spellings(&mut self, mode: EmitMode, icase: bool, c: u32) -> Result<(), AllocError>
         ensures { OnOk result (emitter_state self.new
             ≡ with_insn_appended (layout.case_variants_insn (expansion c icase mode.unicode))

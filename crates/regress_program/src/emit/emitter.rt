@@ -1,11 +1,11 @@
 //! The emitter, which appends the code of nodes to the code emitted so far.
-#![tactic(auto, using(std::proofs::lemmas::Grind::common_steps), unfolding(regex_pattern_front::specs::AstToSpecTree::node_of, crate::specs::CompilationOfTreesAsFunction::code_of, crate::specs::EmitterStateAndAppendedCode::node_with_char_loops_if_enabled, crate::specs::CompilationOfTreesAsFunction::loop_count, crate::specs::CompilationOfTreesAsFunction::brackets_of, crate::specs::CompilationOfTreesAsFunction::node_insn_count))]
+#![tactic(auto, using(std::proofs::lemmas::Grind::common_steps), unfolding(regex_pattern_front::specs::AstToSpecTree::spec_node_of, crate::specs::CompilationOfTreesAsFunction::code_of, crate::specs::EmitterStateAndAppendedCode::node_with_char_loops_if_enabled, crate::specs::CompilationOfTreesAsFunction::loop_count, crate::specs::CompilationOfTreesAsFunction::brackets_of, crate::specs::CompilationOfTreesAsFunction::node_insn_count))]
 
 ghost use Rattle.std.specs.Prelude.{◌≡◌, ◌&&◌, ◌+◌, ◌-◌, ◌<◌, ◌^◌, true, length, map, IfOk, OnOk, IsTrue, if◌then◌else◌};
 ghost use Rattle.regex_meaning.specs.{Tree.{every_node_passes}, WellFormedTrees.{set_sizes_and_characters_fit_instructions}};
 ghost use Rattle.regex_meaning.specs.CompilationRelation.{EnterLoop, lookaround_insn};
 ghost use Rattle.regex_pattern_front.specs.OptimizedTrees.{reads_one_character as is_one_character};
-ghost use Rattle.regex_pattern_front.specs.AstToSpecTree.{class_as_spec, node_of};
+ghost use Rattle.regex_pattern_front.specs.AstToSpecTree.{class_as_spec, spec_node_of};
 ghost use Rattle.regress_program.specs.InsnsAsSpec.{loop_fields_as_spec};
 ghost use Rattle.regress_program.specs.{InsnsAsSpec.{insn_as_spec_insn}, CompilationOfTreesAsFunction.{group_reset_insns}};
 ghost use Rattle.regress_program.specs.LeafNodesAndOptimizableLoops.{is_leaf};
@@ -48,7 +48,7 @@ impl EmitMode {
 
     // Checks whether a loop over this node is to become a char loop.
     pub(crate) fn should_become_char_loop(self, loopee: &Node) -> bool
-        ensures { result ≡ (self.narrow && is_one_character (node_of loopee.now)) }
+        ensures { result ≡ (self.narrow && is_one_character (spec_node_of loopee.now)) }
     {
         self.narrow && reads_one_character(loopee)
     }
@@ -152,10 +152,10 @@ impl Emitter {
 
     // Emits the code of a leaf, a node without child nodes.
     pub(crate) fn emit_leaf(&mut self, mode: EmitMode, node: &Node) -> Result<(), AllocError>
-        requires leaf { is_leaf (node_of node.now) ≡ true }
-        requires sets { IsTrue (every_node_passes set_sizes_and_characters_fit_instructions (node_of node.now)) }
-        requires room { HasIndexRoomForNode (emitter_state self.old) (node_of node.now) }
-        ensures { OnOk result (IsEmitted mode (node_of node.now) self.old self.new) }
+        requires leaf { is_leaf (spec_node_of node.now) ≡ true }
+        requires sets { IsTrue (every_node_passes set_sizes_and_characters_fit_instructions (spec_node_of node.now)) }
+        requires room { HasIndexRoomForNode (emitter_state self.old) (spec_node_of node.now) }
+        ensures { OnOk result (IsEmitted mode (spec_node_of node.now) self.old self.new) }
     {
         match node {
             Node::Empty => Ok(()),

@@ -1,11 +1,11 @@
 //! Checks of group ids: each id occurs once, and the ranges of loops and lookarounds contain
 //! exactly the groups inside them.
-#![tactic(auto, unfolding(regex_pattern_front::specs::AstToSpecTree::node_of, crate::specs::GroupIdCheck::are_distinct_unseen, crate::specs::GroupIdCheck::least_group_id, crate::specs::GroupIdCheck::id_end, crate::specs::InnerNodeCountMeasure::inner_node_count))]
+#![tactic(auto, unfolding(regex_pattern_front::specs::AstToSpecTree::spec_node_of, crate::specs::GroupIdCheck::are_distinct_unseen, crate::specs::GroupIdCheck::least_group_id, crate::specs::GroupIdCheck::end_of_group_ids, crate::specs::InnerNodeCountMeasure::inner_node_count))]
 
 ghost use Rattle.std.specs.Prelude.{◌≡◌, is_some, IfSome, ◌≤◌, ◌<◌, ◌^◌, ◌&&◌, ◌||◌, ◌+◌, ◌-◌, ◌∷◌, [], not, ◌==◌, ℕ, false, length, IsTrue, nat_le};
 ghost use Rattle.regex_meaning.specs.{Tree.{alt, group_ids, every_node_passes}, WellFormedTrees.{has_exact_group_range}};
-ghost use Rattle.regex_pattern_front.specs.AstToSpecTree.{node_of};
-ghost use Rattle.regress_program.specs.LeafNodesAndOptimizableLoops.{cat_of};
+ghost use Rattle.regex_pattern_front.specs.AstToSpecTree.{spec_node_of};
+ghost use Rattle.regress_program.specs.LeafNodesAndOptimizableLoops.{spec_cat_of_children};
 ghost use Rattle.regress_program.specs.GroupIdCheck.{is_group_id_seen, are_distinct_unseen, has_exact_group_ids};
 ghost use Rattle.regress_program.specs.GroupIdCheck.{node_fills_id_range, count_and_span_of_group_ids, MarksGroupIdsSeen};
 ghost use Rattle.regress_program.specs.GroupIdCheck.{joined as joined_spans};
@@ -68,21 +68,21 @@ impl GroupIdCountAndBounds {
 }
 
 /// The number of words in a bitmap with a bit for each possible id.
-const ALL: usize = 1024;
+const BITMAP_WORDS: usize = 1024;
 
 /// The number of words in the bitmap that is tried first. For a short pattern, clearing a bit for
 /// each possible id takes longer than all other work.
-const FEW: usize = 4;
+const SMALL_BITMAP_WORDS: usize = 4;
 
 /// Returns the span of the ids inside a node. Returns `None` if an id occurs twice, or if the range
 /// of a loop or a lookaround is not exactly that of the groups inside it.
 pub(crate) fn group_id_span_if_ids_valid(root: &Node) -> Option<GroupIdCountAndBounds>
-    ensures in_text { is_some result ≡ has_exact_group_ids (λ k. false) (node_of root.now) }
+    ensures in_text { is_some result ≡ has_exact_group_ids (λ k. false) (spec_node_of root.now) }
     ensures span { IfSome result (λ span. group_id_span_as_numbers span ≡ count_and_span_of_group_ids
-        (group_ids (node_of root.now))) }
+        (group_ids (spec_node_of root.now))) }
     ensures high { IfSome result (λ span. span.high ≤ 65536) }
 {
-    let mut bits = [0; FEW];
+    let mut bits = [0; SMALL_BITMAP_WORDS];
     match span_in(&mut bits, root) {
         Some(span) => Some(span),
         None => span_of_many(root),
@@ -93,12 +93,12 @@ pub(crate) fn group_id_span_if_ids_valid(root: &Node) -> Option<GroupIdCountAndB
 // bitmap does not decide. It is a separate function because each call clears a bit for each id.
 #[inline(never)]
 fn span_of_many(root: &Node) -> Option<GroupIdCountAndBounds>
-    ensures in_text { is_some result ≡ has_exact_group_ids (λ k. false) (node_of root.now) }
+    ensures in_text { is_some result ≡ has_exact_group_ids (λ k. false) (spec_node_of root.now) }
     ensures span { IfSome result (λ span. group_id_span_as_numbers span ≡ count_and_span_of_group_ids
-        (group_ids (node_of root.now))) }
+        (group_ids (spec_node_of root.now))) }
     ensures high { IfSome result (λ span. span.high ≤ 65536) }
 {
-    let mut bits = [0; ALL];
+    let mut bits = [0; BITMAP_WORDS];
     span_in(&mut bits, root)
 }
 
@@ -106,9 +106,9 @@ fn span_of_many(root: &Node) -> Option<GroupIdCountAndBounds>
 // twice, or if the range of a loop or a lookaround is not exactly that of the groups inside it. If
 // the bitmap does not have a bit for each possible id, the ids without a bit count as set.
 fn span_in(bits: &mut [u64], root: &Node) -> Option<GroupIdCountAndBounds>
-    ensures in_text { is_some result ≡ has_exact_group_ids (is_group_id_seen bits.old) (node_of root.now) }
+    ensures in_text { is_some result ≡ has_exact_group_ids (is_group_id_seen bits.old) (spec_node_of root.now) }
     ensures span { IfSome result (λ span. group_id_span_as_numbers span ≡ count_and_span_of_group_ids
-        (group_ids (node_of root.now))) }
+        (group_ids (spec_node_of root.now))) }
     ensures high { IfSome result (λ span. span.high ≤ 65536) }
 {
     let mut ids = GroupIdSpanDuringCheck {
@@ -157,10 +157,10 @@ impl GroupIdSpanDuringCheck {
     #[cycle(check_ids)]
     #[inline(never)]
     fn check_ids(&mut self, bits: &mut [u64], root: &Node) -> bool
-        ensures found { result ≡ has_exact_group_ids (is_group_id_seen bits.old) (node_of root.now) }
+        ensures found { result ≡ has_exact_group_ids (is_group_id_seen bits.old) (spec_node_of root.now) }
         ensures span { IsTrue result
-            → JoinsGroupIdSpan (group_ids (node_of root.now)) self.old.inside self.new.inside }
-        ensures seen { IsTrue result → MarksGroupIdsSeen (group_ids (node_of root.now)) bits.old bits.new }
+            → JoinsGroupIdSpan (group_ids (spec_node_of root.now)) self.old.inside self.new.inside }
+        ensures seen { IsTrue result → MarksGroupIdsSeen (group_ids (spec_node_of root.now)) bits.old bits.new }
     {
         self.check_ids_along(bits, root)
     }
@@ -172,10 +172,10 @@ impl GroupIdSpanDuringCheck {
     #[cycle(check_ids)]
     #[inline(always)]
     fn check_ids_along(&mut self, bits: &mut [u64], root: &Node) -> bool
-        ensures found { result ≡ has_exact_group_ids (is_group_id_seen bits.old) (node_of root.now) }
+        ensures found { result ≡ has_exact_group_ids (is_group_id_seen bits.old) (spec_node_of root.now) }
         ensures span { IsTrue result
-            → JoinsGroupIdSpan (group_ids (node_of root.now)) self.old.inside self.new.inside }
-        ensures seen { IsTrue result → MarksGroupIdsSeen (group_ids (node_of root.now)) bits.old bits.new }
+            → JoinsGroupIdSpan (group_ids (spec_node_of root.now)) self.old.inside self.new.inside }
+        ensures seen { IsTrue result → MarksGroupIdsSeen (group_ids (spec_node_of root.now)) bits.old bits.new }
     {
         let mut rest = root;
         loop {
@@ -219,10 +219,10 @@ impl GroupIdSpanDuringCheck {
     #[cycle(check_ids)]
     #[inline(always)]
     fn check_arm_ids(&mut self, bits: &mut [u64], arm: &Node) -> bool
-        ensures found { result ≡ has_exact_group_ids (is_group_id_seen bits.old) (node_of arm.now) }
+        ensures found { result ≡ has_exact_group_ids (is_group_id_seen bits.old) (spec_node_of arm.now) }
         ensures span { IsTrue result
-            → JoinsGroupIdSpan (group_ids (node_of arm.now)) self.old.inside self.new.inside }
-        ensures seen { IsTrue result → MarksGroupIdsSeen (group_ids (node_of arm.now)) bits.old bits.new }
+            → JoinsGroupIdSpan (group_ids (spec_node_of arm.now)) self.old.inside self.new.inside }
+        ensures seen { IsTrue result → MarksGroupIdsSeen (group_ids (spec_node_of arm.now)) bits.old bits.new }
     {
         match arm {
             Node::Cat(nodes) => self.check_list_ids(bits, nodes),
@@ -234,10 +234,10 @@ impl GroupIdSpanDuringCheck {
     #[cycle(check_ids)]
     #[inline(always)]
     fn check_part_ids(&mut self, bits: &mut [u64], node: &Node) -> bool
-        ensures found { result ≡ has_exact_group_ids (is_group_id_seen bits.old) (node_of node.now) }
+        ensures found { result ≡ has_exact_group_ids (is_group_id_seen bits.old) (spec_node_of node.now) }
         ensures span { IsTrue result
-            → JoinsGroupIdSpan (group_ids (node_of node.now)) self.old.inside self.new.inside }
-        ensures seen { IsTrue result → MarksGroupIdsSeen (group_ids (node_of node.now)) bits.old bits.new }
+            → JoinsGroupIdSpan (group_ids (spec_node_of node.now)) self.old.inside self.new.inside }
+        ensures seen { IsTrue result → MarksGroupIdsSeen (group_ids (spec_node_of node.now)) bits.old bits.new }
     {
         match node {
             Node::LookaroundAssertion {
@@ -258,10 +258,10 @@ impl GroupIdSpanDuringCheck {
     #[cycle(check_ids)]
     #[inline(always)]
     fn check_list_ids(&mut self, bits: &mut [u64], nodes: &[Node]) -> bool
-        ensures found { result ≡ has_exact_group_ids (is_group_id_seen bits.old) (cat_of nodes.now) }
+        ensures found { result ≡ has_exact_group_ids (is_group_id_seen bits.old) (spec_cat_of_children nodes.now) }
         ensures span { IsTrue result
-            → JoinsGroupIdSpan (group_ids (cat_of nodes.now)) self.old.inside self.new.inside }
-        ensures seen { IsTrue result → MarksGroupIdsSeen (group_ids (cat_of nodes.now)) bits.old bits.new }
+            → JoinsGroupIdSpan (group_ids (spec_cat_of_children nodes.now)) self.old.inside self.new.inside }
+        ensures seen { IsTrue result → MarksGroupIdsSeen (group_ids (spec_cat_of_children nodes.now)) bits.old bits.new }
     {
         for node in nodes {
             if !self.check_part_ids(bits, node) {
@@ -281,11 +281,11 @@ impl GroupIdSpanDuringCheck {
         end: CaptureGroupID,
         contents: &Node,
     ) -> bool
-        ensures found { result ≡ node_fills_id_range (is_group_id_seen bits.old) start end (node_of contents.now) }
+        ensures found { result ≡ node_fills_id_range (is_group_id_seen bits.old) start end (spec_node_of contents.now) }
         ensures span { IsTrue result
-            → JoinsGroupIdSpan (group_ids (node_of contents.now)) self.old.inside self.new.inside }
+            → JoinsGroupIdSpan (group_ids (spec_node_of contents.now)) self.old.inside self.new.inside }
         ensures seen { IsTrue result
-            → MarksGroupIdsSeen (group_ids (node_of contents.now)) bits.old bits.new }
+            → MarksGroupIdsSeen (group_ids (spec_node_of contents.now)) bits.old bits.new }
     {
         let before = self.inside;
         self.inside = GroupIdCountAndBounds::NONE;

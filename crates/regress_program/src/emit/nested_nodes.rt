@@ -1,11 +1,11 @@
 //! Emits nested nodes. Pending parts are on the heap, so nested nodes need no stack.
-#![tactic(auto, using(std::proofs::lemmas::Grind::common_steps), unfolding(regex_pattern_front::specs::AstToSpecTree::node_of, crate::specs::EmitterStateAndAppendedCode::node_with_char_loops_if_enabled))]
+#![tactic(auto, using(std::proofs::lemmas::Grind::common_steps), unfolding(regex_pattern_front::specs::AstToSpecTree::spec_node_of, crate::specs::EmitterStateAndAppendedCode::node_with_char_loops_if_enabled))]
 
 ghost use Rattle.std.specs.Prelude.{◌≡◌, ◌+◌, ◌<◌, ◌^◌, [], length, not, OnOk, IsTrue};
 ghost use Rattle.regex_meaning.specs.Tree.{alt, capture_group, lookaround, loop as loop_of, loop_1_char_body, every_node_passes};
 ghost use Rattle.regex_meaning.specs.WellFormedTrees.{set_sizes_and_characters_fit_instructions};
-ghost use Rattle.regex_pattern_front.specs.AstToSpecTree.{node_of, spec_quantifier_of};
-ghost use Rattle.regress_program.specs.LeafNodesAndOptimizableLoops.{cat_of, is_leaf};
+ghost use Rattle.regex_pattern_front.specs.AstToSpecTree.{spec_node_of, spec_quantifier_of};
+ghost use Rattle.regress_program.specs.LeafNodesAndOptimizableLoops.{spec_cat_of_children, is_leaf};
 ghost use Rattle.regress_program.specs.EmitterStateAndAppendedCode.{HasIndexRoomForNode, node_with_char_loops_if_enabled, node_to_emit_in_mode, emitter_state, IsEmitted};
 ghost use Rattle.regress_program.specs.EmitterStateAndAppendedCode.{lookaround_as_spec};
 ghost use Rattle.regress_program.specs.PendingEmission.{CanEmitPendingPart, FitsIndexWidths, PendingPartIsEmittedOrBegun, BeginsEmittingNode};
@@ -21,7 +21,7 @@ use std::alloc::AllocError;
 use std::ops::Range;
 
 // The initial capacity of the stack of pending parts.
-const FEW: usize = 16;
+const INITIAL_CAPACITY: usize = 16;
 
 // A part of the code that is still to be emitted.
 #[derive(Clone, Copy)]
@@ -45,11 +45,11 @@ pub(crate) enum UnemittedCodePart<'a> {
 impl Emitter {
     // Appends the code of a node.
     pub(crate) fn emit(&mut self, mode: EmitMode, node: &Node) -> Result<(), AllocError>
-        requires sets { IsTrue (every_node_passes set_sizes_and_characters_fit_instructions (node_of node.now)) }
+        requires sets { IsTrue (every_node_passes set_sizes_and_characters_fit_instructions (spec_node_of node.now)) }
         requires room { HasIndexRoomForNode (emitter_state self.old) (node_to_emit_in_mode mode node.now) }
         ensures { OnOk result (IsEmitted mode (node_to_emit_in_mode mode node.now) self.old self.new) }
     {
-        let mut rest = Vec::with_capacity(*self.insns.allocator(), FEW)?;
+        let mut rest = Vec::with_capacity(*self.insns.allocator(), INITIAL_CAPACITY)?;
         rest.push(UnemittedCodePart::Node(mode, node))?;
         while let Some(next) = rest.pop() {
             self.emit_pending(next, &mut rest)?;
@@ -92,7 +92,7 @@ impl Emitter {
         node: &'a Node,
         rest: &mut Vec<UnemittedCodePart<'a>>,
     ) -> Result<(), AllocError>
-        requires sets { IsTrue (every_node_passes set_sizes_and_characters_fit_instructions (node_of node.now)) }
+        requires sets { IsTrue (every_node_passes set_sizes_and_characters_fit_instructions (spec_node_of node.now)) }
         requires room { HasIndexRoomForNode (emitter_state self.old) (node_to_emit_in_mode mode node.now) }
         ensures { OnOk result (BeginsEmittingNode mode (node_to_emit_in_mode mode node.now)
             (emitter_and_pending_parts self.old rest.old) (emitter_and_pending_parts self.new rest.new)) }
@@ -137,9 +137,9 @@ impl Emitter {
         nodes: &'a [Node],
         rest: &mut Vec<UnemittedCodePart<'a>>,
     ) -> Result<(), AllocError>
-        requires sets { IsTrue (every_node_passes set_sizes_and_characters_fit_instructions (cat_of nodes.now)) }
+        requires sets { IsTrue (every_node_passes set_sizes_and_characters_fit_instructions (spec_cat_of_children nodes.now)) }
         requires room { HasIndexRoomForNode (emitter_state self.old) (node_with_char_loops_if_enabled mode.narrow
-            (cat_of nodes.now)) }
+            (spec_cat_of_children nodes.now)) }
         ensures { OnOk result (BeginsEmittingNodeList mode nodes.now (emitter_and_pending_parts self.old rest.old)
             (emitter_and_pending_parts self.new rest.new)) }
     {
@@ -165,8 +165,8 @@ impl Emitter {
         others: &'a Node,
         rest: &mut Vec<UnemittedCodePart<'a>>,
     ) -> Result<(), AllocError>
-        requires first { IsTrue (every_node_passes set_sizes_and_characters_fit_instructions (node_of first.now)) }
-        requires others { IsTrue (every_node_passes set_sizes_and_characters_fit_instructions (node_of others.now)) }
+        requires first { IsTrue (every_node_passes set_sizes_and_characters_fit_instructions (spec_node_of first.now)) }
+        requires others { IsTrue (every_node_passes set_sizes_and_characters_fit_instructions (spec_node_of others.now)) }
         requires room { HasIndexRoomForNode (emitter_state self.old) (alt (node_to_emit_in_mode mode first.now)
             (node_to_emit_in_mode mode others.now)) }
         ensures { OnOk result (BeginsEmittingNode mode (alt (node_to_emit_in_mode mode first.now)
@@ -191,7 +191,7 @@ impl Emitter {
         rest: &mut Vec<UnemittedCodePart<'a>>,
     ) -> Result<(), AllocError>
         requires branch { branch < length (emitter_state self.old).insns }
-        requires sets { IsTrue (every_node_passes set_sizes_and_characters_fit_instructions (node_of others.now)) }
+        requires sets { IsTrue (every_node_passes set_sizes_and_characters_fit_instructions (spec_node_of others.now)) }
         requires room { FitsIndexWidths (with_alternatives_emitted mode.unicode mode.behind branch
             (node_to_emit_in_mode mode others.now) (emitter_state self.old)) }
         ensures { OnOk result (BeginsEmittingAlternatives mode branch (node_to_emit_in_mode mode others.now)
@@ -213,7 +213,7 @@ impl Emitter {
         contents: &'a Node,
         rest: &mut Vec<UnemittedCodePart<'a>>,
     ) -> Result<(), AllocError>
-        requires sets { IsTrue (every_node_passes set_sizes_and_characters_fit_instructions (node_of contents.now)) }
+        requires sets { IsTrue (every_node_passes set_sizes_and_characters_fit_instructions (spec_node_of contents.now)) }
         requires room { HasIndexRoomForNode (emitter_state self.old)
             (capture_group id [] (node_to_emit_in_mode mode contents.now)) }
         ensures { OnOk result (BeginsEmittingNode mode (capture_group id [] (node_to_emit_in_mode mode contents.now))
@@ -234,7 +234,7 @@ impl Emitter {
         contents: &'a Node,
         rest: &mut Vec<UnemittedCodePart<'a>>,
     ) -> Result<(), AllocError>
-        requires sets { IsTrue (every_node_passes set_sizes_and_characters_fit_instructions (node_of contents.now)) }
+        requires sets { IsTrue (every_node_passes set_sizes_and_characters_fit_instructions (spec_node_of contents.now)) }
         requires room { HasIndexRoomForNode (emitter_state self.old) (lookaround (lookaround_as_spec look)
             (node_to_emit_in_mode mode contents.now)) }
         ensures { OnOk result (BeginsEmittingNode mode (lookaround (lookaround_as_spec look)
@@ -274,7 +274,7 @@ impl Emitter {
         loopee: &'a Node,
         rest: &mut Vec<UnemittedCodePart<'a>>,
     ) -> Result<(), AllocError>
-        requires sets { IsTrue (every_node_passes set_sizes_and_characters_fit_instructions (node_of loopee.now)) }
+        requires sets { IsTrue (every_node_passes set_sizes_and_characters_fit_instructions (spec_node_of loopee.now)) }
         requires room { HasIndexRoomForNode (emitter_state self.old) (loop_of (spec_quantifier_of quant.now)
             groups.now.start groups.now.end (node_to_emit_in_mode mode loopee.now)) }
         ensures { OnOk result (BeginsEmittingNode mode (loop_of (spec_quantifier_of quant.now)
@@ -315,7 +315,7 @@ impl Emitter {
         loopee: &'a Node,
         rest: &mut Vec<UnemittedCodePart<'a>>,
     ) -> Result<(), AllocError>
-        requires sets { IsTrue (every_node_passes set_sizes_and_characters_fit_instructions (node_of loopee.now)) }
+        requires sets { IsTrue (every_node_passes set_sizes_and_characters_fit_instructions (spec_node_of loopee.now)) }
         requires room { HasIndexRoomForNode (emitter_state self.old)
             (loop_1_char_body (spec_quantifier_of quant.now) (node_to_emit_in_mode mode loopee.now)) }
         ensures { OnOk result (BeginsEmittingNode mode (loop_1_char_body (spec_quantifier_of quant.now)
@@ -334,7 +334,7 @@ impl Emitter {
 
 // Checks whether a node has children.
 pub(crate) fn has_children(node: &Node) -> bool
-    ensures { result ≡ not (is_leaf (node_of node.now)) }
+    ensures { result ≡ not (is_leaf (spec_node_of node.now)) }
 {
     match node {
         Node::Cat(_) => true,

@@ -1,11 +1,11 @@
 //! Tests for nodes that read bytes, and for loops that optimizing changes.
-#![tactic(auto, unfolding(regex_pattern_front::specs::AstToSpecTree::node_of))]
+#![tactic(auto, unfolding(regex_pattern_front::specs::AstToSpecTree::spec_node_of))]
 
 ghost use Rattle.std.specs.Prelude.{◌≡◌, not, true};
 ghost use Rattle.std.proofs.Common.{refl};
 ghost use Rattle.regex_meaning.specs.CompilationRelation.{is_byte_node, tree_contains_byte_nodes as node_reads_bytes};
 ghost use Rattle.regex_pattern_front.specs.OptimizedTrees.{optimized};
-ghost use Rattle.regex_pattern_front.specs.AstToSpecTree.{node_of};
+ghost use Rattle.regex_pattern_front.specs.AstToSpecTree.{spec_node_of};
 ghost use Rattle.regress_program.specs.{LeafNodesAndOptimizableLoops.{becomes_char_loop}, TryFoldOverTreeNodes.{step_of_test}};
 
 use crate::emit::tree_walk_with_visitor::{PreorderNodeVisitor, walk};
@@ -33,7 +33,7 @@ impl PreorderNodeVisitor for ByteNodeDetector {
 
 // Checks whether the tree contains a byte set or a byte sequence.
 pub(crate) fn tree_contains_byte_nodes(node: &Node) -> bool
-    ensures { result ≡ node_reads_bytes (node_of node.now) }
+    ensures { result ≡ node_reads_bytes (spec_node_of node.now) }
 {
     !walk(&mut ByteNodeDetector, node)
 }
@@ -59,7 +59,7 @@ impl PreorderNodeVisitor for OptimizableLoopDetector {
 
 // Checks that no loop is over a node that reads one character.
 pub(crate) fn has_no_loop_left_to_optimize(node: &Node) -> bool
-    ensures { result ≡ true → optimized (node_of node.now) ≡ node_of node.now }
+    ensures { result ≡ true → optimized (spec_node_of node.now) ≡ spec_node_of node.now }
 {
     walk(&mut OptimizableLoopDetector, node)
 }

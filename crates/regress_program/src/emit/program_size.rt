@@ -1,11 +1,11 @@
 //! Counts the groups, loops and instructions that the program of a tree has.
-#![tactic(auto, unfolding(regex_pattern_front::specs::AstToSpecTree::node_of))]
+#![tactic(auto, unfolding(regex_pattern_front::specs::AstToSpecTree::spec_node_of))]
 
 ghost use Rattle.std.specs.Prelude.{◌≡◌, ◌+◌, ◌-◌, ◌^◌, Some, length, min};
 ghost use Rattle.std.proofs.Common.{refl};
 ghost use Rattle.regex_meaning.specs.Tree.{group_ids};
-ghost use Rattle.regex_pattern_front.specs.AstToSpecTree.{node_of};
-ghost use Rattle.regress_program.specs.{CompilationOfTreesAsFunction.{node_insn_count, own_size as own_size_of, loop_count}, GroupLoopInsnCountsPerNode.{count_node}};
+ghost use Rattle.regex_pattern_front.specs.AstToSpecTree.{spec_node_of};
+ghost use Rattle.regress_program.specs.{CompilationOfTreesAsFunction.{node_insn_count, insn_count_without_children as own_size_of, loop_count}, GroupLoopInsnCountsPerNode.{count_node}};
 
 use crate::emit::byte_sequences_and_string_sets::{chunk_count, insn_count_of_strings};
 use crate::emit::tree_walk_with_visitor::{PreorderNodeVisitor, walk};
@@ -35,11 +35,11 @@ impl ProgramSize {
     // Counts a node and those inside it.
     pub(crate) fn count_node_and_descendants(&mut self, node: &Node)
         ensures groups { min self.new.groups (2 ^ 64 - 1)
-            ≡ min (self.old.groups + length (group_ids (node_of node.now))) (2 ^ 64 - 1) }
+            ≡ min (self.old.groups + length (group_ids (spec_node_of node.now))) (2 ^ 64 - 1) }
         ensures loops { min self.new.loops (2 ^ 64 - 1)
-            ≡ min (self.old.loops + loop_count (node_of node.now)) (2 ^ 64 - 1) }
+            ≡ min (self.old.loops + loop_count (spec_node_of node.now)) (2 ^ 64 - 1) }
         ensures insns { min self.new.insns (2 ^ 64 - 1)
-            ≡ min (self.old.insns + node_insn_count (node_of node.now)) (2 ^ 64 - 1) }
+            ≡ min (self.old.insns + node_insn_count (spec_node_of node.now)) (2 ^ 64 - 1) }
     {
         let _ = walk(self, node);
     }
@@ -67,15 +67,15 @@ impl PreorderNodeVisitor for ProgramSize {
             Node::Loop { .. } => self.loops = self.loops.saturating_add(1),
             _ => {}
         }
-        self.add_insns(own_size(node));
+        self.add_insns(insn_count_without_children(node));
         true
     }
 }
 
 // Returns the number of instructions of a node without those of its children, saturating at
 // `usize::MAX`.
-fn own_size(node: &Node) -> usize
-    ensures { result ≡ min (own_size_of (node_of node.now)) (2 ^ 64 - 1) }
+fn insn_count_without_children(node: &Node) -> usize
+    ensures { result ≡ min (own_size_of (spec_node_of node.now)) (2 ^ 64 - 1) }
 {
     match node {
         Node::Empty => 0,

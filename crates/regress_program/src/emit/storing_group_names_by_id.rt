@@ -1,11 +1,11 @@
 //! Collects the names of groups, indexed by group id.
-#![tactic(auto, unfolding(regex_pattern_front::specs::AstToSpecTree::node_of, crate::specs::InnerNodeCountMeasure::inner_node_count))]
+#![tactic(auto, unfolding(regex_pattern_front::specs::AstToSpecTree::spec_node_of, crate::specs::InnerNodeCountMeasure::inner_node_count))]
 
 ghost use Rattle.std.specs.Prelude.{◌≡◌, ◌+◌, ◌∷◌, ◌++◌, [], length, map, set, replicate, string_bytes, IfOk, OnOk, IsTrue, ◌==◌};
 ghost use Rattle.std.proofs.Common.{refl};
 ghost use Rattle.regex_meaning.specs.{Tree.{group_ids}, WellFormedTrees.{each_id_stands_once}};
 ghost use Rattle.regex_meaning.specs.MatchGroupsByNumberAndName.{capturing_group_ids_and_names, group_names_by_id as names_of_tree};
-ghost use Rattle.regex_pattern_front.specs.AstToSpecTree.{node_of, group_name_bytes};
+ghost use Rattle.regex_pattern_front.specs.AstToSpecTree.{spec_node_of, group_name_bytes};
 ghost use Rattle.regress_program.specs.StoringGroupNamesById.{IsNameListAfterStoringNames, StoresOrPushesNodes, PushesTwoNodes};
 ghost use Rattle.regress_program.specs.StoringGroupNamesById.{PushesNamedNodes, is_nameless, tree_has_no_named_groups as is_node_unnamed, naming_measure_of_node};
 ghost use Rattle.regress_program.specs.StoringGroupNamesById.{naming_measure_of_part};
@@ -19,7 +19,7 @@ use regex_pattern_front::types::CaptureGroupID;
 use std::alloc::{AllocError, Global};
 
 // The initial capacity of the stack of pending parts.
-const FEW: usize = 16;
+const INITIAL_CAPACITY: usize = 16;
 
 // Returns the names of a tree with `groups` groups, by id, with an empty name for a group without
 // one. The list is empty if no group has a name.
@@ -28,9 +28,9 @@ pub(crate) fn names_by_id(
     root: &Node,
     groups: u32,
 ) -> Result<Vec<String>, AllocError>
-    requires once { IsTrue (each_id_stands_once (node_of root.now)) }
-    requires all { groups ≡ length (group_ids (node_of root.now)) }
-    ensures { IfOk result (λ names. map string_bytes names.items ≡ names_of_tree (node_of root.now)) }
+    requires once { IsTrue (each_id_stands_once (spec_node_of root.now)) }
+    requires all { groups ≡ length (group_ids (spec_node_of root.now)) }
+    ensures { IfOk result (λ names. map string_bytes names.items ≡ names_of_tree (spec_node_of root.now)) }
 {
     if tree_has_no_named_groups(root) {
         return Ok(Vec::new(alloc));
@@ -64,9 +64,9 @@ pub(crate) enum NodeOrListWithUnstoredNames<'a> {
 fn store_names(alloc: Global, root: &Node, names: &mut [String]) -> Result<(), AllocError>
     ensures long { length names.new ≡ length names.old }
     ensures with_names_stored_by_id { OnOk result (IsNameListAfterStoringNames (capturing_group_ids_and_names
-        (node_of root.now)) names.old names.new) }
+        (spec_node_of root.now)) names.old names.new) }
 {
-    let mut rest = Vec::with_capacity(alloc, FEW)?;
+    let mut rest = Vec::with_capacity(alloc, INITIAL_CAPACITY)?;
     rest.push(NodeOrListWithUnstoredNames::Node(root))?;
     while let Some(next) = rest.pop() {
         store_pending(alloc, next, names, &mut rest)?;
@@ -100,7 +100,8 @@ fn store_node_names<'a>(
 ) -> Result<(), AllocError>
     ensures long { length names.new ≡ length names.old }
     ensures with_names_stored_by_id { OnOk result (StoresOrPushesNodes (capturing_group_ids_and_names
-        (node_of node.now)) (naming_measure_of_node (node_of node.now)) names.old names.new rest.old.items rest.new.items) }
+        (spec_node_of node.now)) (naming_measure_of_node (spec_node_of node.now)) names.old names.new rest.old.items
+        rest.new.items) }
 {
     match node {
         Node::Cat(nodes) => defer_node_list(nodes, rest),
@@ -122,6 +123,7 @@ fn store_node_names<'a>(
 }
 
 // Pushes two nodes. The first one is handled first.
+// The names that are not stored yet are then those of both nodes and those of the rest.
 fn defer_both<'a>(
     first: &'a Node,
     others: &'a Node,
@@ -145,8 +147,8 @@ fn store_group_name<'a>(
 ) -> Result<(), AllocError>
     ensures long { length names.new ≡ length names.old }
     ensures with_names_stored_by_id { let named = (id, group_name_bytes name.now) ∷ capturing_group_ids_and_names
-        (node_of contents.now) in
-        OnOk result (StoresOrPushesNodes named (naming_measure_of_node (node_of contents.now) + 1)
+        (spec_node_of contents.now) in
+        OnOk result (StoresOrPushesNodes named (naming_measure_of_node (spec_node_of contents.now) + 1)
         names.old names.new rest.old.items rest.new.items) }
 {
     let copy = copy_name(alloc, name)?;
@@ -230,7 +232,7 @@ impl PreorderNodeVisitor for NamedGroupDetector {
 
 // Checks whether no group has a name.
 fn tree_has_no_named_groups(node: &Node) -> bool
-    ensures { result ≡ is_node_unnamed (node_of node.now) }
+    ensures { result ≡ is_node_unnamed (spec_node_of node.now) }
 {
     walk(&mut NamedGroupDetector, node)
 }

@@ -1,10 +1,10 @@
 //! A walk over the nodes of a tree.
-#![tactic(auto, unfolding(regex_pattern_front::specs::AstToSpecTree::node_of, crate::specs::InnerNodeCountMeasure::inner_node_count))]
+#![tactic(auto, unfolding(regex_pattern_front::specs::AstToSpecTree::spec_node_of, crate::specs::InnerNodeCountMeasure::inner_node_count))]
 
 ghost use Rattle.std.specs.Prelude.{◌≡◌, Option, Some, is_some, IsTrue};
 ghost use Rattle.regex_meaning.specs.Tree.{Node as TreeNode, cat, end_of_cat};
-ghost use Rattle.regex_pattern_front.specs.AstToSpecTree.{node_of};
-ghost use Rattle.regress_program.specs.{LeafNodesAndOptimizableLoops.{cat_of}, TryFoldOverTreeNodes.{try_fold_tree_nodes}};
+ghost use Rattle.regex_pattern_front.specs.AstToSpecTree.{spec_node_of};
+ghost use Rattle.regress_program.specs.{LeafNodesAndOptimizableLoops.{spec_cat_of_children}, TryFoldOverTreeNodes.{try_fold_tree_nodes}};
 
 use regex_pattern_front::ir::Node;
 
@@ -15,8 +15,8 @@ pub(crate) trait PreorderNodeVisitor {
 
     // Visits a node. Returns whether the walk continues.
     fn visit_node_or_stop_walk(&mut self, node: &Node) -> bool
-        ensures goes_on { result ≡ is_some (step (node_of node.now) self.old) }
-        ensures step { IsTrue result → step (node_of node.now) self.old ≡ Some self.new };
+        ensures goes_on { result ≡ is_some (step (spec_node_of node.now) self.old) }
+        ensures step { IsTrue result → step (spec_node_of node.now) self.old ≡ Some self.new };
 
     // Visiting a list itself changes nothing, only its nodes do.
     ghost passes_rows: { (first rest : TreeNode) (it : Self) → step (cat first rest) it ≡ Some it };
@@ -29,8 +29,8 @@ pub(crate) trait PreorderNodeVisitor {
 // alternatives nor nested groups need stack.
 #[cycle(walk)]
 pub(crate) fn walk<V: PreorderNodeVisitor>(visitor: &mut V, root: &Node) -> bool
-    ensures goes_on { result ≡ is_some (try_fold_tree_nodes V.step (node_of root.now) visitor.old) }
-    ensures walked { IsTrue result → try_fold_tree_nodes V.step (node_of root.now) visitor.old ≡ Some visitor.new }
+    ensures goes_on { result ≡ is_some (try_fold_tree_nodes V.step (spec_node_of root.now) visitor.old) }
+    ensures walked { IsTrue result → try_fold_tree_nodes V.step (spec_node_of root.now) visitor.old ≡ Some visitor.new }
 {
     let mut rest = root;
     while visitor.visit_node_or_stop_walk(rest) {
@@ -57,8 +57,8 @@ pub(crate) fn walk<V: PreorderNodeVisitor>(visitor: &mut V, root: &Node) -> bool
 #[cycle(walk)]
 #[inline(always)]
 fn walk_arm<V: PreorderNodeVisitor>(visitor: &mut V, arm: &Node) -> bool
-    ensures goes_on { result ≡ is_some (try_fold_tree_nodes V.step (node_of arm.now) visitor.old) }
-    ensures walked { IsTrue result → try_fold_tree_nodes V.step (node_of arm.now) visitor.old ≡ Some visitor.new }
+    ensures goes_on { result ≡ is_some (try_fold_tree_nodes V.step (spec_node_of arm.now) visitor.old) }
+    ensures walked { IsTrue result → try_fold_tree_nodes V.step (spec_node_of arm.now) visitor.old ≡ Some visitor.new }
 {
     match arm {
         Node::Cat(nodes) => walk_row(visitor, nodes),
@@ -69,8 +69,8 @@ fn walk_arm<V: PreorderNodeVisitor>(visitor: &mut V, arm: &Node) -> bool
 #[cycle(walk)]
 #[inline(always)]
 fn walk_row<V: PreorderNodeVisitor>(visitor: &mut V, nodes: &[Node]) -> bool
-    ensures goes_on { result ≡ is_some (try_fold_tree_nodes V.step (cat_of nodes.now) visitor.old) }
-    ensures walked { IsTrue result → try_fold_tree_nodes V.step (cat_of nodes.now) visitor.old ≡ Some visitor.new }
+    ensures goes_on { result ≡ is_some (try_fold_tree_nodes V.step (spec_cat_of_children nodes.now) visitor.old) }
+    ensures walked { IsTrue result → try_fold_tree_nodes V.step (spec_cat_of_children nodes.now) visitor.old ≡ Some visitor.new }
 {
     for node in nodes {
         if !walk(visitor, node) {

@@ -1,11 +1,11 @@
 //! The check of whether a tree can be compiled.
-#![tactic(auto, unfolding(regex_pattern_front::specs::AstToSpecTree::node_of))]
+#![tactic(auto, unfolding(regex_pattern_front::specs::AstToSpecTree::spec_node_of))]
 
 ghost use Rattle.std.specs.Prelude.{◌≡◌, ◌+◌, ◌≤◌, ◌↔◌, ◌==◌, nat_le, nat_lt, ◌&&◌, min, length, IsTrue};
 ghost use Rattle.std.proofs.Common.{refl};
 ghost use Rattle.std.specs.List.{list_all};
 ghost use Rattle.std.specs.Str.{is_utf8, chars, continuation_len};
-ghost use Rattle.regex_pattern_front.specs.AstToSpecTree.{node_of, spec_quantifier_of};
+ghost use Rattle.regex_pattern_front.specs.AstToSpecTree.{spec_node_of, spec_quantifier_of};
 ghost use Rattle.regex_meaning.specs.Tree.{every_node_passes};
 ghost use Rattle.regex_meaning.specs.WellFormedTrees.{number_of_goal_nodes, ends_in_goal, only_goal_node_is_last, IsWellFormed};
 ghost use Rattle.regex_meaning.specs.WellFormedTrees.{is_one_character as is_one_character_node};
@@ -29,13 +29,13 @@ use regex_pattern_front::ir::{Node, Quantifier};
 /// - each byte sequence is UTF-8 and not empty;
 /// - sets hold at most four members, byte sets only bytes below 128, and strings only code points.
 pub fn is_well_formed(re: &ir::Regex) -> bool
-    ensures { IsTrue result ↔ IsWellFormed (node_of re.now.node) }
+    ensures { IsTrue result ↔ IsWellFormed (spec_node_of re.now.node) }
 {
     is_root_well_formed(&re.node)
 }
 
 fn is_root_well_formed(root: &Node) -> bool
-    ensures { IsTrue result ↔ IsWellFormed (node_of root.now) }
+    ensures { IsTrue result ↔ IsWellFormed (spec_node_of root.now) }
 {
     if !is_goal_last(root) {
         return false;
@@ -51,7 +51,7 @@ fn is_root_well_formed(root: &Node) -> bool
 
 // Checks whether there is exactly one `Goal`, and it is last.
 fn is_goal_last(root: &Node) -> bool
-    ensures { result ≡ only_goal_node_is_last (node_of root.now) }
+    ensures { result ≡ only_goal_node_is_last (spec_node_of root.now) }
 {
     has_one_goal(root) && is_goal_at_end(root)
 }
@@ -83,7 +83,7 @@ impl PreorderNodeVisitor for SecondGoalNodeDetector {
 
 // Checks whether there is exactly one `Goal`.
 fn has_one_goal(root: &Node) -> bool
-    ensures { result ≡ (number_of_goal_nodes (node_of root.now) == 1) }
+    ensures { result ≡ (number_of_goal_nodes (spec_node_of root.now) == 1) }
 {
     let mut goals = SecondGoalNodeDetector { found: false };
     walk(&mut goals, root) && goals.found
@@ -91,7 +91,7 @@ fn has_one_goal(root: &Node) -> bool
 
 // Checks whether the node is `Goal`, or a `Cat` whose last child recursively ends in `Goal`.
 fn is_goal_at_end(node: &Node) -> bool
-    ensures { result ≡ ends_in_goal (node_of node.now) }
+    ensures { result ≡ ends_in_goal (spec_node_of node.now) }
 {
     let mut rest = node;
     loop {
@@ -140,7 +140,7 @@ impl PreorderNodeVisitor for WellFormedNodeCheck {
 // Checks whether the node and each node inside it are well formed by themselves. `groups` is the
 // number of groups.
 fn has_well_formed_nodes(node: &Node, groups: usize) -> bool
-    ensures { result ≡ every_node_passes (is_node_sound groups) (node_of node.now) }
+    ensures { result ≡ every_node_passes (is_node_sound groups) (spec_node_of node.now) }
 {
     walk(&mut WellFormedNodeCheck { groups }, node)
 }
@@ -189,7 +189,7 @@ fn is_min_at_most_max(quant: &Quantifier) -> bool
 
 // Checks whether the node reads exactly one character.
 fn is_one_character(node: &Node) -> bool
-    ensures { result ≡ is_one_character_node (node_of node.now) }
+    ensures { result ≡ is_one_character_node (spec_node_of node.now) }
 {
     match node {
         Node::Char { .. }

@@ -55,7 +55,7 @@ impl CompiledRegex {
     #[inline(always)]
     pub fn start_pred(&self) -> &StartPredicate
         ensures predicate { start_predicate_as_spec result.now ≡ (compiled (tree_of self.now)).start_pred }
-        ensures short { HasOverThreeBytes result.now }
+        ensures over_three { HasOverThreeBytes result.now }
     {
         &self.start_pred
     }

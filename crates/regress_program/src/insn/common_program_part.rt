@@ -51,6 +51,8 @@ impl Model for Program {
 
 impl Program {
     /// Returns the instructions. Execution starts at the first one.
+    ///
+    /// They are the code of the program's tree, which is well formed.
     #[inline(always)]
     pub fn insns(&self) -> &[Insn]
         ensures code { map insn_as_spec_insn result.now ≡ (compiled (tree_of self.now)).insns }

@@ -1,13 +1,13 @@
 //! Computes the bytes that the nodes of a tree begin with.
-#![tactic(auto, unfolding(regex_pattern_front::specs::AstToSpecTree::node_of, regex_meaning::specs::StartPredicate::abstract_start_predicate, crate::specs::StartPredicates::making_node_start_predicate_may_allocate, crate::specs::InnerNodeCountMeasure::inner_node_count))]
+#![tactic(auto, unfolding(regex_pattern_front::specs::AstToSpecTree::spec_node_of, regex_meaning::specs::StartPredicate::abstract_start_predicate, crate::specs::StartPredicates::making_node_start_predicate_may_allocate, crate::specs::InnerNodeCountMeasure::inner_node_count))]
 
 ghost use Rattle.std.specs.Prelude.{◌≡◌, not, true, false, IfOk, OnOk, IsOk};
 ghost use Rattle.regex_meaning.specs.StartPredicate.{abstract_start_predicate, join, byte_sequence_predicate, common_prefix_or_first_bytes, union_of_byte_sets};
 ghost use Rattle.regex_meaning.specs.StartPredicate.{first_byte_as_set, common_prefix};
-ghost use Rattle.regex_pattern_front.specs.AstToSpecTree.{node_of};
+ghost use Rattle.regex_pattern_front.specs.AstToSpecTree.{spec_node_of};
 ghost use Rattle.regress_program.specs.JoinedStarts.{abstract_start_as_spec, join_nonempty_starts};
 ghost use Rattle.regress_program.specs.JoinedStarts.{join_starts_of_alternatives, join_starts};
-ghost use Rattle.regress_program.specs.LeafNodesAndOptimizableLoops.{cat_of, is_leaf};
+ghost use Rattle.regress_program.specs.LeafNodesAndOptimizableLoops.{spec_cat_of_children, is_leaf};
 ghost use Rattle.regress_program.specs.StartPredicates.{predicate_says_reads_nothing, making_node_start_predicate_may_allocate};
 
 use crate::startpredicate::first_bytes_of_chars_and_classes::{
@@ -32,8 +32,8 @@ pub(crate) enum AbstractStartPredicate<'a> {
 
 // Computes what the node begins with.
 pub(crate) fn abstract_start_of(node: &Node) -> Result<AbstractStartPredicate<'_>, AllocError>
-    ensures beginning { IfOk result (λ b. abstract_start_as_spec b ≡ abstract_start_predicate (node_of node.now)) }
-    ensures no_memory { making_node_start_predicate_may_allocate (node_of node.now) ≡ false → IsOk result }
+    ensures beginning { IfOk result (λ b. abstract_start_as_spec b ≡ abstract_start_predicate (spec_node_of node.now)) }
+    ensures no_memory { making_node_start_predicate_may_allocate (spec_node_of node.now) ≡ false → IsOk result }
 {
     let mut shared = AbstractStartPredicate::Open;
     join_node(&mut shared, node)?;
@@ -52,10 +52,10 @@ fn join_node<'a>(
     node: &'a Node,
 ) -> Result<bool, AllocError>
     ensures shared { OnOk result (abstract_start_as_spec shared.new
-        ≡ join_nonempty_starts (abstract_start_as_spec shared.old) (abstract_start_predicate (node_of node.now))) }
+        ≡ join_nonempty_starts (abstract_start_as_spec shared.old) (abstract_start_predicate (spec_node_of node.now))) }
     ensures reads { IfOk result (λ reads. reads ≡ not (predicate_says_reads_nothing
-        (abstract_start_predicate (node_of node.now)))) }
-    ensures no_memory { making_node_start_predicate_may_allocate (node_of node.now) ≡ false → IsOk result }
+        (abstract_start_predicate (spec_node_of node.now)))) }
+    ensures no_memory { making_node_start_predicate_may_allocate (spec_node_of node.now) ≡ false → IsOk result }
 {
     match node {
         Node::Cat(nodes) => join_node_list(shared, nodes),
@@ -87,10 +87,10 @@ fn join_node_list<'a>(
     nodes: &'a [Node],
 ) -> Result<bool, AllocError>
     ensures shared { OnOk result (abstract_start_as_spec shared.new
-        ≡ join_nonempty_starts (abstract_start_as_spec shared.old) (abstract_start_predicate (cat_of nodes.now))) }
+        ≡ join_nonempty_starts (abstract_start_as_spec shared.old) (abstract_start_predicate (spec_cat_of_children nodes.now))) }
     ensures reads { IfOk result (λ reads. reads ≡ not (predicate_says_reads_nothing
-        (abstract_start_predicate (cat_of nodes.now)))) }
-    ensures no_memory { making_node_start_predicate_may_allocate (cat_of nodes.now) ≡ false → IsOk result }
+        (abstract_start_predicate (spec_cat_of_children nodes.now)))) }
+    ensures no_memory { making_node_start_predicate_may_allocate (spec_cat_of_children nodes.now) ≡ false → IsOk result }
 {
     for node in nodes {
         if join_node(shared, node)? {
@@ -108,11 +108,11 @@ fn join_arms<'a>(
     others: &'a Node,
 ) -> Result<(), AllocError>
     ensures shared { let begun = join_starts_of_alternatives (abstract_start_as_spec shared.old)
-        (abstract_start_predicate (node_of first.now)) in
+        (abstract_start_predicate (spec_node_of first.now)) in
         OnOk result (abstract_start_as_spec shared.new ≡ join_starts_of_alternatives begun
-        (abstract_start_predicate (node_of others.now))) }
-    ensures no_memory { making_node_start_predicate_may_allocate (node_of first.now) ≡ false
-        → making_node_start_predicate_may_allocate (node_of others.now) ≡ false → IsOk result }
+        (abstract_start_predicate (spec_node_of others.now))) }
+    ensures no_memory { making_node_start_predicate_may_allocate (spec_node_of first.now) ≡ false
+        → making_node_start_predicate_may_allocate (spec_node_of others.now) ≡ false → IsOk result }
 {
     join_one_arm(shared, first)?;
     let mut rest = others;
@@ -131,8 +131,8 @@ fn join_one_arm<'a>(
 ) -> Result<(), AllocError>
     ensures shared { OnOk result (abstract_start_as_spec shared.new
         ≡ join_starts_of_alternatives (abstract_start_as_spec shared.old)
-        (abstract_start_predicate (node_of arm.now))) }
-    ensures no_memory { making_node_start_predicate_may_allocate (node_of arm.now) ≡ false → IsOk result }
+        (abstract_start_predicate (spec_node_of arm.now))) }
+    ensures no_memory { making_node_start_predicate_may_allocate (spec_node_of arm.now) ≡ false → IsOk result }
 {
     if !join_node(shared, arm)? {
         *shared = AbstractStartPredicate::Anything;
@@ -143,10 +143,10 @@ fn join_one_arm<'a>(
 // Joins what a leaf, a node without children, begins with.
 #[inline(never)]
 fn join_leaf<'a>(shared: &mut AbstractStartPredicate<'a>, node: &'a Node) -> Result<(), AllocError>
-    requires { is_leaf (node_of node.now) ≡ true }
+    requires { is_leaf (spec_node_of node.now) ≡ true }
     ensures shared { OnOk result (abstract_start_as_spec shared.new
-        ≡ join_nonempty_starts (abstract_start_as_spec shared.old) (abstract_start_predicate (node_of node.now))) }
-    ensures no_memory { making_node_start_predicate_may_allocate (node_of node.now) ≡ false → IsOk result }
+        ≡ join_nonempty_starts (abstract_start_as_spec shared.old) (abstract_start_predicate (spec_node_of node.now))) }
+    ensures no_memory { making_node_start_predicate_may_allocate (spec_node_of node.now) ≡ false → IsOk result }
 {
     *shared = join_starts(*shared, leaf_start(node)?);
     Ok(())
@@ -154,9 +154,9 @@ fn join_leaf<'a>(shared: &mut AbstractStartPredicate<'a>, node: &'a Node) -> Res
 
 // Computes what a leaf begins with.
 fn leaf_start(node: &Node) -> Result<AbstractStartPredicate<'_>, AllocError>
-    requires { is_leaf (node_of node.now) ≡ true }
-    ensures beginning { IfOk result (λ b. abstract_start_as_spec b ≡ abstract_start_predicate (node_of node.now)) }
-    ensures no_memory { making_node_start_predicate_may_allocate (node_of node.now) ≡ false → IsOk result }
+    requires { is_leaf (spec_node_of node.now) ≡ true }
+    ensures beginning { IfOk result (λ b. abstract_start_as_spec b ≡ abstract_start_predicate (spec_node_of node.now)) }
+    ensures no_memory { making_node_start_predicate_may_allocate (spec_node_of node.now) ≡ false → IsOk result }
 {
     match node {
         Node::ByteSequence(bytes) => Ok(sequence_start(bytes)),

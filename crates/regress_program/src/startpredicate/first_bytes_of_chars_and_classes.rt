@@ -24,6 +24,7 @@ pub(crate) fn bitmap_of_bytes(bytes: &[u8]) -> ByteBitmap
     set
 }
 
+// Adds the first byte of a sequence to a set. An empty sequence adds nothing.
 pub(crate) fn add_first_byte_of_sequence(set: &mut ByteBitmap, bytes: &[u8])
     ensures { member_bytes_of_byte_bitmap set.new ≡ union_of_byte_sets (member_bytes_of_byte_bitmap set.old)
         (first_byte_as_set bytes.now) }

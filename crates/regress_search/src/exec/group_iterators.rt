@@ -5,7 +5,7 @@ ghost use Rattle.std.specs.List.{list_any};
 ghost use Rattle.std.specs.Iterator.{UpTo, YieldsFirstBy, at_most, item_count};
 ghost use Rattle.std.specs.Iterator.SizeHint.{IsWithinCount};
 ghost use Rattle.regex_meaning.specs.MatchGroupsByNumberAndName.{named_groups as groups_of_names};
-ghost use Rattle.regress_search.specs.{MatchesAsSpecAnswers.{answer_of, range_as_pair}, GroupIterators.{all_groups, is_new as is_new_name, distinct_names_from}};
+ghost use Rattle.regress_search.specs.{MatchesAsSpecAnswers.{answer_of, range_as_pair}, GroupIterators.{all_groups, is_new_group_name as is_new_name, distinct_names_from}};
 
 use crate::exec::Match;
 use std::iter::FusedIterator;
@@ -43,7 +43,7 @@ fn new_name_from(names: &[String], from: usize) -> Option<(usize, &str)>
 {
     for id in from..names.len() {
         let name = names[id].as_str();
-        if is_new(name, &names[..id]) {
+        if is_new_group_name(name, &names[..id]) {
             return Some((id + 1, name));
         }
     }
@@ -56,7 +56,7 @@ fn new_names_from(names: &[String], from: usize) -> usize
 {
     let mut left = 0;
     for id in from..names.len() {
-        if is_new(names[id].as_str(), &names[..id]) {
+        if is_new_group_name(names[id].as_str(), &names[..id]) {
             left += 1;
         }
     }
@@ -64,7 +64,7 @@ fn new_names_from(names: &[String], from: usize) -> usize
 }
 
 // Checks whether a name is not empty and does not occur in `before`.
-fn is_new(name: &str, before: &[String]) -> bool
+fn is_new_group_name(name: &str, before: &[String]) -> bool
     ensures { result ≡ is_new_name name.now (map string_bytes before.now) }
 {
     !name.is_empty() && !is_among_names(name, before)
@@ -184,7 +184,7 @@ impl<'m> Iterator for NamedGroups<'m> {
         let matched = self.matched;
         let (behind, name) = new_name_from(matched.names.as_slice(), self.id)?;
         self.id = behind;
-        Some((name, matched.first_named(name)))
+        Some((name, matched.first_matched_group_with_name(name)))
     }
 
     fn size_hint(&self) -> (usize, Option<usize>)

@@ -13,7 +13,7 @@ impl Match {
     pub fn range(&self) -> Range<usize>
         ensures { result ≡ self.now.range }
     {
-        copy_of(&self.range)
+        copy_range(&self.range)
     }
 
     /// Returns the offset at which the match begins, in code units of the text.
@@ -51,7 +51,7 @@ impl Match {
         if idx == 0 {
             Some(self.range())
         } else {
-            range_at(&self.captures, idx - 1)
+            group_range_with_id(&self.captures, idx - 1)
         }
     }
 
@@ -64,19 +64,19 @@ impl Match {
         if name.is_empty() {
             None
         } else {
-            self.first_named(name)
+            self.first_matched_group_with_name(name)
         }
     }
 
     // Like `named_group`, but the name may be empty.
-    pub(super) fn first_named(&self, name: &str) -> Option<Range<usize>>
+    pub(super) fn first_matched_group_with_name(&self, name: &str) -> Option<Range<usize>>
         ensures { option_map range_as_pair result
             ≡ first_range (answer_of self.now) (ids_named (answer_of self.now) name.now) }
     {
         let names = self.names.as_slice();
         for (id, other) in names.iter().enumerate() {
             if name == other.as_str() {
-                let range = range_at(&self.captures, id);
+                let range = group_range_with_id(&self.captures, id);
                 if range.is_some() {
                     return range;
                 }
@@ -102,7 +102,7 @@ impl Match {
 }
 
 // Copies a range. A range is not `Copy`, and its `clone` could fail.
-fn copy_of(range: &Range<usize>) -> Range<usize>
+fn copy_range(range: &Range<usize>) -> Range<usize>
     ensures { result ≡ range.now }
 {
     range.start..range.end
@@ -110,11 +110,11 @@ fn copy_of(range: &Range<usize>) -> Range<usize>
 
 // Returns the range of the group with this id. Returns `None` if it did not match or there is no
 // such id.
-fn range_at(captures: &[Option<Range<usize>>], id: usize) -> Option<Range<usize>>
+fn group_range_with_id(captures: &[Option<Range<usize>>], id: usize) -> Option<Range<usize>>
     ensures { option_map range_as_pair result ≡ group_range (map (option_map range_as_pair) captures.now) id }
 {
     match captures.get(id) {
-        Some(Some(range)) => Some(copy_of(range)),
+        Some(Some(range)) => Some(copy_range(range)),
         _ => None,
     }
 }

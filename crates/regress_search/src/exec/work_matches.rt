@@ -66,6 +66,10 @@ impl<P: WorkLimitedProducer> Model for WorkMatches<P> {
 impl<P: WorkLimitedProducer> WorkMatches<P> {
     /// Creates an iterator over the matches at `start` or later. `start` is an offset in code
     /// units. It is a boundary, or past the end of the text, where there are no matches.
+    ///
+    /// The clauses `answers` and `limited` say which matches the iterator returns, and whether the
+    /// step limit cuts them off. The clauses `left` and `enough` say how much work is left, and
+    /// whether it suffices. The other clauses say where the iterator is and what its producer has.
     pub fn new(producer: P, start: usize) -> Self
         requires { IsBoundaryOrPastEnd (P.text producer) start }
         ensures answers { result.remaining.answers
@@ -105,14 +109,14 @@ impl<P: WorkLimitedProducer + Drop> Iterator for WorkMatches<P> {
     fn next(&mut self) -> Option<Result<Match, WorkError>> {
         match advance_matches(&mut self.producer, &mut self.position)? {
             Ok(found) => Some(Ok(found)),
-            Err(_) => Some(Err(cause_in(&self.producer))),
+            Err(_) => Some(Err(cause_of_work_error(&self.producer))),
         }
     }
 }
 
 // Returns the cause of the last search's error: the work limit if it was reached, and otherwise a
 // failed allocation.
-fn cause_in<P: WorkLimitedProducer>(producer: &P) -> WorkError
+fn cause_of_work_error<P: WorkLimitedProducer>(producer: &P) -> WorkError
     ensures { IsWorkLimitOrMemoryCause result (P.out_of_work producer.now) (P.left producer.now) }
 {
     if producer.is_work_exhausted() {

@@ -4,7 +4,7 @@ ghost use Rattle.std.specs.Prelude.{◌<◌, ◌⊎◌, IsAscii, IsCharBoundary,
 
 use crate::fault::ParseFault;
 use crate::hostile::executors::finds;
-use crate::hostile::lists::{are_found, is_first};
+use crate::hostile::lists::{are_expected_matches, is_first};
 use crate::hostile::patterns::Compiled;
 use regress_input::indexing::{AsciiInput, Utf8Input};
 use regress_match::Regex;
@@ -41,13 +41,13 @@ pub fn is_start(text: &str, offset: usize) -> bool
 fn all(re: &Regex, text: &str, start: usize, wanted: &str) -> Result<bool, ParseFault>
     requires { IsCharBoundary text.now start ⊎ (length text.now < start) }
 {
-    are_found(re.find_from(text, start)?, wanted)
+    are_expected_matches(re.find_from(text, start)?, wanted)
 }
 
 fn limited(re: &Regex, text: &str, start: usize, wanted: &str) -> Result<bool, ParseFault>
     requires { IsCharBoundary text.now start ⊎ (length text.now < start) }
 {
-    are_found(re.find_from_limited(text, start, u64::MAX)?, wanted)
+    are_expected_matches(re.find_from_limited(text, start, u64::MAX)?, wanted)
 }
 
 fn asked(re: &CompiledRegex, text: &str, start: usize, wanted: &str) -> Result<bool, ParseFault>
@@ -57,14 +57,19 @@ fn asked(re: &CompiledRegex, text: &str, start: usize, wanted: &str) -> Result<b
     finds(&mut executor, start, wanted)
 }
 
-fn copying_all(re: &Regex, text: &str, start: usize, wanted: &str) -> Result<bool, ParseFault>
+fn are_matches_by_pikevm_expected(
+    re: &Regex,
+    text: &str,
+    start: usize,
+    wanted: &str,
+) -> Result<bool, ParseFault>
     requires { IsCharBoundary text.now start ⊎ (length text.now < start) }
 {
     let matches = find::<PikeVMExecutor<Utf8Input>>(re, text, start)?;
-    are_found(matches, wanted)
+    are_expected_matches(matches, wanted)
 }
 
-fn copying_asked(
+fn is_first_match_by_pikevm_expected(
     re: &CompiledRegex,
     text: &str,
     start: usize,
@@ -92,15 +97,15 @@ pub fn in_utf8(
         Way::All => all(&re.regex, text, start, wanted),
         Way::Limited => limited(&re.regex, text, start, wanted),
         Way::Asked => asked(&re.bytes, text, start, wanted),
-        Way::CopyingAll => copying_all(&re.regex, text, start, wanted),
-        Way::CopyingAsked => copying_asked(&re.bytes, text, start, wanted),
+        Way::CopyingAll => are_matches_by_pikevm_expected(&re.regex, text, start, wanted),
+        Way::CopyingAsked => is_first_match_by_pikevm_expected(&re.bytes, text, start, wanted),
     }
 }
 
 fn all_in_ascii(re: &Regex, text: &str, start: usize, wanted: &str) -> Result<bool, ParseFault>
     requires { IsAscii text.now }
 {
-    are_found(re.find_from_ascii(text, start)?, wanted)
+    are_expected_matches(re.find_from_ascii(text, start)?, wanted)
 }
 
 fn asked_in_ascii(
@@ -124,7 +129,7 @@ fn copying_all_in_ascii(
     requires { IsAscii text.now }
 {
     let matches = find_ascii::<PikeVMExecutor<Utf8Input>>(re, text, start)?;
-    are_found(matches, wanted)
+    are_expected_matches(matches, wanted)
 }
 
 fn copying_asked_in_ascii(

@@ -41,21 +41,25 @@ fn construct(alloc: Global, pattern: &str, flags: Flags, by: Constructor) -> Res
 }
 
 // Checks whether a clone of the pattern finds the expected match.
-fn is_cloned(re: &Regex, text: &str, wanted: &str) -> Result<bool, ParseFault> {
+fn does_clone_find_expected_match(
+    re: &Regex,
+    text: &str,
+    wanted: &str,
+) -> Result<bool, ParseFault> {
     let re = re.clone()?;
     is_first(re.find(text)?, wanted)
 }
 
 /// Checks whether each constructor returns a pattern with the expected first match in a text. For
 /// `Syntax`, checks that each one refuses the pattern.
-pub fn are_constructed(alloc: Global, line: &str) -> Result<bool, ParseFault> {
+pub fn do_constructors_agree(alloc: Global, line: &str) -> Result<bool, ParseFault> {
     let mut fields = Fields::of(line);
     let (pattern, flags) = (fields.next(), Flags::from(fields.next()));
     let (text, wanted) = (fields.next(), fields.next());
     let mut agree = true;
     for by in CONSTRUCTORS {
         agree &= match construct(alloc, pattern, flags, by) {
-            Ok(re) => is_cloned(&re, text, wanted)?,
+            Ok(re) => does_clone_find_expected_match(&re, text, wanted)?,
             Err(Error::Parse(_)) => wanted == "Syntax",
             Err(error) => return Err(ParseFault::from(error)),
         };
@@ -64,7 +68,7 @@ pub fn are_constructed(alloc: Global, line: &str) -> Result<bool, ParseFault> {
 }
 
 /// Checks whether a text is escaped as expected.
-pub fn is_escaped(alloc: Global, line: &str) -> Result<bool, ParseFault> {
+pub fn is_escaped_as_expected(alloc: Global, line: &str) -> Result<bool, ParseFault> {
     let mut fields = Fields::of(line);
     let text = fields.next();
     Ok(escape(alloc, text)?.as_str() == fields.next())

@@ -6,7 +6,7 @@ ghost use Rattle.std.specs.Prelude.{◌<◌, ◌⊎◌, IsCharBoundary, length};
 use crate::fault::ParseFault;
 use crate::hostile::bytes::is_start;
 use crate::hostile::fields::Fields;
-use crate::hostile::lists::{are_found, is_first};
+use crate::hostile::lists::{are_expected_matches, is_first};
 use crate::hostile::patterns::{Compiled, compile};
 use crate::hostile::wanted::LIMIT;
 use regress_match::backends::LimitedExecutor;
@@ -25,7 +25,7 @@ struct Row<'a> {
 
 // Checks whether an executor with this many steps returns the expected first match and takes the
 // steps that it needs, or returns the limit and has no steps left.
-fn is_answered(
+fn is_answer_within_steps_as_expected(
     row: Row<'_>,
     before: u64,
     after: u64,
@@ -66,18 +66,23 @@ fn answers<P: Counting>(executor: &mut P, start: usize, row: Row<'_>) -> Result<
     let first = executor.next_match(pos, &mut next);
     let left = executor.left();
     if !matches!(first, Err(SearchError::Memory)) {
-        return is_answered(row, row.steps, left, first);
+        return is_answer_within_steps_as_expected(row, row.steps, left, first);
     }
     let unchanged = left <= row.steps && next == Some(pos);
     let second = executor.next_match(pos, &mut next);
-    if unchanged && is_answered(row, left, executor.left(), second)? {
+    if unchanged && is_answer_within_steps_as_expected(row, left, executor.left(), second)? {
         Err(ParseFault::Refused)
     } else {
         Err(ParseFault::Wrong)
     }
 }
 
-fn is_asked(re: &CompiledRegex, text: &str, start: usize, row: Row<'_>) -> Result<bool, ParseFault>
+fn is_direct_search_as_expected(
+    re: &CompiledRegex,
+    text: &str,
+    start: usize,
+    row: Row<'_>,
+) -> Result<bool, ParseFault>
     requires { IsCharBoundary text.now start ⊎ (length text.now < start) }
 {
     let mut executor = LimitedExecutor::new(re, text, row.steps)?;
@@ -87,7 +92,7 @@ fn is_asked(re: &CompiledRegex, text: &str, start: usize, row: Row<'_>) -> Resul
 fn are_all(re: &Regex, text: &str, start: usize, row: Row<'_>) -> Result<bool, ParseFault>
     requires { IsCharBoundary text.now start ⊎ (length text.now < start) }
 {
-    are_found(re.find_from_limited(text, start, row.steps)?, row.wanted)
+    are_expected_matches(re.find_from_limited(text, start, row.steps)?, row.wanted)
 }
 
 fn agrees(
@@ -100,7 +105,7 @@ fn agrees(
     if !is_start(text, start) {
         Ok(false)
     } else if asked {
-        is_asked(&re.bytes, text, start, row)
+        is_direct_search_as_expected(&re.bytes, text, start, row)
     } else {
         are_all(&re.regex, text, start, row)
     }
@@ -132,7 +137,7 @@ pub fn agree(alloc: Global, line: &str) -> Result<bool, ParseFault> {
 // Checks whether an executor finds two matches in turn, the second one from this place on. If an
 // allocation fails in the second search, it has taken at least this many steps before: until then,
 // the memory of the first search suffices.
-fn finds_both<P: Counting>(
+fn finds_two_matches_in_turn<P: Counting>(
     executor: &mut P,
     behind: usize,
     first: &str,
@@ -174,11 +179,11 @@ fn is_taken(
     requires second { IsCharBoundary text.now behind ⊎ (length text.now < behind) }
 {
     let mut executor = LimitedExecutor::new(re, text, u64::MAX)?;
-    finds_both(&mut executor, behind, first, second, taken)
+    finds_two_matches_in_turn(&mut executor, behind, first, second, taken)
 }
 
 /// Checks that steps that were taken before an allocation failed are spent, for a row of `TAKEN`.
-pub fn stay_taken(alloc: Global, line: &str) -> Result<bool, ParseFault> {
+pub fn steps_stay_taken_on_refusal(alloc: Global, line: &str) -> Result<bool, ParseFault> {
     let mut fields = Fields::of(line);
     let re = compile(alloc, fields.next(), fields.next(), false)?;
     let text = fields.next();

@@ -17,7 +17,7 @@ pub fn is_first(found: Option<Match>, words: &str) -> Result<bool, ParseFault> {
 /// Checks whether these are the expected matches. A failed allocation comes after a prefix of them,
 /// and a step limit where it is expected. After these and after the end, the iterator returns
 /// `None`.
-pub fn are_found<P: MatchProducer + Drop>(
+pub fn are_expected_matches<P: MatchProducer + Drop>(
     mut matches: Matches<P>,
     words: &str,
 ) -> Result<bool, ParseFault> {

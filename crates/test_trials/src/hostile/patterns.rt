@@ -46,7 +46,7 @@ fn units_of(alloc: Global, tree: &ir::Regex) -> Result<CompiledRegexFor16BitUnit
     }
 }
 
-fn of_programs(
+fn regex_of_separate_programs(
     bytes: CompiledRegex,
     units: CompiledRegexFor16BitUnits,
 ) -> Result<Compiled, ParseFault> {
@@ -108,5 +108,5 @@ pub fn compile(
     if !no_opt {
         optimize(&mut tree);
     }
-    of_programs(bytes_of(alloc, &tree)?, units_of(alloc, &tree)?)
+    regex_of_separate_programs(bytes_of(alloc, &tree)?, units_of(alloc, &tree)?)
 }

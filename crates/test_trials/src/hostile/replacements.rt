@@ -49,7 +49,7 @@ fn is_refusal(number: u32, count: u8, wanted: &str) -> bool {
 
 // Checks the text that closures make, or the error of a closure. The closure says whether an
 // allocation failed in it; then the error is its own.
-fn is_made(
+fn is_closure_outcome_as_expected(
     made: Result<String, ReplaceError<Failure>>,
     calls: &Cell<(u8, bool)>,
     wanted: &str,
@@ -67,7 +67,7 @@ fn is_made(
 }
 
 // Replaces the first match, or each match, with a closure.
-fn is_made_by(
+fn is_closure_replacement_as_expected(
     alloc: Global,
     re: &Regex,
     text: &str,
@@ -85,12 +85,12 @@ fn is_made_by(
         "doubled" => re.replace_with(text, answer),
         _ => re.replace_all_with(text, answer),
     };
-    is_made(made, &calls, wanted)
+    is_closure_outcome_as_expected(made, &calls, wanted)
 }
 
 /// Checks whether the replacement of a row has the expected result, by the unoptimized and by the
 /// optimized pattern. The result is a text of its own, and not a part of another one.
-pub fn is_replaced(alloc: Global, line: &str) -> Result<bool, ParseFault> {
+pub fn is_replaced_as_expected(alloc: Global, line: &str) -> Result<bool, ParseFault> {
     let mut fields = Fields::of(line);
     let pattern = fields.next();
     let (text, how, by, wanted) = (fields.next(), fields.next(), fields.next(), fields.next());
@@ -104,7 +104,7 @@ pub fn is_replaced(alloc: Global, line: &str) -> Result<bool, ParseFault> {
         agrees &= match how {
             "first" => re.replace(text, by)?.as_str() == wanted,
             "all" => re.replace_all(text, by)?.as_str() == wanted,
-            _ => is_made_by(alloc, &re, text, how, wanted)?,
+            _ => is_closure_replacement_as_expected(alloc, &re, text, how, wanted)?,
         };
     }
     Ok(agrees)

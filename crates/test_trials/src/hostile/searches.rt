@@ -15,7 +15,7 @@ use std::alloc::Global;
 const NOT_REPRESENTABLE: &str = "apart";
 
 /// The word for a start at which a search may not begin.
-const NO_START: &str = "no start";
+const INVALID_START: &str = "no start";
 
 /// How a text is encoded and searched.
 #[derive(Clone, Copy)]
@@ -76,7 +76,7 @@ fn agrees_in_bytes(re: &Compiled, row: Row<'_>, way: Way, ascii: bool) -> Result
     } else if is_start(text, start) {
         in_utf8(re, text, start, bytes, way)
     } else {
-        Ok(bytes == NO_START)
+        Ok(bytes == INVALID_START)
     }
 }
 
@@ -87,7 +87,7 @@ fn agrees_in_utf16(re: &Compiled, row: Row<'_>, asked: bool) -> Result<bool, Par
     if row.utf16 == NOT_REPRESENTABLE {
         Ok(true)
     } else if !is_unit_start(units, row.start) {
-        Ok(row.utf16 == NO_START)
+        Ok(row.utf16 == INVALID_START)
     } else if asked {
         asked_in_utf16(&re.units, units, row.start, row.utf16)
     } else {

@@ -1,9 +1,9 @@
 //! The sections of rows.
 
 use crate::fault::ParseFault;
-use crate::hostile::calls::{are_constructed, is_escaped};
-use crate::hostile::replacements::is_replaced;
-use crate::hostile::tool::is_run;
+use crate::hostile::calls::{do_constructors_agree, is_escaped_as_expected};
+use crate::hostile::replacements::is_replaced_as_expected;
+use crate::hostile::tool::is_tool_run_as_expected;
 use crate::hostile::{limits, searches, table};
 use std::alloc::Global;
 
@@ -55,7 +55,7 @@ impl Section {
             Section::Constructors => table::CONSTRUCTORS,
             Section::Replacements => table::REPLACEMENTS,
             Section::Escapes => table::ESCAPES,
-            Section::Tool => table::TOOL,
+            Section::Tool => table::TOOL_ROWS,
         }
     }
 
@@ -63,11 +63,11 @@ impl Section {
         match self {
             Section::Searches | Section::Odd => searches::agree(alloc, line),
             Section::Limits => limits::agree(alloc, line),
-            Section::Taken => limits::stay_taken(alloc, line),
-            Section::Constructors => are_constructed(alloc, line),
-            Section::Replacements => is_replaced(alloc, line),
-            Section::Escapes => is_escaped(alloc, line),
-            Section::Tool => is_run(alloc, line),
+            Section::Taken => limits::steps_stay_taken_on_refusal(alloc, line),
+            Section::Constructors => do_constructors_agree(alloc, line),
+            Section::Replacements => is_replaced_as_expected(alloc, line),
+            Section::Escapes => is_escaped_as_expected(alloc, line),
+            Section::Tool => is_tool_run_as_expected(alloc, line),
         }
     }
 

@@ -174,7 +174,7 @@ a-b/c~a-b/c
 
 /// Rows of six fields: a pattern, flags, a text, the exit status, the output, and the error output,
 /// where `;` ends a line.
-pub const TOOL: &str = "\
+pub const TOOL_ROWS: &str = "\
 a|ab~~abc~0~0..1;~
 a*~~baac~0~0..0;1..3;3..3;4..4;~
 (a)|b~~ab~0~0..1 0..1;1..2 -;~

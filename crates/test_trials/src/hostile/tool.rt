@@ -63,14 +63,14 @@ fn words_of(alloc: Global, texts: [&str; 3]) -> Result<Vec<Option<String>>, Allo
 }
 
 // Checks whether these are whole lines, and a prefix of the expected output.
-fn is_beginning(printed: &[u8], wanted: &str) -> bool {
+fn is_prefix_of_whole_lines(printed: &[u8], wanted: &str) -> bool {
     let whole = printed.is_empty() || printed.ends_with(b";");
     whole && wanted.as_bytes().starts_with(printed)
 }
 
 /// Checks whether the program has the expected exit status and outputs. If an allocation fails, it
 /// reports this after a prefix of the expected lines.
-pub fn is_run(alloc: Global, line: &str) -> Result<bool, ParseFault> {
+pub fn is_tool_run_as_expected(alloc: Global, line: &str) -> Result<bool, ParseFault> {
     let mut fields = Fields::of(line);
     let words = words_of(alloc, [fields.next(), fields.next(), fields.next()])?;
     let (status, printed, told) = (fields.next(), fields.next(), fields.next());
@@ -78,7 +78,7 @@ pub fn is_run(alloc: Global, line: &str) -> Result<bool, ParseFault> {
     let mut err = Page::new();
     let got = program::run(alloc, &words, &mut out, &mut err);
     if err.written() == b"out of memory;".as_slice() {
-        return Err(if got == 2 && is_beginning(out.written(), printed) {
+        return Err(if got == 2 && is_prefix_of_whole_lines(out.written(), printed) {
             ParseFault::Refused
         } else {
             ParseFault::Wrong

@@ -6,7 +6,7 @@ ghost use Rattle.regex_meaning.specs.Text.{is_unit_boundary as is_boundary_of};
 
 use crate::fault::ParseFault;
 use crate::hostile::executors::finds;
-use crate::hostile::lists::are_found;
+use crate::hostile::lists::are_expected_matches;
 use regress_match::backends::{DefaultUcs2Executor, DefaultUtf16Executor};
 use regress_match::{Regex, is_unit_boundary};
 use regress_program::insn::CompiledRegexFor16BitUnits;
@@ -27,7 +27,7 @@ pub fn all_in_utf16(
 ) -> Result<bool, ParseFault>
     requires { IsTrue (is_boundary_of units.now start) ⊎ (length units.now < start) }
 {
-    are_found(re.find_from_utf16(units, start)?, wanted)
+    are_expected_matches(re.find_from_utf16(units, start)?, wanted)
 }
 
 /// Checks whether an executor finds the first expected match in UTF-16.
@@ -50,7 +50,7 @@ pub fn all_in_ucs2(
     start: usize,
     wanted: &str,
 ) -> Result<bool, ParseFault> {
-    are_found(re.find_from_ucs2(units, start)?, wanted)
+    are_expected_matches(re.find_from_ucs2(units, start)?, wanted)
 }
 
 /// Checks whether an executor finds the first expected match in UCS-2.

@@ -6,7 +6,7 @@ pub loop-upper-init : goal.loop-upper-init
 loop-upper-init c = λ same. closing-none _ _ _ same
 
 pub loop-upper-preserved : goal.loop-upper-preserved
-loop-upper-preserved c = λ same. closing-more _ _ _ _ c.loop-upper.upper (c.loop-upper.invariant same) c.in_ok-close_over.ensures
+loop-upper-preserved c = λ same. closing-more _ _ _ _ c.loop-upper.upper (c.loop-upper.invariant same) c.in_ok-add_letter_fold_variants.ensures
 
 pub returns : goal.returns
 returns c = λ same. closing-all _ _ _ c.loop-upper.upper (c.loop-upper.invariant same) (omega arith)

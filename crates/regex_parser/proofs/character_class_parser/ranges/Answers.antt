@@ -11,7 +11,7 @@ loop-c-init c = (omega arith, ([], ranges-begin _, rw c.new-intervals.ensures.it
 pub returns-then-c-clause-text : goal.returns-then-c-clause-text
 returns-then-c-clause-text c =
     let i = c.loop-c.invariant.1 in
-    (i.0, ranges-end i.1 (c.in-Some.ensures.text ∙ ap (λ (x : ℕ). x ∷ c.next.new.self.rest.now) c.if-c.true), set-of_members (spec_flags_of c.args.flags) _ i.0 _ i.2 c.in_ok-case_closed.ensures)
+    (i.0, ranges-end i.1 (c.in-Some.ensures.text ∙ ap (λ (x : ℕ). x ∷ c.next.new.self.rest.now) c.if-c.true), set-of_members (spec_flags_of c.args.flags) _ i.0 _ i.2 c.in_ok-into_case_closed_set.ensures)
 
 pub loop-c-preserved : goal.loop-c-preserved
 loop-c-preserved c =

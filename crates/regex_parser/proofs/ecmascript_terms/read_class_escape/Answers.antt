@@ -5,8 +5,8 @@ use Rattle.regex_parser.proofs.ecmascript_terms.read_class_escape.Goals as goal
 
 pub returns-in-Some-clause-text : goal.returns-in-Some-clause-text
 returns-in-Some-clause-text c = λ groups.
-    letter-atom c.args.flags groups _ _ c.peek.result c.next.result c.in-Some.escape.base c.in-Some.escape.invert c.in_ok-letter_contents.field-0 c.peek.ensures.text (sym c.in-Some.ensures) c.next.ensures.text
-    c.in_ok-letter_contents.ensures.invert c.in_ok-letter_contents.ensures.set
+    letter-atom c.args.flags groups _ _ c.peek.result c.next.result c.in-Some.escape.base c.in-Some.escape.invert c.in_ok-class_of_letter_escape.field-0 c.peek.ensures.text (sym c.in-Some.ensures) c.next.ensures.text
+    c.in_ok-class_of_letter_escape.ensures.invert c.in_ok-class_of_letter_escape.ensures.set
 
 pub returns-in_default-read_property_letter-clause-text : goal.returns-in_default-read_property_letter-clause-text
 returns-in_default-read_property_letter-clause-text c = (

@@ -1,8 +1,8 @@
 use Rattle.std.proofs.Common.{◌≡◌, ◌∙◌, arith, length}
 use Rattle.regex_meaning.specs.Tree.{alt}
-use Rattle.regex_pattern_front.specs.AstToSpecTree.{node_of}
+use Rattle.regex_pattern_front.specs.AstToSpecTree.{spec_node_of}
 use Rattle.regex_pattern_front.specs.declared.ir.Node.TheVariants.{Alt}
-use Rattle.regex_parser.proofs.PartialDisjunctionLemmas.{join-popped, join-one_more, node_of-Empty}
+use Rattle.regex_parser.proofs.PartialDisjunctionLemmas.{join-popped, join-one_more, spec_node_of-Empty}
 use Rattle.regex_pattern_front.proofs.GrouplessNodeLemmas.{part-Empty}
 use Rattle.regex_pattern_front.proofs.SubtreeListLemmas.{parts-alt, parts-one, empty-list}
 use Rattle.regex_parser.proofs.open_groups.nest_alternatives.Goals as goal
@@ -13,8 +13,8 @@ returns-in_default-clause-parts c =
     let none : length c.args.alternatives.items ≡ 0 = omega (arith, c.in_default.ensures.cases.0, c.args.alternatives.ok.0) in
     part-Empty greatest first end (rw (empty-list c.args.alternatives.items none) at parts)
 
-joined : (c : goal.In_ok-new-2) → node_of (Alt c.in_ok-new.field-0 c.in_ok-new-2.field-0) ≡ alt (node_of c.in-Some-pop.left) (node_of c.loop-left.joined)
-unfolding node_of
+joined : (c : goal.In_ok-new-2) → spec_node_of (Alt c.in_ok-new.field-0 c.in_ok-new-2.field-0) ≡ alt (spec_node_of c.in-Some-pop.left) (spec_node_of c.loop-left.joined)
+unfolding spec_node_of
 joined c = rw (c.in_ok-new.ensures.ok, c.in_ok-new-2.ensures.ok)
 
 pub loop-left-init : goal.loop-left-init
@@ -45,4 +45,4 @@ returns-clause-node c =
 pub returns-in_default-clause-node : goal.returns-in_default-clause-node
 returns-in_default-clause-node c =
     let none : length c.args.alternatives.items ≡ 0 = omega (arith, c.in_default.ensures.cases.0, c.args.alternatives.ok.0) in
-    rw (empty-list c.args.alternatives.items none) node_of-Empty
+    rw (empty-list c.args.alternatives.items none) spec_node_of-Empty

@@ -20,5 +20,5 @@ returns-in-None c =
     let within : c.args.character ≤ 0xFFFF = omega (arith, c.from-c.ensures, c.if-c-gt65535.false) in
     let first = sym c.next.ensures.steps.0 ∙ c.in-Some.is in
     let second = sym c.next.ensures.steps.1 ∙ sym c.next-2.ensures.steps.0 ∙ c.in-None.is in
-    c.unit_beyond_ascii_or.ensures ∙ ap (λ x. uppercase_or_itself x (c.from.result ∷ [])) c.from-c.ensures ∙ ap (λ x. uppercase_or_itself c.args.character (x ∷ [])) c.from.ensures
+    c.nonascii_uppercase_unit_or_self.ensures ∙ ap (λ x. uppercase_or_itself x (c.from.result ∷ [])) c.from-c.ensures ∙ ap (λ x. uppercase_or_itself c.args.character (x ∷ [])) c.from.ensures
     ∙ one-form _ _ _ _ c.args.character first second (c.to_uppercase-forms.ensures.packed second) within c.to_uppercase-forms.ensures.value

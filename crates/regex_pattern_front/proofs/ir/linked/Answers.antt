@@ -2,7 +2,7 @@ use Rattle.std.proofs.Common.{◌≡◌, ◌≢◌, ◌<◌, ◌==◌, ◌∙◌
 use Rattle.std.proofs.lemmas.Bool.{eqb-true, eq-eqb}
 use Rattle.std.specs.Vec.{with_item}
 use Rattle.regex_pattern_front.specs.IterativeDropMeasure.{tree_size}
-use Rattle.regex_pattern_front.proofs.AstToSpecTreeLemmas.{node_of-Cat}
+use Rattle.regex_pattern_front.proofs.AstToSpecTreeLemmas.{spec_node_of-Cat}
 use Rattle.regex_pattern_front.proofs.IterativeDropLemmas.{emptied-less, linked-first-less, no-nodes}
 use Rattle.regex_pattern_front.proofs.ir.linked.Goals as goal
 
@@ -19,5 +19,5 @@ returns c =
     let none : vec_len row ≢ 0 = λ h. true≢false (sym (eq-eqb (vec_len row) 0 h) ∙ test) in
     let some : 0 < length row.items = omega (arith, row.ok.0, none) in
     let first = c.index_mut.result.now in
-    rw (c.replace-node.ensures.value, c.replace-node.ensures.after, ap tree_size (node_of-Cat (with_item row 0 c.args.link)))
+    rw (c.replace-node.ensures.value, c.replace-node.ensures.after, ap tree_size (spec_node_of-Cat (with_item row 0 c.args.link)))
     (linked-first-less row.items first c.args.link some c.index_mut.ensures.value)

@@ -15,8 +15,8 @@ places-init g c = record {
   same = λ tree e. refl;
 }
 
-pub lets_through-requires-clause-at : goal.lets_through-requires-clause-at
-lets_through-requires-clause-at g c =
+pub admits_start-requires-clause-at : goal.admits_start-requires-clause-at
+admits_start-requires-clause-at g c =
     let text = g.Input.InputIndexer.text c.args.input.now in
     subst (λ o. IfSome o (λ p. IsBoundary text (g.Input.Position.PositionType.offset p))) c.in-Some.is c.places.invariant.boundary
 
@@ -25,8 +25,8 @@ next_right_pos-next-requires g c =
     let text = g.Input.InputIndexer.text c.args.input.now in
     subst (λ o. IfSome o (λ p. IsBoundary text (g.Input.Position.PositionType.offset p))) c.in-Some.is c.places.invariant.boundary
 
-pub returns-then-lets_through : goal.returns-then-lets_through
-returns-then-lets_through g c =
+pub returns-then-admits_start : goal.returns-then-admits_start
+returns-then-admits_start g c =
     let input = c.args.input.now in
     let text = g.Input.InputIndexer.text input in
     let is = g.met.Input.InputIndexer.is_text input in
@@ -36,7 +36,7 @@ returns-then-lets_through g c =
     let s = start_predicate_as_spec c.args.start.now in
     is-first s text is reads.scalars (offset c.args.from) (Some (offset c.in-Some.at)) c.requires.at (λ tree e.
     sym (c.places.invariant.same tree e ∙ ap (option_and_then (λ p. first_filtered_start tree text (offset p))) c.in-Some.is
-    ∙ tried-here tree text is s e (offset c.in-Some.at) here (sym c.lets_through.ensures ∙ c.if-lets_through.true)))
+    ∙ tried-here tree text is s e (offset c.in-Some.at) here (sym c.admits_start.ensures ∙ c.if-admits_start.true)))
 
 pub places-preserved : goal.places-preserved
 places-preserved g c =
@@ -50,7 +50,7 @@ places-preserved g c =
       boundary = c.next_right_pos-next.ensures.boundary;
       same = λ tree e.
           c.places.invariant.same tree e ∙ ap (option_and_then (λ p. first_filtered_start tree text (offset p))) c.in-Some.is
-          ∙ tried-on tree text is s e (offset c.in-Some.at) here (sym c.lets_through.ensures ∙ c.if-lets_through.false)
+          ∙ tried-on tree text is s e (offset c.in-Some.at) here (sym c.admits_start.ensures ∙ c.if-admits_start.false)
           ∙ sym (and-then-mapped (λ p. offset p) (λ r. r.1) (first_filtered_start tree text) c.next_right_pos-next.result (read text rightwards (offset c.in-Some.at)) c.next_right_pos-next.ensures.read);
     }
 

@@ -10,7 +10,7 @@ use Rattle.regress_search.specs.declared.exec.SearchError.TheVariants.{Memory}
 use Rattle.regress_search.proofs.StepBudgetLemmas.{handed}
 use Rattle.regress_backtrack.specs.State.{StateModel, current_thread_state_of, log_len_at_choice_point}
 use Rattle.regress_search.specs.TreePlanAndText.{program_of}
-use Rattle.regress_backtrack.specs.AttemptResults.{HasSlots}
+use Rattle.regress_backtrack.specs.AttemptResults.{HasSlotPerGroupAndLoop}
 use Rattle.regress_backtrack.specs.SearchProgress.{found_from_state, NeedStepsAtLeast}
 use Rattle.regress_backtrack.specs.StepsTakenFromBudget.{step_limit}
 use Rattle.regress_machine.specs.SearchFindsFirstOutcomeAtPlace.{state_before_first_insn}
@@ -95,7 +95,7 @@ returns-in-Err-clause-begun g c =
     let counts = g.S.StepCounter.COUNTS in
     let before = budget c.args.progress.now.steps in
     let after = budget c.run_thread.new.progress.steps in
-    let begun = HasSlots w.tree c.run_thread.new.memory in
+    let begun = HasSlotPerGroupAndLoop w.tree c.run_thread.new.memory in
     subst (λ e. AllocFailureCostsAStep {X = Option g.row.W-Input-Position.Denot} begun (step_limit counts before) (Err e) (step_limit counts after)) (sym c.cause.ensures)
     (stopped-takes (Option g.row.W-Input-Position.Denot) counts begun (NeedStepsAtLeast w true (running (current_thread_state_of c.begin.new.self 0 c.pos_to_offset-at.result) ∷ [])) before after c.requires.fresh c.in-Err.ensures.stopped)
 
@@ -114,7 +114,7 @@ returns-in_err-begin-clause-begun g c =
     let loops = c.number_of_loops-loops.ensures in
     let w = g.W.SearchContext.searching c.args.context.now in
     let left = step_limit g.S.StepCounter.COUNTS (g.S.StepCounter.budget c.args.progress.now.steps) in
-    takes-none (Option g.row.W-Input-Position.Denot) (HasSlots w.tree c.begin.new.self) left left c.from_residual.result (λ e. c.in_err-begin.ensures.refused (e ∙ ap₂ (λ n m. n + m) (sym groups) (sym loops)))
+    takes-none (Option g.row.W-Input-Position.Denot) (HasSlotPerGroupAndLoop w.tree c.begin.new.self) left left c.from_residual.result (λ e. c.in_err-begin.ensures.refused (e ∙ ap₂ (λ n m. n + m) (sym groups) (sym loops)))
 
 pub returns-in_err-begin-clause-cause : goal.returns-in_err-begin-clause-cause
 returns-in_err-begin-clause-cause g c = tells-memory c.from_residual.result c.from_residual.ensures.1 c.requires.fresh

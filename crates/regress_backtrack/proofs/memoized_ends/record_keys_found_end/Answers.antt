@@ -5,8 +5,8 @@ use Rattle.regress_backtrack.proofs.KnownEndLemmas.{recorded-at}
 use Rattle.regress_backtrack.proofs.PushedRecordLemmas.{sound-same, sound-then}
 use Rattle.regress_backtrack.proofs.memoized_ends.record_keys_found_end.Goals as goal
 
-pub returns-then-not-memoizes-clause-sound : goal.returns-then-not-memoizes-clause-sound
-returns-then-not-memoizes-clause-sound g c = sound-same c.requires.sound
+pub returns-then-not-records_failures-clause-sound : goal.returns-then-not-records_failures-clause-sound
+returns-then-not-records_failures-clause-sound g c = sound-same c.requires.sound
 
 pub choice_points-init : goal.choice_points-init
 choice_points-init g c = (omega arith, sound-same c.requires.sound, refl)

@@ -16,7 +16,7 @@ pub returns-then-is_known_to_find_end : goal.returns-then-is_known_to_find_end
 returns-then-is_known_to_find_end g c = λ found.
     let w = g.W.SearchContext.searching c.args.context.now in
     let t = g.M.FailureMemo.terms c.args.memo.now in
-    let tells = subst (λ o. IfSome o (λ k. DecidesLoopRest w t g.Dir.Direction.FORWARD (record { ip = c.args.from.ip; at = c.places.at }) (memo_key_as_spec k) c.args.memory.now)) c.in-Some.is c.key_of_rest.ensures in
+    let tells = subst (λ o. IfSome o (λ k. DecidesLoopRest w t g.Dir.Direction.FORWARD (record { ip = c.args.from.ip; at = c.places.at }) (memo_key_as_spec k) c.args.memory.now)) c.in-Some.is c.key_of_loop_rest.ensures in
     seeking-found (g.met.W.SearchContext.is_text c.args.context.now) c.requires.run c.places.invariant tells
     (c.requires.ends.finds (memo_key_as_spec c.in-Some.key) (sym c.is_known_to_find_end.ensures ∙ c.if-is_known_to_find_end.true))
 

@@ -2,7 +2,7 @@ use Rattle.std.proofs.Common.{ap, sym, subst, ◌∙◌, Bor}
 use Rattle.std.specs.Prelude.{option_map}
 use Rattle.regress_search.specs.TreePlanAndText.{program_of}
 use Rattle.regress_program.specs.declared.ops.Op.{Op}
-use Rattle.regress_backtrack.specs.SurplusRequiredIterations.{AreClosed}
+use Rattle.regress_backtrack.specs.SurplusRequiredIterations.{AreLookaroundContentsClosed}
 use Rattle.regress_backtrack.proofs.LoopBodyOperations.{op-closes}
 use Rattle.regress_backtrack.proofs.surplus_required_iterations.has_closed_contents.Goals as goal
 
@@ -11,5 +11,5 @@ returns-in-Some g c = λ yes insn is.
     let w = g.W.SearchContext.searching c.args.context.now in
     let s = c.in-Some in
     op-closes (program_of w) w.plan c.args.changes c.args.from c.args.ip s.op.now insn
-    (subst (λ contents. AreClosed c.args.changes (program_of w) c.args.from c.args.ip contents) c.contents_of.ensures (c.are_closed.ensures yes))
+    (subst (λ contents. AreLookaroundContentsClosed c.args.changes (program_of w) c.args.from c.args.ip contents) c.contents_of.ensures (c.are_lookaround_contents_closed.ensures yes))
     (c.lemma_plan_fits_program.ensures.each c.args.ip s.op.now insn (sym c.op_at.ensures ∙ ap (option_map (λ (o : Bor Op). o.now)) s.is) is)

@@ -41,15 +41,15 @@ returns-in-End-clause-runs g c = λ b h.
     let there = standing-as c.in-Some.is refl c.search.invariant.stands in
     came-end there c.execute_thread_step.new.stack.items c.execute_thread_step.new.progress c.in-End.is c.in_ok-next-in-Some.ensures.continues b (stands-as c.in-Some.is refl (c.search.invariant.from b h))
 
-pub search-smaller-in-On : goal.search-smaller-in-On
-search-smaller-in-On g c =
+pub search-smaller-in-ContinueWith : goal.search-smaller-in-ContinueWith
+search-smaller-in-ContinueWith g c =
     let there = standing-as c.in-Some.is refl c.search.invariant.stands in
-    less-on there (λ b h. comes-less h (came-on there c.execute_thread_step.new.stack.items c.execute_thread_step.new.progress c.in-On.is c.in_ok-next-in-Some.ensures.continues b h))
+    less-on there (λ b h. comes-less h (came-on there c.execute_thread_step.new.stack.items c.execute_thread_step.new.progress c.in-ContinueWith.is c.in_ok-next-in-Some.ensures.continues b h))
 
-pub search-preserved-in-On : goal.search-preserved-in-On
-search-preserved-in-On g c =
+pub search-preserved-in-ContinueWith : goal.search-preserved-in-ContinueWith
+search-preserved-in-ContinueWith g c =
     let there = standing-as c.in-Some.is refl c.search.invariant.stands in
-    let came = came-on there c.execute_thread_step.new.stack.items c.execute_thread_step.new.progress c.in-On.is c.in_ok-next-in-Some.ensures.continues in
+    let came = came-on there c.execute_thread_step.new.stack.items c.execute_thread_step.new.progress c.in-ContinueWith.is c.in_ok-next-in-Some.ensures.continues in
     record {
       stands = standing-on there (λ b h. (came b h).stands);
       from = λ b h. (came b (stands-as c.in-Some.is refl (c.search.invariant.from b h))).stands;
@@ -59,16 +59,16 @@ search-preserved-in-On g c =
 
 -- ---- One that waits
 
-pub resume_or_record-requires-clause-stands : goal.resume_or_record-requires-clause-stands
-resume_or_record-requires-clause-stands g c = standing-as c.in-None.is c.in-Some-pop.ensures.items c.search.invariant.stands
+pub backtrack_to_pending_entry-requires-clause-stands : goal.backtrack_to_pending_entry-requires-clause-stands
+backtrack_to_pending_entry-requires-clause-stands g c = standing-as c.in-None.is c.in-Some-pop.ensures.items c.search.invariant.stands
 
 pub returns-in_err-next-in-Some-pop-clause-memo_analysis : goal.returns-in_err-next-in-Some-pop-clause-memo_analysis
-returns-in_err-next-in-Some-pop-clause-memo_analysis g c = c.resume_or_record.ensures.memo_analysis ∙ c.search.invariant.memo_analysis
+returns-in_err-next-in-Some-pop-clause-memo_analysis g c = c.backtrack_to_pending_entry.ensures.memo_analysis ∙ c.search.invariant.memo_analysis
 
 pub returns-in_err-next-in-Some-pop-clause-runs : goal.returns-in_err-next-in-Some-pop-clause-runs
 returns-in_err-next-in-Some-pop-clause-runs g c = λ b h.
     let stops = c.in_err-next-in-Some-pop.ensures.continues b (stands-as c.in-None.is c.in-Some-pop.ensures.items (c.search.invariant.from b h)) in
-    runs-stopped (stands-as c.in-None.is c.in-Some-pop.ensures.items (c.search.invariant.from b h)) c.resume_or_record.new.progress c.resume_or_record.ensures.memo_analysis
+    runs-stopped (stands-as c.in-None.is c.in-Some-pop.ensures.items (c.search.invariant.from b h)) c.backtrack_to_pending_entry.new.progress c.backtrack_to_pending_entry.ensures.memo_analysis
     c.from_residual-in_err-next-in-Some-pop.result c.in_err-next-in-Some-pop.field-0.0 c.from_residual-in_err-next-in-Some-pop.ensures.1 stops
 
 pub search-smaller : goal.search-smaller
@@ -79,8 +79,8 @@ pub search-preserved : goal.search-preserved
 search-preserved g c = record {
   stands = standing-on (standing-as c.in-None.is c.in-Some-pop.ensures.items c.search.invariant.stands) (λ b h. (c.in_ok-next-in-Some-pop.ensures.continues b h).stands);
   from = λ b h. (c.in_ok-next-in-Some-pop.ensures.continues b (stands-as c.in-None.is c.in-Some-pop.ensures.items (c.search.invariant.from b h))).stands;
-  memo_analysis = c.resume_or_record.ensures.memo_analysis ∙ c.search.invariant.memo_analysis;
-  left = omega (arith, c.resume_or_record.ensures.left, c.search.invariant.left);
+  memo_analysis = c.backtrack_to_pending_entry.ensures.memo_analysis ∙ c.search.invariant.memo_analysis;
+  left = omega (arith, c.backtrack_to_pending_entry.ensures.left, c.search.invariant.left);
 }
 
 -- ---- None

@@ -1,7 +1,7 @@
 use Rattle.std.proofs.Common.{◌≡◌, ◌<◌, ◌^◌, ◌+◌, length, ap, sym, ◌∙◌, arith, rules}
 use Rattle.regex_meaning.specs.CompilationRelation.{Loop1CharBody}
 use Rattle.regress_program.specs.InsnsAsSpec.{insn_as_spec_insn}
-use Rattle.regress_pikevm.specs.States.{state_of}
+use Rattle.regress_pikevm.specs.States.{machine_state_of}
 use Rattle.regress_bounded.specs.BoundedState.{min_and_greed_of_loop}
 use Rattle.regress_bounded.proofs.CharLoopBodyInsns.{body-spelled}
 use Rattle.regress_bounded.proofs.StepResultLemmas.{turns-handed, turns-short, some-key}
@@ -12,17 +12,17 @@ use Rattle.regress_bounded.proofs.thread_steps_and_backtracking.execute_thread_s
 
 -- ---- What is known to fail
 
-pub is_known-requires : goal.is_known-requires
-is_known-requires g c = c.key_at-key.ensures.bit (standing-place c.requires.stands)
+pub is_key_known_to_fail-requires : goal.is_key_known_to_fail-requires
+is_key_known_to_fail-requires g c = c.key_at-key.ensures.bit (standing-place c.requires.stands)
 
 pub returns-in_err-spend-clause-continues : goal.returns-in_err-spend-clause-continues
 returns-in_err-spend-clause-continues g c = λ b h.
     turns-short h c.args.stack.now.items c.spend.new.self c.from_residual.result c.in_err-spend.field-0.0 c.from_residual.ensures.1
-    (λ out. known-over h c.key_at-key.result c.key_at-key.ensures.key (sym c.is_known.ensures ∙ c.if-is_known.true) c.spend.new.self c.in_err-spend.ensures.over.1)
+    (λ out. known-over h c.key_at-key.result c.key_at-key.ensures.key (sym c.is_key_known_to_fail.ensures ∙ c.if-is_key_known_to_fail.true) c.spend.new.self c.in_err-spend.ensures.over.1)
 
-pub returns-then-is_known-clause-continues : goal.returns-then-is_known-clause-continues
-returns-then-is_known-clause-continues g c = λ b h.
-    known-goes h c.key_at-key.result c.key_at-key.ensures.key (sym c.is_known.ensures ∙ c.if-is_known.true) c.spend.new.self c.spend.ensures.memo c.in_ok-spend.ensures.spent
+pub returns-then-is_key_known_to_fail-clause-continues : goal.returns-then-is_key_known_to_fail-clause-continues
+returns-then-is_key_known_to_fail-clause-continues g c = λ b h.
+    known-goes h c.key_at-key.result c.key_at-key.ensures.key (sym c.is_key_known_to_fail.ensures ∙ c.if-is_key_known_to_fail.true) c.spend.new.self c.spend.ensures.memo c.in_ok-spend.ensures.spent
 
 -- ---- A run without a maximum
 
@@ -37,7 +37,7 @@ bounds-insns-state g c = here-below c.args.searched.now.program.now c.args.insns
 -- the run that stands there
 there : (g : Over) (c : In-Some g)
     → RunAt g.Input.Position.PositionType.offset c.args.searched.now.program.now (g.Input.InputIndexer.text c.args.searched.now.input) c.args.insns.now
-    (state_of g.Input.Position.PositionType.offset c.args.state) c.in-Some.greedy c.in-Some.least
+    (machine_state_of g.Input.Position.PositionType.offset c.args.state) c.in-Some.greedy c.in-Some.least
 there g c =
     run-at c.args.searched.now.program.now c.args.insns.now c.requires.code c.requires.stands c.index-insns-state.result c.index-insns-state.is c.in-Some.greedy c.in-Some.least
     (sym c.in-Some.is ∙ c.unbounded_loop.ensures)

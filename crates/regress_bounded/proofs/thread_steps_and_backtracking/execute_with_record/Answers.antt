@@ -26,7 +26,7 @@ returns-then-is_goal-clause-continues g c = λ b h. record {
       (sym c.if-is_goal.true ∙ c.is_goal.ensures);
 }
 
--- ---- It goes on
+-- ---- The next thread is current
 
 pub work_of_step-work-requires-clause-executable : goal.work_of_step-work-requires-clause-executable
 work_of_step-work-requires-clause-executable g c = standing-can c.requires.stands

@@ -34,5 +34,5 @@ returns-in_ok-push_entry-in-Fork g c = record {
 
 pub returns-in-CharLoopExits : goal.returns-in-CharLoopExits
 returns-in-CharLoopExits g c =
-    taken-threads g.Input.Position.PositionType.offset _ c.in-CharLoopExits.states.items c.args.stack.now.items c.take_first.new.stack.items
-    (arm-threads g.Input.Position.PositionType.offset c.in_ok-execute_insn.ensures c.in-CharLoopExits.is) c.take_first.result c.take_first.ensures
+    taken-threads g.Input.Position.PositionType.offset _ c.in-CharLoopExits.states.items c.args.stack.now.items c.take_preferred_and_push_others.new.stack.items
+    (arm-threads g.Input.Position.PositionType.offset c.in_ok-execute_insn.ensures c.in-CharLoopExits.is) c.take_preferred_and_push_others.result c.take_preferred_and_push_others.ensures

@@ -6,10 +6,10 @@ use Rattle.regex_pattern_front.specs.AstToSpecTree.{tree_of}
 use Rattle.regress_machine.specs.Machine.{test_of, act}
 use Rattle.regex_meaning.specs.Text.{rightwards}
 use Rattle.regress_program.specs.CompilationOfTreesAsFunction.{compiled}
-use Rattle.regress_pikevm.specs.States.{state_of}
+use Rattle.regress_pikevm.specs.States.{machine_state_of}
 use Rattle.regress_bounded.specs.BudgetSpending.{IsWorkOrMoreThanLeft}
-use Rattle.regress_bounded.specs.CostsOfSearchEvents.{work_of}
-use Rattle.regress_bounded.specs.BoundedState.{HasPassedOver}
+use Rattle.regress_bounded.specs.CostsOfSearchEvents.{work_of_machine_step}
+use Rattle.regress_bounded.specs.BoundedState.{HasPassedRequiredChars}
 use Rattle.regress_bounded.proofs.CharLoopBodyInsns.{body-spelled}
 use Rattle.regress_bounded.proofs.LazyLoopTurnsAndResumption.{few-passed}
 use Rattle.regress_bounded.proofs.ThreadTurnLemmas.{ReadsUpTo, can-below, can-insn, reads-up-to, other-work, run-work}
@@ -23,25 +23,25 @@ bounds-insns-state g c = can-below c.args.searched.now.program.now (g.Input.Inpu
 pub offset_bounds-insns-state : goal.offset_bounds-insns-state
 offset_bounds-insns-state g c =
     let below : c.args.state.now.ip < length c.args.insns.now =
-    can-below c.args.searched.now.program.now (g.Input.InputIndexer.text c.args.searched.now.input) c.args.insns.now c.requires.code (state_of g.Input.Position.PositionType.offset c.args.state.now) c.requires.executable in
+    can-below c.args.searched.now.program.now (g.Input.InputIndexer.text c.args.searched.now.input) c.args.insns.now c.requires.code (machine_state_of g.Input.Position.PositionType.offset c.args.state.now) c.requires.executable in
     search rules
 
 -- ---- No run
 
 pub returns-in_default : goal.returns-in_default
 returns-in_default g c =
-    other-work (compiled (tree_of c.args.searched.now.program.now)) (g.Input.InputIndexer.text c.args.searched.now.input) (state_of g.Input.Position.PositionType.offset c.args.state.now) _
-    (can-insn c.args.searched.now.program.now (g.Input.InputIndexer.text c.args.searched.now.input) c.args.insns.now c.requires.code (state_of g.Input.Position.PositionType.offset c.args.state.now) c.requires.executable
+    other-work (compiled (tree_of c.args.searched.now.program.now)) (g.Input.InputIndexer.text c.args.searched.now.input) (machine_state_of g.Input.Position.PositionType.offset c.args.state.now) _
+    (can-insn c.args.searched.now.program.now (g.Input.InputIndexer.text c.args.searched.now.input) c.args.insns.now c.requires.code (machine_state_of g.Input.Position.PositionType.offset c.args.state.now) c.requires.executable
     c.index-insns-state.result c.index-insns-state.is)
     (sym c.in_default.is ∙ c.char_loop_max.ensures) c.args.progress.now.left
 
 -- ---- A run
 
 there : (g : Over) (c : In-Some g)
-    → ReadsUpTo c.args.searched.now.program.now (g.Input.InputIndexer.text c.args.searched.now.input) c.args.insns.now c.requires.code (state_of g.Input.Position.PositionType.offset c.args.state.now) c.requires.executable
+    → ReadsUpTo c.args.searched.now.program.now (g.Input.InputIndexer.text c.args.searched.now.input) c.args.insns.now c.requires.code (machine_state_of g.Input.Position.PositionType.offset c.args.state.now) c.requires.executable
     c.in-Some.most
 there g c =
-    reads-up-to c.args.searched.now.program.now (g.Input.InputIndexer.text c.args.searched.now.input) c.args.insns.now c.requires.code (state_of g.Input.Position.PositionType.offset c.args.state.now) c.requires.executable
+    reads-up-to c.args.searched.now.program.now (g.Input.InputIndexer.text c.args.searched.now.input) c.args.insns.now c.requires.code (machine_state_of g.Input.Position.PositionType.offset c.args.state.now) c.requires.executable
     c.index-insns-state.result c.index-insns-state.is c.in-Some.most (sym c.in-Some.is ∙ c.char_loop_max.ensures)
 
 pub overflow_add-state : goal.overflow_add-state
@@ -72,15 +72,15 @@ read_chars_within_budget-passed-requires-clause-bytes g c =
     ((there g (goal.at.read_chars_within_budget-passed-requires-clause-bytes g c).In-Some).reads.body c.index-insns-state-2.result c.index-insns-state-2.is)
 
 -- what is passed over
-passes : (g : Over) (c : After-read_chars_within_budget-passed g) (run : ReadsUpTo c.args.searched.now.program.now (g.Input.InputIndexer.text c.args.searched.now.input) c.args.insns.now c.requires.code (state_of g.Input.Position.PositionType.offset c.args.state.now) c.requires.executable c.in-Some.most)
-    → HasPassedOver g.Input.Position.PositionType.offset (g.Input.InputIndexer.text c.args.searched.now.input) run.reads.at.test (min c.in-Some.most (c.args.progress.now.left - 1))
+passes : (g : Over) (c : After-read_chars_within_budget-passed g) (run : ReadsUpTo c.args.searched.now.program.now (g.Input.InputIndexer.text c.args.searched.now.input) c.args.insns.now c.requires.code (machine_state_of g.Input.Position.PositionType.offset c.args.state.now) c.requires.executable c.in-Some.most)
+    → HasPassedRequiredChars g.Input.Position.PositionType.offset (g.Input.InputIndexer.text c.args.searched.now.input) run.reads.at.test (min c.in-Some.most (c.args.progress.now.left - 1))
     run.reads.at.place c.read_chars_within_budget-passed.result c.read_chars_within_budget-passed.new.pos
 passes g c run =
     let r = run.reads in
     c.read_chars_within_budget-passed.ensures.passed r.at.test r.at.place
     (sym (ap (test_of (compiled (tree_of c.args.searched.now.program.now))) (r.body c.index-insns-state-2.result c.index-insns-state-2.is)) ∙ r.at.body) r.at.at
 
-few : (g : Over) (c : After-read_chars_within_budget-passed g) → ReadsUpTo c.args.searched.now.program.now (g.Input.InputIndexer.text c.args.searched.now.input) c.args.insns.now c.requires.code (state_of g.Input.Position.PositionType.offset c.args.state.now) c.requires.executable c.in-Some.most
+few : (g : Over) (c : After-read_chars_within_budget-passed g) → ReadsUpTo c.args.searched.now.program.now (g.Input.InputIndexer.text c.args.searched.now.input) c.args.insns.now c.requires.code (machine_state_of g.Input.Position.PositionType.offset c.args.state.now) c.requires.executable c.in-Some.most
     → c.read_chars_within_budget-passed.result ≤ units (g.Input.InputIndexer.text c.args.searched.now.input)
 few g c run =
     let r = run.reads in
@@ -112,7 +112,7 @@ returns g c =
     let r = x.reads in
     let program = compiled (tree_of c.args.searched.now.program.now) in
     let text = g.Input.InputIndexer.text c.args.searched.now.input in
-    let s = state_of g.Input.Position.PositionType.offset c.args.state.now in
-    subst (λ n. IsWorkOrMoreThanLeft c.args.progress.now.left (work_of (act program text rightwards s)) (n + 1)) (sym c.min.ensures)
+    let s = machine_state_of g.Input.Position.PositionType.offset c.args.state.now in
+    subst (λ n. IsWorkOrMoreThanLeft c.args.progress.now.left (work_of_machine_step (act program text rightwards s)) (n + 1)) (sym c.min.ensures)
     (run-work program text s (g.met.Input.InputIndexer.is_text c.args.searched.now.input) r.at.test r.at.place x.least c.in-Some.most x.greedy r.run r.at.body r.at.at
     g.Input.Position.PositionType.offset c.args.progress.now.left c.read_chars_within_budget-passed.result c.read_chars_within_budget-passed.new.pos (passes g at.After-read_chars_within_budget-passed x))

@@ -15,8 +15,8 @@ characters-init g c =
       past = λ test place e f. past-none g.Input.Position.PositionType.offset text is test place c.args.pos.now f;
     }
 
-pub insn_accepts_next_char-requires-clause-at : goal.insn_accepts_next_char-requires-clause-at
-insn_accepts_next_char-requires-clause-at g c = c.characters.invariant.boundary
+pub consume_next_char_if_accepted-requires-clause-at : goal.consume_next_char_if_accepted-requires-clause-at
+consume_next_char_if_accepted-requires-clause-at g c = c.characters.invariant.boundary
 
 pub characters-preserved : goal.characters-preserved
 characters-preserved g c =
@@ -27,13 +27,13 @@ characters-preserved g c =
     let p = IsBoundary-place text (offset c.args.pos.now) is c.requires.at in
     record {
       boundary =
-          past-boundary offset text is t.0 p.0 (c.characters.count + 1) c.insn_accepts_next_char.new.pos
-          (past-more offset text is t.0 p.0 c.characters.count c.characters.pos c.insn_accepts_next_char.new.pos c.insn_accepts_next_char.result (c.characters.invariant.past t.0 p.0 t.1 p.1)
-          c.if-not-insn_accepts_next_char.false (c.insn_accepts_next_char.ensures t.0 t.1));
+          past-boundary offset text is t.0 p.0 (c.characters.count + 1) c.consume_next_char_if_accepted.new.pos
+          (past-more offset text is t.0 p.0 c.characters.count c.characters.pos c.consume_next_char_if_accepted.new.pos c.consume_next_char_if_accepted.result (c.characters.invariant.past t.0 p.0 t.1 p.1)
+          c.if-not-consume_next_char_if_accepted.false (c.consume_next_char_if_accepted.ensures t.0 t.1));
       few = omega (arith, c.characters-test.true);
       past = λ test place e f.
-          past-more offset text is test place c.characters.count c.characters.pos c.insn_accepts_next_char.new.pos c.insn_accepts_next_char.result (c.characters.invariant.past test place e f)
-          c.if-not-insn_accepts_next_char.false (c.insn_accepts_next_char.ensures test e);
+          past-more offset text is test place c.characters.count c.characters.pos c.consume_next_char_if_accepted.new.pos c.consume_next_char_if_accepted.result (c.characters.invariant.past test place e f)
+          c.if-not-consume_next_char_if_accepted.false (c.consume_next_char_if_accepted.ensures test e);
     }
 
 pub returns-after-characters-clause-at : goal.returns-after-characters-clause-at
@@ -49,15 +49,15 @@ returns-after-characters-clause-passed g c = λ test place e f.
       all = λ less. absurd (omega (arith, less, limit_is, c.characters-test.false));
     }
 
-pub returns-then-not-insn_accepts_next_char-clause-at : goal.returns-then-not-insn_accepts_next_char-clause-at
-returns-then-not-insn_accepts_next_char-clause-at g c = c.characters.invariant.boundary
+pub returns-then-not-consume_next_char_if_accepted-clause-at : goal.returns-then-not-consume_next_char_if_accepted-clause-at
+returns-then-not-consume_next_char_if_accepted-clause-at g c = c.characters.invariant.boundary
 
-pub returns-then-not-insn_accepts_next_char-clause-passed : goal.returns-then-not-insn_accepts_next_char-clause-passed
-returns-then-not-insn_accepts_next_char-clause-passed g c = λ test place e f. record {
+pub returns-then-not-consume_next_char_if_accepted-clause-passed : goal.returns-then-not-consume_next_char_if_accepted-clause-passed
+returns-then-not-consume_next_char_if_accepted-clause-passed g c = λ test place e f. record {
   few = (let limit_is = c.chars_within_budget-limit.ensures in let few = c.characters.invariant.few in omega (arith, few, limit_is));
   past = c.characters.invariant.past test place e f;
   all = λ less.
       past-all g.Input.Position.PositionType.offset (g.Input.InputIndexer.text c.args.searched.now.input) (g.met.Input.InputIndexer.is_text c.args.searched.now.input) test place
-      c.characters.count c.characters.pos (g.Input.Position.PositionType.offset c.insn_accepts_next_char.new.pos) c.insn_accepts_next_char.result (c.characters.invariant.past test place e f)
-      c.if-not-insn_accepts_next_char.true (c.insn_accepts_next_char.ensures test e);
+      c.characters.count c.characters.pos (g.Input.Position.PositionType.offset c.consume_next_char_if_accepted.new.pos) c.consume_next_char_if_accepted.result (c.characters.invariant.past test place e f)
+      c.if-not-consume_next_char_if_accepted.true (c.consume_next_char_if_accepted.ensures test e);
 }

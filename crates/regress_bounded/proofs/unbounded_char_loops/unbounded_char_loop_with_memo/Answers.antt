@@ -1,5 +1,5 @@
 use Rattle.std.proofs.Common.{◌<◌, ◌^◌, ◌+◌, ◌-◌, ◌≤◌, min, arith}
-use Rattle.regress_pikevm.specs.States.{state_of}
+use Rattle.regress_pikevm.specs.States.{machine_state_of}
 use Rattle.regress_program.specs.CompilationOfTreesAsFunction.{compiled}
 use Rattle.regex_pattern_front.specs.AstToSpecTree.{tree_of}
 use Rattle.regress_bounded.proofs.GreedyLoopScanLemmas.{past-few}
@@ -20,7 +20,7 @@ read_chars_within_budget-passed-requires-clause-at g c = (reads-here c.requires.
 -- what is passed over
 passes : (g : Over) (c : After-read_chars_within_budget-passed g)
     → PassesOver g.Input.Position.PositionType.offset (compiled (tree_of c.args.searched.now.program.now)) (g.Input.InputIndexer.text c.args.searched.now.input) c.args.run
-    (min c.args.run.least (c.args.progress.now.left - 1)) (state_of g.Input.Position.PositionType.offset c.args.state) c.read_chars_within_budget-passed.result c.read_chars_within_budget-passed.new.pos
+    (min c.args.run.least (c.args.progress.now.left - 1)) (machine_state_of g.Input.Position.PositionType.offset c.args.state) c.read_chars_within_budget-passed.result c.read_chars_within_budget-passed.new.pos
 passes g c =
     passes-over c.requires.run c.requires.stands (g.met.Input.InputIndexer.is_text c.args.searched.now.input) (min c.args.run.least (c.args.progress.now.left - 1)) c.read_chars_within_budget-passed.result
     c.read_chars_within_budget-passed.new.pos c.read_chars_within_budget-passed.ensures.passed
@@ -50,32 +50,32 @@ returns-then-passed-run-clause-continues g c = λ b h.
 
 -- ---- A greedy one
 
-pub scan_with_memo-requires-clause-sound : goal.scan_with_memo-requires-clause-sound
-scan_with_memo-requires-clause-sound g c = knows c.requires.stands
+pub scan_greedy_loop_with_memo-requires-clause-sound : goal.scan_greedy_loop_with_memo-requires-clause-sound
+scan_greedy_loop_with_memo-requires-clause-sound g c = knows c.requires.stands
 
-pub scan_with_memo-requires-clause-run : goal.scan_with_memo-requires-clause-run
-scan_with_memo-requires-clause-run g c = run-which c.requires.run c.if-run.true
+pub scan_greedy_loop_with_memo-requires-clause-run : goal.scan_greedy_loop_with_memo-requires-clause-run
+scan_greedy_loop_with_memo-requires-clause-run g c = run-which c.requires.run c.if-run.true
 
-pub scan_with_memo-requires-clause-test : goal.scan_with_memo-requires-clause-test
-scan_with_memo-requires-clause-test g c = (reads-here c.requires.run c.requires.stands).test
+pub scan_greedy_loop_with_memo-requires-clause-test : goal.scan_greedy_loop_with_memo-requires-clause-test
+scan_greedy_loop_with_memo-requires-clause-test g c = (reads-here c.requires.run c.requires.stands).test
 
-pub scan_with_memo-requires-clause-few : goal.scan_with_memo-requires-clause-few
-scan_with_memo-requires-clause-few g c =
-    let before = (goal.at.scan_with_memo-requires-clause-few g c).After-read_chars_within_budget-passed in
+pub scan_greedy_loop_with_memo-requires-clause-few : goal.scan_greedy_loop_with_memo-requires-clause-few
+scan_greedy_loop_with_memo-requires-clause-few g c =
+    let before = (goal.at.scan_greedy_loop_with_memo-requires-clause-few g c).After-read_chars_within_budget-passed in
     let p = passes g before in
     past-few g.Input.Position.PositionType.offset (g.Input.InputIndexer.text c.args.searched.now.input) (g.met.Input.InputIndexer.is_text c.args.searched.now.input) p.test p.place c.args.run.least
     c.read_chars_within_budget-passed.new.pos (all-passed p (few g before) c.if-passed-run.false)
 
-pub scan_with_memo-requires-clause-paid : goal.scan_with_memo-requires-clause-paid
-scan_with_memo-requires-clause-paid g c =
-    let most = (passes g (goal.at.scan_with_memo-requires-clause-paid g c).After-read_chars_within_budget-passed).over.few in
+pub scan_greedy_loop_with_memo-requires-clause-paid : goal.scan_greedy_loop_with_memo-requires-clause-paid
+scan_greedy_loop_with_memo-requires-clause-paid g c =
+    let most = (passes g (goal.at.scan_greedy_loop_with_memo-requires-clause-paid g c).After-read_chars_within_budget-passed).over.few in
     let le = c.if-passed-run.false in
     omega (arith, most, le)
 
 pub overflow_add-count : goal.overflow_add-count
 overflow_add-count g c =
     let before = (goal.at.overflow_add-count g c).After-read_chars_within_budget-passed in
-    let n = met-few (passes g before) (few g before) c.if-passed-run.false c.args.progress.now c.args.stack.now.items c.scan_with_memo.new.stack.items c.in_ok-next.next c.in_ok-next.count
+    let n = met-few (passes g before) (few g before) c.if-passed-run.false c.args.progress.now c.args.stack.now.items c.scan_greedy_loop_with_memo.new.stack.items c.in_ok-next.next c.in_ok-next.count
     (g.met.Input.InputIndexer.is_text c.args.searched.now.input) c.in_ok-next.ensures.scans in
     let short = g.met.Input.InputIndexer.offsets_fit c.args.searched.now.input in
     omega (arith, n, short)
@@ -83,15 +83,15 @@ overflow_add-count g c =
 pub returns-in_err-spend-2-clause-continues : goal.returns-in_err-spend-2-clause-continues
 returns-in_err-spend-2-clause-continues g c = λ b h.
     let before = (goal.at.returns-in_err-spend-2-clause-continues g c).After-read_chars_within_budget-passed in
-    goes-short h c.scan_with_memo.new.stack.items c.spend-then-run.new.self c.from_residual-in_err-spend-2.result c.in_err-spend-2.field-0.0 c.from_residual-in_err-spend-2.ensures.1
+    goes-short h c.scan_greedy_loop_with_memo.new.stack.items c.spend-then-run.new.self c.from_residual-in_err-spend-2.result c.in_err-spend-2.field-0.0 c.from_residual-in_err-spend-2.ensures.1
     c.in_err-spend-2.ensures.over.0
-    (met-over h (run-which c.requires.run c.if-run.true) (passes g before) (few g before) c.if-passed-run.false c.scan_with_memo.new.stack.items c.in_ok-next.next c.in_ok-next.count c.in_ok-next.ensures.scans
+    (met-over h (run-which c.requires.run c.if-run.true) (passes g before) (few g before) c.if-passed-run.false c.scan_greedy_loop_with_memo.new.stack.items c.in_ok-next.next c.in_ok-next.count c.in_ok-next.ensures.scans
     c.spend-then-run.new.self c.in_err-spend-2.ensures.over.1)
 
 pub returns-then-run-clause-continues : goal.returns-then-run-clause-continues
 returns-then-run-clause-continues g c = λ b h.
     let before = (goal.at.returns-then-run-clause-continues g c).After-read_chars_within_budget-passed in
-    met-goes h (run-which c.requires.run c.if-run.true) (passes g before) (few g before) c.if-passed-run.false c.scan_with_memo.new.stack.items c.in_ok-next.next c.in_ok-next.count c.in_ok-next.ensures.scans
+    met-goes h (run-which c.requires.run c.if-run.true) (passes g before) (few g before) c.if-passed-run.false c.scan_greedy_loop_with_memo.new.stack.items c.in_ok-next.next c.in_ok-next.count c.in_ok-next.ensures.scans
     c.spend-then-run.new.self c.spend-then-run.ensures.memo c.in_ok-spend-2.ensures.spent
 
 -- ---- A lazy one

@@ -1,6 +1,6 @@
 use Rattle.std.proofs.Common.{◌≡◌, ◌∙◌, ap, refl, arith}
 use Rattle.regress_search.specs.CostsOfCalls.{without_costs}
-use Rattle.regress_c.specs.Codes.{code_of}
+use Rattle.regress_c.specs.Codes.{code_of_refusal}
 use Rattle.regress_c.proofs.AllInWorkLemmas.{begun, is-failed, is-full, is-over, one_more, ranges-of}
 use Rattle.regress_c.proofs.all_in_work.write_all.Goals as goal
 
@@ -30,7 +30,7 @@ pub returns-in-Some-Err : goal.returns-in-Some-Err
 returns-in-Some-Err g c =
     is-failed (without_costs c.written.matches) c.written.spans c.written.count c.written.at c.written.invariant.0 _ c.in-Some-Err.error (without_costs c.next.new.self)
     (rw c.in-Some-Err.field-0-is at c.in-Some-Err.ensures.steps).0
-    (λ i. record { code = (c.code-code.ensures ∙ ap code_of c.from.ensures) i; count = c.written.count })
+    (λ i. record { code = (c.code-code.ensures ∙ ap code_of_refusal c.from.ensures) i; count = c.written.count })
 
 pub returns-in-None : goal.returns-in-None
 returns-in-None g c =

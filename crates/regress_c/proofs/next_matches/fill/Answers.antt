@@ -30,8 +30,8 @@ returns-in-Ok-None-clause-fills g c =
     let over = goes-same (e.tree c.args.search.now) (e.tree c.matches.search) (e.text c.args.search.now) (e.text c.matches.search)
     (e.budget c.matches.search) c.matches.filled.next (Ok None) (e.budget c.next_from.new.search) was.2 was.3
     (rw c.in-Ok-None.field-0-is at c.in-Ok-None.ensures.continues) in
-    let past : units (e.text c.args.search.now) < c.past_end.result =
-    subst (λ t. units t < c.past_end.result) (c.in-Ok-None.ensures.same_text ∙ was.3) c.past_end.ensures.past in
+    let past : units (e.text c.args.search.now) < c.offset_past_every_text.result =
+    subst (λ t. units t < c.offset_past_every_text.result) (c.in-Ok-None.ensures.same_text ∙ was.3) c.offset_past_every_text.ensures.past in
     fills-over c.matches.spans _ c.matches.filled.next c.matches.at (e.budget c.matches.search) (e.budget c.next_from.new.search)
     (g.met.E.SingleAttemptExecutor.is_text c.args.search.now) past was.0 refl over
 

@@ -17,4 +17,4 @@ returns-then-i-units c =
 pub returns : goal.returns
 returns c =
     let small : AreU16Units c.args.units.now = λ k l. Fits-lt-pow (c.type_inv.units k) in
-    ap not c.stands_pair.ensures ∙ sym (boundary-inside c.args.units.now small c.args.i c.if-i-eq0.false (omega (arith, c.if-i-units.false)))
+    ap not c.is_surrogate_pair_at_offset.ensures ∙ sym (boundary-inside c.args.units.now small c.args.i c.if-i-eq0.false (omega (arith, c.if-i-units.false)))

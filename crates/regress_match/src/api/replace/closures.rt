@@ -3,10 +3,10 @@
 ghost use Rattle.std.specs.Prelude.{◌≡◌, ◌++◌, IfErr, IfOk, false, string_bytes, take};
 ghost use Rattle.std.specs.Result.{IsOkAnd};
 ghost use Rattle.regress_match.specs.ClosureReplacement.{IsClosureErrorOrOutOfMemory};
-ghost use Rattle.regress_match.specs.{StringClosures.{ClosureCanBeCalled, CanRefuseWith, IsReplacedBy}, ProgramTreesAndAnswers.{utf8_answers}};
+ghost use Rattle.regress_match.specs.{StringClosures.{ClosureCanBeCalled, IsPossibleReplaceError, IsReplacedBy}, ProgramTreesAndAnswers.{utf8_answers}};
 ghost use Rattle.regress_match.specs.ExpansionsAndMatchRanges.{MatchesFitTextInOrderFrom};
 
-use crate::api::replace::{append_rest, append_text_before_match};
+use crate::api::replace::{append_text_after_last_match, append_text_before_match};
 use crate::api::{Match, Regex, ReplaceError};
 use regress_search::exec::{MatchProducer, Matches};
 use std::alloc::Global;
@@ -25,9 +25,9 @@ impl Regex {
         requires { ClosureCanBeCalled (F.pre with) (take 1 (utf8_answers self.now text.now 0)) }
         ensures made { IfOk result (λ s. IsReplacedBy (F.post with) text.now
             (take 1 (utf8_answers self.now text.now 0)) (string_bytes s)) }
-        ensures refused { IfErr result (CanRefuseWith (F.post with) (take 1 (utf8_answers self.now text.now 0))) }
+        ensures refused { IfErr result (IsPossibleReplaceError (F.post with) (take 1 (utf8_answers self.now text.now 0))) }
     {
-        write_first(self.allocator(), self.find_iter(text)?, text, with)
+        replace_first_by_closure(self.allocator(), self.find_iter(text)?, text, with)
     }
 
     /// Returns `text` with each match replaced by the closure's result for it. The closure is
@@ -43,7 +43,7 @@ impl Regex {
         requires { ClosureCanBeCalled (F.pre with) (utf8_answers self.now text.now 0) }
         ensures made { IfOk result (λ s.
             IsReplacedBy (F.post with) text.now (utf8_answers self.now text.now 0) (string_bytes s)) }
-        ensures refused { IfErr result (CanRefuseWith (F.post with) (utf8_answers self.now text.now 0)) }
+        ensures refused { IfErr result (IsPossibleReplaceError (F.post with) (utf8_answers self.now text.now 0)) }
     {
         replace_each_match(self.allocator(), self.find_iter(text)?, text, with)
     }
@@ -64,7 +64,7 @@ fn append_closure_result<E>(
 }
 
 // Returns the text with the first match replaced by the closure's result for it.
-fn write_first<P: MatchProducer + Drop, E, F: FnOnce(&Match) -> Result<String, E>>(
+fn replace_first_by_closure<P: MatchProducer + Drop, E, F: FnOnce(&Match) -> Result<String, E>>(
     alloc: Global,
     mut matches: Matches<P>,
     text: &str,
@@ -74,16 +74,16 @@ fn write_first<P: MatchProducer + Drop, E, F: FnOnce(&Match) -> Result<String, E
     requires executable { ClosureCanBeCalled (F.pre with) (take 1 matches.answers) }
     ensures made { IfOk result (λ s. IsReplacedBy (F.post with) text.now (take 1 matches.answers) (string_bytes s)) }
     ensures refused { matches.limited ≡ false
-        → IfErr result (CanRefuseWith (F.post with) (take 1 matches.answers)) }
+        → IfErr result (IsPossibleReplaceError (F.post with) (take 1 matches.answers)) }
 {
     let mut made = String::new(alloc);
     let Some(item) = matches.next() else {
-        return Ok(append_rest(made, text, 0)?);
+        return Ok(append_text_after_last_match(made, text, 0)?);
     };
     let found = item?;
     let behind = append_text_before_match(&mut made, text, 0, &found)?;
     append_closure_result(&mut made, with(&found))?;
-    Ok(append_rest(made, text, behind)?)
+    Ok(append_text_after_last_match(made, text, behind)?)
 }
 
 // Returns the text with each match replaced by the closure's result for it.
@@ -97,7 +97,7 @@ fn replace_each_match<P: MatchProducer + Drop, E, F: Fn(&Match) -> Result<String
     requires executable { ClosureCanBeCalled (F.pre with) matches.answers }
     ensures made { IfOk result (λ s. IsReplacedBy (F.post with) text.now matches.answers (string_bytes s)) }
     ensures refused { matches.limited ≡ false
-        → IfErr result (CanRefuseWith (F.post with) matches.answers) }
+        → IfErr result (IsPossibleReplaceError (F.post with) matches.answers) }
 {
     let mut made = String::new(alloc);
     let mut from = 0;
@@ -106,5 +106,5 @@ fn replace_each_match<P: MatchProducer + Drop, E, F: Fn(&Match) -> Result<String
         from = append_text_before_match(&mut made, text, from, &found)?;
         append_closure_result(&mut made, with(&found))?;
     }
-    Ok(append_rest(made, text, from)?)
+    Ok(append_text_after_last_match(made, text, from)?)
 }

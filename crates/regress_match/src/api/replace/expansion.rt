@@ -37,16 +37,16 @@ pub(super) fn expand(
 {
     let mut rest = replacement;
     while let Some((before, behind)) = rest.split_once('$') {
-        let (part, left) = read_part(behind);
+        let (part, left) = read_dollar_substitution(behind);
         out.push_str(before)?;
-        write_part(out, found, text, part)?;
+        append_part_expansion(out, found, text, part)?;
         rest = left;
     }
     out.push_str(rest)
 }
 
 // Reads the part after a `$`. Returns the part and the rest of the replacement.
-fn read_part(behind: &str) -> (DollarSubstitution<'_>, &str)
+fn read_dollar_substitution(behind: &str) -> (DollarSubstitution<'_>, &str)
     ensures { parsed_part_and_rest result.0 result.1.now ≡ parse_after_dollar behind.now }
 {
     match behind.as_bytes().first() {
@@ -79,7 +79,7 @@ fn read_number(digits: &str) -> (usize, &str)
 {
     let mut number = 0;
     let mut left = digits;
-    while let Some((more, behind)) = next_digit(number, left) {
+    while let Some((more, behind)) = append_digit_unless_too_large(number, left) {
         number = more;
         left = behind;
     }
@@ -88,7 +88,7 @@ fn read_number(digits: &str) -> (usize, &str)
 
 // Appends one more digit to the number. Returns the new number and the rest. Returns `None` if no
 // more digits are read.
-fn next_digit(number: usize, digits: &str) -> Option<(usize, &str)>
+fn append_digit_unless_too_large(number: usize, digits: &str) -> Option<(usize, &str)>
     ensures ends { IfNone result (parse_digits_of_group_number number digits.now
         ≡ parsed_part_from_single_replacement_part (group_part number) digits.now) }
     ensures goes_on { IfSome result (λ next. parse_digits_of_group_number number digits.now ≡
@@ -104,7 +104,7 @@ fn next_digit(number: usize, digits: &str) -> Option<(usize, &str)>
 }
 
 // Appends the expansion of a part for a match.
-fn write_part(
+fn append_part_expansion(
     out: &mut String,
     found: &Match,
     text: &str,

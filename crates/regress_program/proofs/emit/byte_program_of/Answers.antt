@@ -7,7 +7,7 @@ unfolding compiled
 invariant_of-result c = record {
   starts = record {
     predicate = rw c.requires.same c.in_ok-start_pred.ensures.predicate;
-    short = c.in_ok-start_pred.ensures.short;
+    short = c.in_ok-start_pred.ensures.over_three;
   };
   planned = c.in_ok-plan.ensures;
 }

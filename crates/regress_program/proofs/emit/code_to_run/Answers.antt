@@ -8,5 +8,5 @@ use Rattle.regress_program.proofs.emit.code_to_run.Goals as goal
 
 pub returns : goal.returns
 returns c =
-    let optimized = c.is_run_itself.ensures.optimized c.if-is_run_itself.false in
+    let optimized = c.is_tree_to_run_unchanged.ensures.optimized c.if-is_tree_to_run_unchanged.false in
     subst (λ t. IfOk c.emit_code.result (λ code. IsCodeOfTree t (arc_value code))) (to_run-shaped (tree_of c.args.re.now) optimized) c.emit_code.ensures

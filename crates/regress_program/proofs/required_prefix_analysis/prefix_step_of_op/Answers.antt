@@ -7,10 +7,10 @@ pub returns-then-falls_through_silently : goal.returns-then-falls_through_silent
 returns-then-falls_through_silently c = said-on c.args.plan.now c.args.ip c.args.op (sym c.falls_through_silently.ensures ∙ c.if-falls_through_silently.true)
 
 pub returns-in-UnitChar : goal.returns-in-UnitChar
-returns-in-UnitChar c = said-as c.args.plan.now c.args.ip c.said_of_unit.result _ _ c.in-UnitChar.is (c.said_of_unit.ensures c.args.plan.now)
+returns-in-UnitChar c = said-as c.args.plan.now c.args.ip c.prefix_contribution_of_unit.result _ _ c.in-UnitChar.is (c.prefix_contribution_of_unit.ensures c.args.plan.now)
 
 pub returns-in-One : goal.returns-in-One
-returns-in-One c = said-as c.args.plan.now c.args.ip c.said_of_class.result _ _ c.in-One.is c.said_of_class.ensures
+returns-in-One c = said-as c.args.plan.now c.args.ip c.prefix_contribution_of_class.result _ _ c.in-One.is c.prefix_contribution_of_class.ensures
 
 pub returns-in-Goto : goal.returns-in-Goto
 returns-in-Goto c = said-as c.args.plan.now c.args.ip (ahead.SameAs c.in-Goto.to) _ _ c.in-Goto.is (said-go c.args.plan.now c.args.ip c.in-Goto.to)

@@ -39,8 +39,8 @@ returns-in-None-clause-predicate c =
 pub returns-in-Some-least_byte_in_set_from-3-clause-predicate : goal.returns-in-Some-least_byte_in_set_from-3-clause-predicate
 returns-in-Some-least_byte_in_set_from-3-clause-predicate c = predicate-bracket (member_bytes_of_byte_bitmap c.args.set) c.in-Some.a _ (bytes_from-all (λ b. get_or c.args.set.table b false)) c.in-Some.ensures
 
-pub returns-in-Some-least_byte_in_set_from-3-clause-short : goal.returns-in-Some-least_byte_in_set_from-3-clause-short
-returns-in-Some-least_byte_in_set_from-3-clause-short c =
+pub returns-in-Some-least_byte_in_set_from-3-clause-over_three : goal.returns-in-Some-least_byte_in_set_from-3-clause-over_three
+returns-in-Some-least_byte_in_set_from-3-clause-over_three c =
     let set = member_bytes_of_byte_bitmap c.args.set in
     let a = c.in-Some.a in
     let b = c.in-Some-least_byte_in_set_from.b in

@@ -3,7 +3,7 @@ use Rattle.std.specs.Prelude.{IfSome}
 use Rattle.regex_meaning.specs.CodeUnitOffsets.{IsBoundary}
 use Rattle.regex_meaning.specs.Text.{Text}
 use Rattle.regex_meaning.specs.Tree.{Tree}
-use Rattle.regress_search.specs.CostsOfSearches.{Failures, IfWorkIsCounted, MayStopShort, SearchCosts, TakesExactCost}
+use Rattle.regress_search.specs.CostsOfSearches.{Failures, IfWorkIsCounted, LeavesWorkWithoutResult, SearchCosts, TakesExactCost}
 use Rattle.regress_search.specs.SearchEffects.{IsNextStartAfterFirstMatch}
 use Rattle.regress_search.specs.declared.exec.Match.{Match}
 use Rattle.regress_search.specs.MatchesAsSpecAnswers.{answer_of}
@@ -91,7 +91,7 @@ returns-in-Err-clause-cost g c =
     let producer = c.args.producer.now in
     let new = c.next_match.new.self in
     costs-of p.counts_work g.P.Position.PositionType.offset p.attempt_costs (p.tree producer) (p.text producer) (p.failures producer) c.args.position.now c.in_ok-pos.pos c.in_ok-pos.was
-    (λ costs. MayStopShort costs (p.left producer) (p.out_of_work new) (p.left new)) c.in-Err.ensures.cost
+    (λ costs. LeavesWorkWithoutResult costs (p.left producer) (p.out_of_work new) (p.left new)) c.in-Err.ensures.cost
 
 pub returns-in-Ok-Some-clause-continues : goal.returns-in-Ok-Some-clause-continues
 returns-in-Ok-Some-clause-continues g c =

@@ -13,13 +13,13 @@ found at is here op = sym is ∙ ap (option_map (λ (o : Bor Op). o.now)) here �
 pub returns-in-Some-Goto : goal.returns-in-Some-Goto
 returns-in-Some-Goto g c = λ yes insn is.
     let s = c.in-Some-Goto in
-    let nearer = c.is_nearer.ensures yes in
+    let nearer = c.is_jump_forward_up_to_end.ensures yes in
     inl (s.to, c.lemma_plan_fits_program.ensures.each c.args.ip _ insn (found (slice_get (g.W.SearchContext.searching c.args.context.now).plan.ops.items c.args.ip) c.op_at.ensures s.is s.field-0-is) is, nearer.0, nearer.1)
 
 pub returns-then-forks : goal.returns-then-forks
 returns-then-forks g c = λ yes insn is.
     let s = c.in-Some-Either in
-    let nearer = c.is_nearer-then-forks.ensures yes in
+    let nearer = c.is_jump_forward_up_to_end-then-forks.ensures yes in
     subst (λ forks. ReadsNothingAndLeadsOnward forks c.args.end c.args.ip insn) (sym c.if-forks.true)
     (inr (s.other, c.lemma_plan_fits_program.ensures.each c.args.ip _ insn (found (slice_get (g.W.SearchContext.searching c.args.context.now).plan.ops.items c.args.ip) c.op_at.ensures s.is s.field-0-is) is, nearer.0, nearer.1))
 

@@ -8,5 +8,5 @@ blocks-2-preserved g c =
     let at = c.blocks-2.at in (
       omega (arith, c.blocks-2.invariant.0),
       omega (arith, c.blocks-2-test.true, c.blocks-2.invariant.1),
-      none-then test c.args.from at (at + 32) c.blocks-2.invariant.2 (c.is_quiet.ensures c.if-is_quiet.true),
+      none-then test c.args.from at (at + 32) c.blocks-2.invariant.2 (c.may_skip_block.ensures c.if-may_skip_block.true),
     )

@@ -11,7 +11,7 @@ units-init g c =
 pub units-preserved : goal.units-preserved
 units-preserved g c =
     let w = g.W.SearchContext.searching c.args.context.now in
-    scan-goes w (g.Set.StartSet.table c.args.set.now) c.args.from c.units.at c.past_unit-at.result c.unit_key_at_offset.result c.units.invariant c.past_unit-at.ensures
+    scan-goes w (g.Set.StartSet.table c.args.set.now) c.args.from c.units.at c.offset_after_unit_or_char-at.result c.unit_key_at_offset.result c.units.invariant c.offset_after_unit_or_char-at.ensures
     c.unit_key_at_offset.ensures.is (sym c.has_key.ensures ∙ c.if-has_key.false)
 
 pub returns-then-has_key : goal.returns-then-has_key

@@ -23,28 +23,28 @@ next_of_few_units-requires-clause-leads g c =
 pub returns-in-FewUnits : goal.returns-in-FewUnits
 returns-in-FewUnits g c = try-as (g.W.SearchContext.searching c.args.context.now) (FewUnits c.in-FewUnits.units c.in-FewUnits.len) (sym c.start_filter_of_plan.ensures ∙ c.in-FewUnits.is) c.args.from c.next_of_few_units.result c.next_of_few_units.ensures
 
-pub next_by_lookbehind-requires-clause-leads : goal.next_by_lookbehind-requires-clause-leads
-next_by_lookbehind-requires-clause-leads g c =
+pub next_start_by_preceding_char-requires-clause-leads : goal.next_start_by_preceding_char-requires-clause-leads
+next_start_by_preceding_char-requires-clause-leads g c =
     let w = g.W.SearchContext.searching c.args.context.now in
     (prefix-known w (Behind c.in-Behind.before) (sym c.start_filter_of_plan.ensures ∙ c.in-Behind.is) c.lemma_plan_fits_program.ensures.prefix).leads
 
 pub returns-in-Behind : goal.returns-in-Behind
-returns-in-Behind g c = try-as (g.W.SearchContext.searching c.args.context.now) (Behind c.in-Behind.before) (sym c.start_filter_of_plan.ensures ∙ c.in-Behind.is) c.args.from c.next_by_lookbehind.result c.next_by_lookbehind.ensures
+returns-in-Behind g c = try-as (g.W.SearchContext.searching c.args.context.now) (Behind c.in-Behind.before) (sym c.start_filter_of_plan.ensures ∙ c.in-Behind.is) c.args.from c.next_start_by_preceding_char.result c.next_start_by_preceding_char.ensures
 
-pub first_filtered-requires-clause-some : goal.first_filtered-requires-clause-some
-first_filtered-requires-clause-some g c =
+pub next_prefix_by_prefilter-requires-clause-some : goal.next_prefix_by_prefilter-requires-clause-some
+next_prefix_by_prefilter-requires-clause-some g c =
     let w = g.W.SearchContext.searching c.args.context.now in
     (prefix-known w (Prefix c.in-Prefix.prefix c.in-Prefix.prefilter) (sym c.start_filter_of_plan.ensures ∙ c.in-Prefix.is) c.lemma_plan_fits_program.ensures.prefix).0
 
-pub first_filtered-requires-clause-ascii : goal.first_filtered-requires-clause-ascii
-first_filtered-requires-clause-ascii g c =
+pub next_prefix_by_prefilter-requires-clause-ascii : goal.next_prefix_by_prefilter-requires-clause-ascii
+next_prefix_by_prefilter-requires-clause-ascii g c =
     let w = g.W.SearchContext.searching c.args.context.now in
     (prefix-known w (Prefix c.in-Prefix.prefix c.in-Prefix.prefilter) (sym c.start_filter_of_plan.ensures ∙ c.in-Prefix.is) c.lemma_plan_fits_program.ensures.prefix).2
 
-pub first_filtered-requires-clause-filter : goal.first_filtered-requires-clause-filter
-first_filtered-requires-clause-filter g c =
+pub next_prefix_by_prefilter-requires-clause-filter : goal.next_prefix_by_prefilter-requires-clause-filter
+next_prefix_by_prefilter-requires-clause-filter g c =
     let w = g.W.SearchContext.searching c.args.context.now in
     (prefix-known w (Prefix c.in-Prefix.prefix c.in-Prefix.prefilter) (sym c.start_filter_of_plan.ensures ∙ c.in-Prefix.is) c.lemma_plan_fits_program.ensures.prefix).3
 
 pub returns-in-Prefix : goal.returns-in-Prefix
-returns-in-Prefix g c = try-as (g.W.SearchContext.searching c.args.context.now) (Prefix c.in-Prefix.prefix c.in-Prefix.prefilter) (sym c.start_filter_of_plan.ensures ∙ c.in-Prefix.is) c.args.from c.first_filtered.result c.first_filtered.ensures
+returns-in-Prefix g c = try-as (g.W.SearchContext.searching c.args.context.now) (Prefix c.in-Prefix.prefix c.in-Prefix.prefilter) (sym c.start_filter_of_plan.ensures ∙ c.in-Prefix.is) c.args.from c.next_prefix_by_prefilter.result c.next_prefix_by_prefilter.ensures

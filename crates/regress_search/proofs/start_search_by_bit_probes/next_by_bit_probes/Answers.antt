@@ -7,8 +7,8 @@ pub returns-then-is_of_rare_letter : goal.returns-then-is_of_rare_letter
 returns-then-is_of_rare_letter g c =
     let w = g.W.SearchContext.searching c.args.context.now in
     let from = c.args.from in
-    let to = from + c.places_left.result in
-    let enough : units w.text + 1 ≤ to + c.args.probed.prefix.now.len = omega (arith, c.places_left.ensures, c.text_end.ensures) in
+    let to = from + c.number_of_offsets_with_room.result in
+    let enough : units w.text + 1 ≤ to + c.args.probed.prefix.now.len = omega (arith, c.number_of_offsets_with_room.ensures, c.text_end.ensures) in
     first-where w c.args.probed.prefix.now (g.met.W.SearchContext.has_units c.args.context.now) c.args.probed.some c.requires.ascii from to c.first_by_marks.result
     enough c.first_by_marks.ensures
 
@@ -16,7 +16,7 @@ pub returns-else-is_of_rare_letter : goal.returns-else-is_of_rare_letter
 returns-else-is_of_rare_letter g c =
     let w = g.W.SearchContext.searching c.args.context.now in
     let from = c.args.from in
-    let to = from + c.places_left.result in
-    let enough : units w.text + 1 ≤ to + c.args.probed.prefix.now.len = omega (arith, c.places_left.ensures, c.text_end.ensures) in
+    let to = from + c.number_of_offsets_with_room.result in
+    let enough : units w.text + 1 ≤ to + c.args.probed.prefix.now.len = omega (arith, c.number_of_offsets_with_room.ensures, c.text_end.ensures) in
     first-where w c.args.probed.prefix.now (g.met.W.SearchContext.has_units c.args.context.now) c.args.probed.some c.requires.ascii from to c.first_by_marks-else-is_of_rare_letter.result
     enough c.first_by_marks-else-is_of_rare_letter.ensures

@@ -16,8 +16,8 @@ overflow_sub-text_end g c =
     let inside = boundary_inside text (g.met.W.SearchContext.is_text c.args.context.now) c.args.at c.requires in
     omega (arith, inside, c.text_end.ensures)
 
-pub fits_here-requires : goal.fits_here-requires
-fits_here-requires g c =
+pub prefix_fits_at_offset-requires : goal.prefix_fits_at_offset-requires
+prefix_fits_at_offset-requires g c =
     let text = (g.W.SearchContext.searching c.args.context.now).text in
     let inside = boundary_inside text (g.met.W.SearchContext.is_text c.args.context.now) c.args.at c.requires in
     omega (arith, inside, c.text_end.ensures, c.if-text_end-at.true)

@@ -45,4 +45,4 @@ loop-item-preserved-in_ok-from c = let w = written (goal.at.loop-item-preserved-
 
 pub returns-clause-colored : goal.returns-clause-colored
 returns-clause-colored c =
-    painted-end c.args.line.now c.args.paint.start.now c.args.paint.end.now (string_bytes c.loop-item.made) _ _ c.loop-item.from c.loop-item.item-iterator.answers c.loop-item.invariant.made c.in-None.ensures.steps.0 c.in_ok-push_rest.ensures
+    painted-end c.args.line.now c.args.paint.start.now c.args.paint.end.now (string_bytes c.loop-item.made) _ _ c.loop-item.from c.loop-item.item-iterator.answers c.loop-item.invariant.made c.in-None.ensures.steps.0 c.in_ok-push_rest_of_line.ensures

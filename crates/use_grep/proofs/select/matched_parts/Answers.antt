@@ -1,7 +1,7 @@
 use Rattle.std.proofs.Common.{◌∙◌, ◌++◌, List, map, ap}
 use Rattle.regress_search.specs.RemainingAnswers.{RemainingView}
 use Rattle.regress_match.proofs.MatchRangeLemmas.{reached-unlimited}
-use Rattle.use_grep.specs.Selecting.{matched_parts, shown_part}
+use Rattle.use_grep.specs.Selecting.{matched_parts, start_and_text_of_part}
 use Rattle.use_grep.proofs.select.matched_parts.Goals as goal
 
 pub loop-item-init : goal.loop-item-init
@@ -14,6 +14,6 @@ loop-item-init c = record {
         c.into_iter-item-iterator.ensures.into_iter_gives,
   );
   parts =
-      ap (λ (xs : List _). map shown_part xs ++ matched_parts c.args.line.now c.into_iter-item-iterator.result.answers) c.new-parts.ensures.items
+      ap (λ (xs : List _). map start_and_text_of_part xs ++ matched_parts c.args.line.now c.into_iter-item-iterator.result.answers) c.new-parts.ensures.items
       ∙ ap (matched_parts c.args.line.now) (ap (λ (it : RemainingView). it.answers) c.into_iter-item-iterator.ensures.into_iter_gives ∙ c.in_ok-item-items.ensures.answers.answers);
 }

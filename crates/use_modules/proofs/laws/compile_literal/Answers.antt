@@ -14,6 +14,6 @@ returns c =
     let text = c.args.text.now in
     let pattern = c.as_str.result.now in
     IfOk-map c.new.result (IsCompiledWith flags (chars pattern)) _
-    (λ re is. c.one_tree.ensures flags (chars pattern) (tree_for_16_bit_units re) (literal_tree flags (chars text)) is.parsed
+    (λ re is. c.pattern_has_at_most_one_tree.ensures flags (chars pattern) (tree_for_16_bit_units re) (literal_tree flags (chars text)) is.parsed
     (subst (λ p. Parses flags (chars p) (literal_tree flags (chars text))) (sym (c.as_str.ensures.value ∙ c.in_ok-pattern.ensures))
-    (c.escaped_bytes_are_read.ensures flags text (is_utf8-from_IsUtf8 text c.utf8.text)))) c.new.ensures.compiled
+    (c.escaped_utf8_parses_as_literal.ensures flags text (is_utf8-from_IsUtf8 text c.utf8.text)))) c.new.ensures.compiled

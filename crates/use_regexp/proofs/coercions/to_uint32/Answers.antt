@@ -3,8 +3,8 @@ use Rattle.use_regexp.proofs.coercions.to_uint32.Goals as goal
 
 pub returns-then-number : goal.returns-then-number
 returns-then-number c =
-    negative-uint32 c.args.number c.wrapping_neg.result c.size_modulo_32_bits-size.result c.if-number.true
-    c.wrapping_neg.type_inv c.size_modulo_32_bits-size.type_inv c.size_modulo_32_bits-size.ensures c.wrapping_neg.ensures
+    negative-uint32 c.args.number c.wrapping_neg.result c.size_modulo_2_32-size.result c.if-number.true
+    c.wrapping_neg.type_inv c.size_modulo_2_32-size.type_inv c.size_modulo_2_32-size.ensures c.wrapping_neg.ensures
 
 pub returns-else-number : goal.returns-else-number
-returns-else-number c = other-uint32 c.args.number c.size_modulo_32_bits-size.result c.if-number.false c.size_modulo_32_bits-size.ensures
+returns-else-number c = other-uint32 c.args.number c.size_modulo_2_32-size.result c.if-number.false c.size_modulo_2_32-size.ensures

@@ -14,7 +14,7 @@ returns-in_default c =
 
 pub signs-preserved : goal.signs-preserved
 signs-preserved c =
-    said-more c.args.text.now (answer_of c.args.found.now) c.signs.out.items c.push_said.new.out.items _ c.signs.rest.now c.in-Some.behind.now c.in_ok-rest.rest.now
+    said-more c.args.text.now (answer_of c.args.found.now) c.signs.out.items c.push_expansion_of_first_part.new.out.items _ c.signs.rest.now c.in-Some.behind.now c.in_ok-rest.rest.now
     c.in-Some.first.now (length c.args.template.now - c.signs._turn) (length c.args.template.now - (c.signs._turn + 1)) c.signs.invariant
     c.in-Some.ensures.cases.0 (omega (arith, c.signs-test.true)) c.in_ok-rest.ensures
 

@@ -4,7 +4,7 @@ use Rattle.regex_meaning.specs.Laws.{Each}
 use Rattle.regress_search.specs.MatchesAsSpecAnswers.{answer_of}
 use Rattle.regress_match.specs.ExpansionsAndMatchRanges.{IsCharBoundaryRange}
 use Rattle.regress_match.proofs.MatchRangeLemmas.{named-fit}
-use Rattle.use_renamer.specs.Names.{described}
+use Rattle.use_renamer.specs.Names.{group_name_and_text}
 use Rattle.use_renamer.proofs.groups.show.Goals as goal
 
 pub loop-name-init : goal.loop-name-init
@@ -15,5 +15,5 @@ loop-name-init c =
       can = tt;
       finite = tt;
       fit = subst (Each (λ (named : List ℕ × Option (ℕ × ℕ)). IfSome named.1 (IsCharBoundaryRange text))) (sym all) (named-fit text (answer_of c.args.found.now) c.requires);
-      written = ap (λ bs. bs ++ flat_map (described text) c.into_iter-name-iterator.result) c.new-line.ensures.bytes ∙ ap (flat_map (described text)) all;
+      written = ap (λ bs. bs ++ flat_map (group_name_and_text text) c.into_iter-name-iterator.result) c.new-line.ensures.bytes ∙ ap (flat_map (group_name_and_text text)) all;
     }

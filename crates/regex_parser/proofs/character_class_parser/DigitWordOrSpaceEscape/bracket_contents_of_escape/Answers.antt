@@ -7,5 +7,5 @@ use Rattle.regex_parser.proofs.character_class_parser.DigitWordOrSpaceEscape.bra
 
 pub returns-clause-set : goal.returns-clause-set
 returns-clause-set c =
-    set-of_class (spec_flags_of c.args.flags) (uninverted_digit_word_or_space_set c.args.self.base) c.in_ok-case_closed.field-0 (is_in_any_interval c.in_ok-intervals.field-0.items)
-    (λ d. ap (λ x. in_intervals x d) c.in_ok-intervals.ensures) c.in_ok-case_closed.ensures
+    set-of_class (spec_flags_of c.args.flags) (uninverted_digit_word_or_space_set c.args.self.base) c.in_ok-into_case_closed_set.field-0 (is_in_any_interval c.in_ok-intervals.field-0.items)
+    (λ d. ap (λ x. in_intervals x d) c.in_ok-intervals.ensures) c.in_ok-into_case_closed_set.ensures

@@ -23,13 +23,13 @@ returns-in_ok-push-in-Ok-Some-clause-text c =
     rw (c.in_ok-push-in-Ok-Some.ensures.items, c.in-Ok-Some.range-is)
     (member-range c.in_ok-first.first c.in-Some.second c.in-Ok-Some.range c.args.intervals.now.items c.in_ok-first.ensures.text t.1 t.2 (rw c.in-Ok-Some.field-0-is at c.in-Ok-Some.ensures))
 
-pub returns-in_ok-add_apart-in-Ok-None-clause-text : goal.returns-in_ok-add_apart-in-Ok-None-clause-text
-returns-in_ok-add_apart-in-Ok-None-clause-text c =
+pub returns-in_ok-add_atoms_and_dash-in-Ok-None-clause-text : goal.returns-in_ok-add_atoms_and_dash-in-Ok-None-clause-text
+returns-in_ok-add_atoms_and_dash-in-Ok-None-clause-text c =
     let t = rw c.in-Some.is at c.in_ok-second.ensures.text in
     let f = spec_flags_of c.args.self.flags in (
       member_of_atom f c.in_ok-first.first ∷ character 45 ∷ member_of_atom f c.in-Some.second ∷ [],
       member-apart c.in_ok-first.first c.in-Some.second c.in_ok-first.ensures.text t.1 t.2 (rw c.in-Ok-None.field-0-is at c.in-Ok-None.ensures),
-      c.in_ok-add_apart-in-Ok-None.ensures,
+      c.in_ok-add_atoms_and_dash-in-Ok-None.ensures,
     )
 
 pub returns-in-Err-clause-text : goal.returns-in-Err-clause-text

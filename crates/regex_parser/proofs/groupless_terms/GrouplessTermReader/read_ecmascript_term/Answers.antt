@@ -19,9 +19,9 @@ returns-then-c-2-clause-text c = λ apart groups known.
 pub returns-in-Some-clause-leaf : goal.returns-in-Some-clause-leaf
 returns-in-Some-clause-leaf c = c.in-Some.ensures.leaf c.args.self.now.references
 
-pub returns-in-Some-wrong_alone-clause-text : goal.returns-in-Some-wrong_alone-clause-text
-returns-in-Some-wrong_alone-clause-text c = λ apart groups known r.
-    alone-none-ecma (pattern_context c.args.self.now.flags groups) c.args.c c.args.self.now.reader.rest.now c.in-Some-wrong_alone.ensures
+pub returns-in-Some-cause_if_wrong_alone-clause-text : goal.returns-in-Some-cause_if_wrong_alone-clause-text
+returns-in-Some-cause_if_wrong_alone-clause-text c = λ apart groups known r.
+    alone-none-ecma (pattern_context c.args.self.now.flags groups) c.args.c c.args.self.now.reader.rest.now c.in-Some-cause_if_wrong_alone.ensures
 
 pub returns-then-is_brace_or_closing_bracket-clause-leaf : goal.returns-then-is_brace_or_closing_bracket-clause-leaf
 returns-then-is_brace_or_closing_bracket-clause-leaf c = rw c.atom.ensures.node (leaf-Char c.args.self.now.references c.args.c)
@@ -29,11 +29,11 @@ returns-then-is_brace_or_closing_bracket-clause-leaf c = rw c.atom.ensures.node 
 pub returns-then-is_brace_or_closing_bracket-clause-text : goal.returns-then-is_brace_or_closing_bracket-clause-text
 returns-then-is_brace_or_closing_bracket-clause-text c = λ apart groups known.
     let is = sym c.is_brace_or_closing_bracket.ensures ∙ c.if-is_brace_or_closing_bracket.true in
-    brace-term (pattern_context c.args.self.now.flags groups) c.args.c c.args.self.now.reader.rest.now c.atom.result is (c.in_default-wrong_alone.ensures.1 is) c.atom.ensures.atom c.atom.ensures.node
+    brace-term (pattern_context c.args.self.now.flags groups) c.args.c c.args.self.now.reader.rest.now c.atom.result is (c.in_default-cause_if_wrong_alone.ensures.1 is) c.atom.ensures.atom c.atom.ensures.node
 
 pub returns-clause-text : goal.returns-clause-text
 returns-clause-text c = λ apart groups known.
     character-term (pattern_context c.args.self.now.flags groups) c.args.c c.args.self.now.reader.rest.now c.ecmascript_character.result
-    (ne_eqb c.args.c 92 c.if-c.false) (ne_eqb c.args.c 91 c.if-c-2.false) (c.in_default.ensures.ecma [] []) c.in_default-wrong_alone.ensures.0
+    (ne_eqb c.args.c 92 c.if-c.false) (ne_eqb c.args.c 91 c.if-c-2.false) (c.in_default.ensures.ecma [] []) c.in_default-cause_if_wrong_alone.ensures.0
     (sym c.is_brace_or_closing_bracket.ensures ∙ c.if-is_brace_or_closing_bracket.false) apart
     c.ecmascript_character.ensures.atom c.ecmascript_character.ensures.node c.ecmascript_character.ensures.memory

@@ -28,17 +28,17 @@ pub returns-in-Some-clause-passed : goal.returns-in-Some-clause-passed
 returns-in-Some-clause-passed c = λ apart.
     passed-of (pattern_context c.args.self.now.flags []) c.args.c _ _ c.in-Some.leaf apart (c.in-Some.ensures.text [] c.args.self.now.reader.rest.now)
 
-pub returns-in-Some-wrong_alone-clause-text : goal.returns-in-Some-wrong_alone-clause-text
-returns-in-Some-wrong_alone-clause-text c = λ apart groups known r.
-    alone-none (pattern_context c.args.self.now.flags groups) c.args.c c.args.self.now.reader.rest.now c.in-Some-wrong_alone.ensures
+pub returns-in-Some-cause_if_wrong_alone-clause-text : goal.returns-in-Some-cause_if_wrong_alone-clause-text
+returns-in-Some-cause_if_wrong_alone-clause-text c = λ apart groups known r.
+    alone-none (pattern_context c.args.self.now.flags groups) c.args.c c.args.self.now.reader.rest.now c.in-Some-cause_if_wrong_alone.ensures
 
 pub returns-clause-passed : goal.returns-clause-passed
 returns-clause-passed c = λ apart.
     in-all c.character.result (scanned.past_leaf (pattern_context c.args.self.now.flags []) _ _ _ (alone c.args.self.now.flags [] c.args.c c.args.self.now.reader.rest.now
-    (ne_eqb c.args.c 92 c.if-c.false) (ne_eqb c.args.c 91 c.if-c-2.false) (c.in_default.ensures.text [] []) c.in_default-wrong_alone.ensures apart))
+    (ne_eqb c.args.c 92 c.if-c.false) (ne_eqb c.args.c 91 c.if-c-2.false) (c.in_default.ensures.text [] []) c.in_default-cause_if_wrong_alone.ensures apart))
 
 pub returns-clause-text : goal.returns-clause-text
 returns-clause-text c = λ apart groups known.
     character-read (NoTerm (pattern_context c.args.self.now.flags groups) (c.args.c ∷ c.args.self.now.reader.rest.now)) (pattern_context c.args.self.now.flags groups) _ _ _ c.character.result _ c.character.ensures.atom c.character.ensures.node c.character.ensures.memory
     (alone c.args.self.now.flags groups c.args.c c.args.self.now.reader.rest.now
-    (ne_eqb c.args.c 92 c.if-c.false) (ne_eqb c.args.c 91 c.if-c-2.false) (c.in_default.ensures.text [] []) c.in_default-wrong_alone.ensures apart)
+    (ne_eqb c.args.c 92 c.if-c.false) (ne_eqb c.args.c 91 c.if-c-2.false) (c.in_default.ensures.text [] []) c.in_default-cause_if_wrong_alone.ensures apart)

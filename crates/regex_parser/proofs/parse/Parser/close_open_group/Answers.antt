@@ -1,7 +1,7 @@
 use Rattle.std.proofs.Common.{arith}
-use Rattle.regex_pattern_front.specs.AstToSpecTree.{node_of}
+use Rattle.regex_pattern_front.specs.AstToSpecTree.{spec_node_of}
 use Rattle.regex_pattern_front.specs.SubtreeListInvariants.{IsSoundSubtreeWithGroupIds}
-use Rattle.regex_parser.specs.GroupIdInvariant.{nodes_at}
+use Rattle.regex_parser.specs.GroupIdInvariant.{nodes_read_in_disjunction}
 use Rattle.regex_pattern_front.proofs.SubtreeListLemmas.{parts-push, empty-list}
 use Rattle.regex_parser.proofs.GroupIdInvariantLemmas.{IsLast, open-pop}
 use Rattle.std.proofs.Common.{◌≡◌, [], refl}
@@ -19,15 +19,15 @@ returns-clause-reading c =
     let references = c.args.self.now.leaves.references in
     let last : IsLast references 0 r.inner c.pop.new.self.items o =
     open-pop references 0 r.inner c.pop.new.self.items o (rw c.in-Some.ensures.items at r.around) in
-    let contents : IsSoundSubtreeWithGroupIds r.inner groups references (node_of c.in_ok-contents.contents) =
+    let contents : IsSoundSubtreeWithGroupIds r.inner groups references (spec_node_of c.in_ok-contents.contents) =
     (rw c.replace.ensures.value at c.in_ok-contents.ensures.parts) r.inner groups references r.level in
-    let node : IsSoundSubtreeWithGroupIds o.start groups references (node_of c.in_ok-node.node) = c.in_ok-node.ensures.part references (rw last.within contents) in
+    let node : IsSoundSubtreeWithGroupIds o.start groups references (spec_node_of c.in_ok-node.node) = c.in_ok-node.ensures.part references (rw last.within contents) in
     rw c.in_ok-node-2.ensures.references
     (record {
       inner = last.middle;
       around = last.around;
       level = rw (c.in_ok-push.ensures.parts, c.replace.ensures.after)
-          (parts-push last.middle o.start groups references references (nodes_at o.outer) c.in_ok-node-2.node (omega arith) last.level
+          (parts-push last.middle o.start groups references references (nodes_read_in_disjunction o.outer) c.in_ok-node-2.node (omega arith) last.level
           (c.in_ok-node-2.ensures.part references node));
     })
 

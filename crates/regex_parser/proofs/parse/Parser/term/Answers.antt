@@ -1,6 +1,6 @@
 use Rattle.std.proofs.Common.{◌≤◌}
-use Rattle.regex_pattern_front.specs.AstToSpecTree.{node_of}
-use Rattle.regex_parser.specs.GroupIdInvariant.{nodes_at}
+use Rattle.regex_pattern_front.specs.AstToSpecTree.{spec_node_of}
+use Rattle.regex_parser.specs.GroupIdInvariant.{nodes_read_in_disjunction}
 use Rattle.regex_pattern_front.proofs.SubtreeListLemmas.{part-leaf, parts-push}
 use Rattle.regex_parser.proofs.GroupIdInvariantLemmas.{open-more}
 use Rattle.regex_parser.proofs.DialectRequirementLemmas.{readable}
@@ -20,8 +20,8 @@ returns-clause-reading c =
       inner = r.inner;
       around = open-more old new 0 r.inner c.args.self.now.around.items more r.around;
       level = rw c.in_ok-push.ensures.parts
-          (parts-push r.inner groups groups old new (nodes_at c.args.self.now.level) c.in_ok-node-2.node more r.level
-          (c.in_ok-node-2.ensures.part new (part-leaf groups new (node_of c.in_ok-node.field-0.node) c.in_ok-node.ensures.leaf)));
+          (parts-push r.inner groups groups old new (nodes_read_in_disjunction c.args.self.now.level) c.in_ok-node-2.node more r.level
+          (c.in_ok-node-2.ensures.part new (part-leaf groups new (spec_node_of c.in_ok-node.field-0.node) c.in_ok-node.ensures.leaf)));
     })
 
 pub returns-in_err-node-clause-text : goal.returns-in_err-node-clause-text

@@ -9,5 +9,5 @@ invariant_of-result g c =
     record {
       right = search rules;
       opened = subst (λ plan. OnlyOpensGroups plan c.of-leading_loop.result.opens) c.plan.ensures c.of-leading_loop.ensures;
-      leapt = no-leap-yet _ _ (g.met.Input.InputIndexer.is_text s.searched.input) _ _ c.new-leap.ensures.from c.new-leap.ensures.to;
+      no_match_in_last_leap = no-leap-yet _ _ (g.met.Input.InputIndexer.is_text s.searched.input) _ _ c.new-leap.ensures.from c.new-leap.ensures.to;
     }

@@ -8,22 +8,22 @@ use Rattle.regress_search.proofs.MatchesWithinWorkLemmas.{goes-on-free}
 use Rattle.regress_backtrack.proofs.PlannedTreeLemmas.{can-be, can-run, end-context, ends-context, search-run}
 use Rattle.regress_backtrack.proofs.classicalbacktrack.BacktrackExecutorSingleAttemptExecutor.attempt.Goals as goal
 
-pub leaps_over_if_due-requires-clause-executable : goal.leaps_over_if_due-requires-clause-executable
-leaps_over_if_due-requires-clause-executable g c =
+pub make_leap_if_due-requires-clause-executable : goal.make_leap_if_due-requires-clause-executable
+make_leap_if_due-requires-clause-executable g c =
     let s = c.args.self.now.search in
     search-run s.program.wide s.same s.searched.well_formed s.searched.unicode s.searched.bytes (g.met.Input.InputIndexer.is_text s.searched.input)
 
-pub returns-then-leaps_over_if_due-clause-found : goal.returns-then-leaps_over_if_due-clause-found
-returns-then-leaps_over_if_due-clause-found g c =
+pub returns-then-make_leap_if_due-clause-found : goal.returns-then-make_leap_if_due-clause-found
+returns-then-make_leap_if_due-clause-found g c =
     let s = c.args.self.now.search in
     let can = can-be s.same s.searched.well_formed s.searched.unicode s.searched.bytes in
     let offset = g.Input.Position.PositionType.offset in
     let text = g.Input.InputIndexer.text s.searched.input in
-    let none = subst (NoMatchAt (executed_tree_of s.program) text) c.pos_to_offset-at.ensures (c.leaps_over_if_due.ensures.none c.if-leaps_over_if_due.true) in
+    let none = subst (NoMatchAt (executed_tree_of s.program) text) c.pos_to_offset-at.ensures (c.make_leap_if_due.ensures.none c.if-make_leap_if_due.true) in
     sym none ∙ end-context s.program.wide (tree_of s.program.regex) text can.well_formed (offset c.args.pos)
 
-pub returns-then-leaps_over_if_due-clause-work : goal.returns-then-leaps_over_if_due-clause-work
-returns-then-leaps_over_if_due-clause-work g c =
+pub returns-then-make_leap_if_due-clause-work : goal.returns-then-make_leap_if_due-clause-work
+returns-then-make_leap_if_due-clause-work g c =
     let offset = g.Input.Position.PositionType.offset in
     goes-on-free {E = SearchError} offset (offset c.args.pos) (Ok None)
 

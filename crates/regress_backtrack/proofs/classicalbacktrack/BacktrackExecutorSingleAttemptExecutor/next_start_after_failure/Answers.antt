@@ -6,8 +6,8 @@ use Rattle.regress_backtrack.proofs.CandidateStartLemmas.{next-further}
 use Rattle.regress_backtrack.proofs.PlannedTreeLemmas.{can-be, search-run, end-context, next-tree, next-context}
 use Rattle.regress_backtrack.proofs.classicalbacktrack.BacktrackExecutorSingleAttemptExecutor.next_start_after_failure.Goals as goal
 
-pub next_candidate_past_leap-requires-clause-leapt : goal.next_candidate_past_leap-requires-clause-leapt
-next_candidate_past_leap-requires-clause-leapt g c = c.args.self.now.leapt
+pub next_candidate_past_leap-requires-clause-no_match_in_last_leap : goal.next_candidate_past_leap-requires-clause-no_match_in_last_leap
+next_candidate_past_leap-requires-clause-no_match_in_last_leap g c = c.args.self.now.no_match_in_last_leap
 
 pub next_candidate_past_leap-requires-clause-executable : goal.next_candidate_past_leap-requires-clause-executable
 next_candidate_past_leap-requires-clause-executable g c =
@@ -43,8 +43,8 @@ returns-in_err-to-clause-next g c =
     subst (λ o. NextStartSkipsNoMatch (tree_of s.program.regex) text (offset c.args.tried + 1) (option_map offset o)) (sym c.from_residual-in_err-to.ensures)
     (next-context s.program.wide text s.same can.well_formed (offset c.args.tried + 1) (offset c.in_ok-next.next) None c.in_ok-next.ensures.next c.in_err-to.ensures)
 
-pub returns-then-goes_over-clause-next : goal.returns-then-goes_over-clause-next
-returns-then-goes_over-clause-next g c =
+pub returns-then-may_rescan_leading_loop-clause-next : goal.returns-then-may_rescan_leading_loop-clause-next
+returns-then-may_rescan_leading_loop-clause-next g c =
     let s = c.args.self.now.search in
     let can = can-be s.same s.searched.well_formed s.searched.unicode s.searched.bytes in
     let offset = g.Input.Position.PositionType.offset in

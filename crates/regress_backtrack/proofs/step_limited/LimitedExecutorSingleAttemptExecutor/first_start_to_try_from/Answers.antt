@@ -3,10 +3,10 @@ use Rattle.regress_backtrack.proofs.PlannedTreeLemmas.{can-be}
 use Rattle.regress_backtrack.proofs.step_limited.LimitedExecutorSingleAttemptExecutor.first_start_to_try_from.Goals as goal
 
 pub returns-clause-counted : goal.returns-clause-counted
-returns-clause-counted c = λ limited. (c.first_start_to_try.ensures _ c.args.self.now.predicted).counted
+returns-clause-counted c = λ limited. (c.first_start_to_try.ensures _ c.args.self.now.start_predicate_is_of_tree).counted
 
 pub returns-clause-next : goal.returns-clause-next
 returns-clause-next c =
     let s = c.args.self.now.executor.search in
     let can = can-be s.same s.searched.well_formed s.searched.unicode s.searched.bytes in
-    (c.first_start_to_try.ensures (tree_of s.program.regex) c.args.self.now.predicted).skips can.well_formed
+    (c.first_start_to_try.ensures (tree_of s.program.regex) c.args.self.now.start_predicate_is_of_tree).skips can.well_formed

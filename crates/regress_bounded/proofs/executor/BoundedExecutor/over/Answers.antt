@@ -33,7 +33,7 @@ invariant_of-result g c =
     record {
       right = ∥∥₁_map c.requires (λ b. begun-right program text is bytes short t b.has m begun);
       walked = λ e. ∥∥₁_map c.requires (λ b.
-          let fits : c.per_unit.result * places ≤ c.args.work = leb-true (c.per_unit.result * places) c.args.work (sym c.is_enough-enough.ensures ∙ e) in
+          let fits : c.per_unit.result * places ≤ c.args.work = leb-true (c.per_unit.result * places) c.args.work (sym c.is_work_enough_for_places-enough.ensures ∙ e) in
           let same : c.per_unit.result * places ≡ work_per_unit t * (units text + 1) = ap (λ p. p * places) (c.per_unit.ensures ∙ b.per_unit) ∙ ap (λ n. work_per_unit t * (n + 1)) c.unit_count-places.ensures in
           begun-walked program text is bytes short t b.has m begun c.args.work (omega (arith, fits, same)));
       spent = λ e. absurd (let no : ⊥ = cc in no);

@@ -7,7 +7,7 @@ use Rattle.regress_program.specs.CompilationOfTreesAsFunction.{compiled}
 use Rattle.regress_search.specs.MatchesWithinWork.{least_offset_after_match}
 use Rattle.regress_search.proofs.SearchableProgramLemmas.{can-search}
 use Rattle.regress_bounded.specs.CostsOfAttempts.{AttemptCosts, failures_of}
-use Rattle.regress_bounded.specs.WorkOfSuccessiveAttempts.{HasWalked}
+use Rattle.regress_bounded.specs.WorkOfSuccessiveAttempts.{AttemptsLeaveEnoughWork}
 use Rattle.regress_search.proofs.SearchCostLemmas.{stops-out, stops-without}
 use Rattle.regress_bounded.proofs.AttemptResultLemmas.{exact-cost, found-inside, more-than-left, none-left, on-by-none, on-by-found, never-wanted}
 use Rattle.regress_bounded.proofs.executor.BoundedExecutorSingleAttemptExecutor.attempt.Goals.{then-self, else-self, in-Work, in_default, Start}
@@ -44,7 +44,7 @@ invariant_of-self g c = record {
         | else-self w ↦ absurd (let never : false ≡ true = sym w.if-self.false ∙ sym w.self-is ∙ on in let no : ⊥ = cc in no)
       ] in
       let end_is = ap (λ n. least_offset_after_match n c.to_offset.result) c.to_offset-at.ensures ∙ ap (least_offset_after_match (g.Input.Position.PositionType.offset c.args.pos)) c.to_offset.ensures in
-      subst (HasWalked (compiled (tree_of c.args.self.now.searched.program.now)) (g.Input.InputIndexer.text c.args.self.now.searched.input) c.preferred_final_state.new.progress) (sym (c.least_offset_after_match-self.ensures ∙ end_is))
+      subst (AttemptsLeaveEnoughWork (compiled (tree_of c.args.self.now.searched.program.now)) (g.Input.InputIndexer.text c.args.self.now.searched.input) c.preferred_final_state.new.progress) (sym (c.least_offset_after_match-self.ensures ∙ end_is))
       (on-by-found g.Input.Position.PositionType.offset (can g (goal.at.invariant_of-self g c).Start) (g.Input.Position.PositionType.offset c.args.pos) c.requires c.args.self.now.progress c.preferred_final_state.new.progress
       (g.met.Input.InputIndexer.is_text c.args.self.now.searched.input) c.args.self.now.right c.preferred_final_state.ensures.memo_analysis (c.args.self.now.walked turn.0) turn.1
       c.in-Ok-Some.field-0-is c.in-Ok-Some.ensures.runs);
@@ -72,7 +72,7 @@ invariant_of-self-in-Ok-None g c = record {
         )
         | else-self w ↦ absurd (let never : false ≡ true = sym w.if-self.false ∙ sym w.self-is ∙ on in let no : ⊥ = cc in no)
       ] in
-      subst (λ n. HasWalked (compiled (tree_of c.args.self.now.searched.program.now)) (g.Input.InputIndexer.text c.args.self.now.searched.input) c.preferred_final_state.new.progress (n + 1)) (sym c.to_offset-at.ensures)
+      subst (λ n. AttemptsLeaveEnoughWork (compiled (tree_of c.args.self.now.searched.program.now)) (g.Input.InputIndexer.text c.args.self.now.searched.input) c.preferred_final_state.new.progress (n + 1)) (sym c.to_offset-at.ensures)
       (on-by-none g.Input.Position.PositionType.offset (can g (goal.at.invariant_of-self-in-Ok-None g c).Start) (g.Input.Position.PositionType.offset c.args.pos) c.requires c.args.self.now.progress c.preferred_final_state.new.progress
       (g.met.Input.InputIndexer.is_text c.args.self.now.searched.input) c.args.self.now.right c.preferred_final_state.ensures.memo_analysis (c.args.self.now.walked turn.0) turn.1
       c.in-Ok-None.field-0-is c.in-Ok-None.ensures.runs);

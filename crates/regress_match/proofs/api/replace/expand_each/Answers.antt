@@ -52,4 +52,4 @@ loop-item-preserved-in_ok-expand g c = let w = written g (goal.at.loop-item-pres
 pub returns-clause-made : goal.returns-clause-made
 returns-clause-made g c =
     replaced-end c.args.text.now (λ m. expansion c.args.text.now m c.args.replacement.now) (string_bytes c.loop-item.made) _ _ c.loop-item.from c.loop-item.item-iterator.answers c.loop-item.invariant.begun
-    c.in-None.ensures.steps.0 c.in_ok-append_rest.ensures
+    c.in-None.ensures.steps.0 c.in_ok-append_text_after_last_match.ensures

@@ -2,7 +2,7 @@ use Rattle.std.proofs.Common.{◌≡◌, ◌<◌, ◌-◌, ◌^◌, Option, Some
 use Rattle.regex_meaning.specs.CodeUnitOffsets.{units}
 use Rattle.regress_search.specs.MatchesAsSpecAnswers.{answer_of}
 use Rattle.regress_search.specs.declared.exec.Match.{Match}
-use Rattle.regress_match.specs.Resuming.{ResumesFrom, FindsNext}
+use Rattle.regress_match.specs.Resuming.{IsResultOfNextFrom, FindsNext}
 use Rattle.regress_match.proofs.ResumingLemmas.{none-over, past-over, place-is, place-none, refused-from, steps-to}
 use Rattle.regress_match.proofs.api.searches_resumed_at_offsets.next_from.Goals as goal
 
@@ -20,7 +20,7 @@ returns-in_err-found-clause-continues g c =
     let tree = g.E.SingleAttemptExecutor.tree search in
     let text = g.E.SingleAttemptExecutor.text search in
     let here = place-is offset c.initial_position.result c.in-Some.pos (units text) c.args.start c.in-Some.is c.initial_position.ensures in
-    subst (λ s. ResumesFrom tree text (g.E.SingleAttemptExecutor.budget search) s c.from_residual.result (g.E.SingleAttemptExecutor.budget c.next_match.new.self)) here
+    subst (λ s. IsResultOfNextFrom tree text (g.E.SingleAttemptExecutor.budget search) s c.from_residual.result (g.E.SingleAttemptExecutor.budget c.next_match.new.self)) here
     (refused-from tree text (g.met.E.SingleAttemptExecutor.is_text search) (Option Match) (g.E.SingleAttemptExecutor.budget search) (offset c.in-Some.pos) c.in_err-found.field-0.0
     (g.E.SingleAttemptExecutor.budget c.next_match.new.self) c.from_residual.result c.from_residual.ensures.1 c.in_err-found.ensures.steps)
 
@@ -31,7 +31,7 @@ returns-in_default-2-clause-continues g c =
     let tree = g.E.SingleAttemptExecutor.tree search in
     let text = g.E.SingleAttemptExecutor.text search in
     let here = place-is offset c.initial_position.result c.in-Some.pos (units text) c.args.start c.in-Some.is c.initial_position.ensures in
-    subst (λ s. ResumesFrom tree text (g.E.SingleAttemptExecutor.budget search) s (Ok None) (g.E.SingleAttemptExecutor.budget c.next_match.new.self)) here
+    subst (λ s. IsResultOfNextFrom tree text (g.E.SingleAttemptExecutor.budget search) s (Ok None) (g.E.SingleAttemptExecutor.budget c.next_match.new.self)) here
     (none-over tree text (g.met.E.SingleAttemptExecutor.is_text search) (g.E.SingleAttemptExecutor.budget search) (offset c.in-Some.pos) c.in_ok-found.field-0
     (g.E.SingleAttemptExecutor.budget c.next_match.new.self) (rw c.in_default-2.is at c.in_ok-found.ensures.found.0) c.in_ok-found.ensures.steps)
 

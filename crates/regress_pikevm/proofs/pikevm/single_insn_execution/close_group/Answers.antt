@@ -4,4 +4,4 @@ use Rattle.regress_pikevm.proofs.pikevm.single_insn_execution.close_group.Goals 
 
 pub returns : goal.returns
 returns g c =
-    closes g.P.PositionType.offset c.args.state c.args.id (direction_of_forward_flag g.Dir.Direction.FORWARD) c.index-start.result.now c.ordered_span.result c.index-start.ensures c.ordered_span.ensures c.requires.executable
+    closes g.P.PositionType.offset c.args.state c.args.id (direction_of_forward_flag g.Dir.Direction.FORWARD) c.index-start.result.now c.span_in_ascending_order.result c.index-start.ensures c.span_in_ascending_order.ensures c.requires.executable

@@ -1,7 +1,7 @@
 use Rattle.std.proofs.Common.{◌∙◌}
-use Rattle.regex_pattern_front.specs.AstToSpecTree.{node_of}
+use Rattle.regex_pattern_front.specs.AstToSpecTree.{spec_node_of}
 use Rattle.regress_program.proofs.GroupIdCheckLemmas.{none_stand}
 use Rattle.regress_program.proofs.emit.group_id_and_range_check.span_of_many.Goals as goal
 
 pub returns-clause-in_text : goal.returns-clause-in_text
-returns-clause-in_text c = c.span_in.ensures.in_text ∙ none_stand (node_of c.args.root.now)
+returns-clause-in_text c = c.span_in.ensures.in_text ∙ none_stand (spec_node_of c.args.root.now)

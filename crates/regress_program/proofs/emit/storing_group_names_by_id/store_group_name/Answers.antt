@@ -1,6 +1,6 @@
 use Rattle.std.proofs.Common.{◌≡◌, ◌+◌, ◌∷◌, ◌∙◌, ap, arith, map, set, string_bytes}
 use Rattle.regex_meaning.specs.MatchGroupsByNumberAndName.{capturing_group_ids_and_names}
-use Rattle.regex_pattern_front.specs.AstToSpecTree.{node_of, group_name_bytes}
+use Rattle.regex_pattern_front.specs.AstToSpecTree.{spec_node_of, group_name_bytes}
 use Rattle.regress_program.specs.StoringGroupNamesById.{with_names_stored_by_id, naming_measure_of_node, naming_measure_of_part, names_in_pending_part}
 use Rattle.regress_program.proofs.StoringGroupNamesLemmas.{files-one}
 use Rattle.regress_program.proofs.emit.storing_group_names_by_id.store_group_name.Goals as goal
@@ -8,7 +8,7 @@ use Rattle.regress_program.proofs.emit.storing_group_names_by_id.store_group_nam
 pub returns-clause-with_names_stored_by_id : goal.returns-clause-with_names_stored_by_id
 unfolding names_in_pending_part naming_measure_of_part
 returns-clause-with_names_stored_by_id c =
-    let inner = node_of c.args.contents.now in
+    let inner = spec_node_of c.args.contents.now in
     let name = group_name_bytes c.args.name.now in
     let old = map string_bytes c.args.names.now in
     let new = map string_bytes c.put.new.names in

@@ -5,7 +5,7 @@ use Rattle.regex_pattern_front.specs.ByteSetMembers.{member_bytes_of_byte_bitmap
 use Rattle.regress_program.proofs.ByteSetLemmas.{union-none, union-next}
 use Rattle.regress_program.proofs.startpredicate.first_bytes_of_chars_and_classes.bitmap_of_bytes.Goals as goal
 
--- the empty set has no byte
+-- Before the loop, the set is empty, and the union with all bytes is still to be made.
 pub loop-byte-init : goal.loop-byte-init
 loop-byte-init c = ap (λ s. union_of_byte_sets s c.args.bytes.now) c.default-set.ensures
 

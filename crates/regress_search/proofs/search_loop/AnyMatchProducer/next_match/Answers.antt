@@ -37,7 +37,7 @@ places-init g c = record {
       let self = c.args.self.now in
       counted₁ a.counts_work
       (failing-begins a.attempt_costs (a.tree self) (a.text self) (a.failures self) (offset c.args.pos) (a.left self) (option_map offset c.first_start_to_try_from-next.result))
-      c.first_start_to_try_from-next.ensures.at_work;
+      c.first_start_to_try_from-next.ensures.next_if_work_counted;
 }
 
 pub next_search_pos-requires : goal.next_search_pos-requires
@@ -121,7 +121,7 @@ places-preserved g c =
           (λ f takes on. failing-goes a.attempt_costs offset c.places.next c.in-Some.start c.in-Some.is (a.tree old) (a.text old) invariant.same_tree invariant.same_text (a.failures old) (a.left old) f
           (a.groups new) _ c.in_ok-end.ensures.found c.in_default-2.is (option_map offset c.next_start_after_failure-next.result) (a.tree new) (a.text new)
           c.in_ok-end.ensures.same.0 c.in_ok-end.ensures.same.1 (a.failures new) (a.left new) takes on)
-          invariant.progress c.in_ok-end.ensures.cost c.next_start_after_failure-next.ensures.at_work;
+          invariant.progress c.in_ok-end.ensures.cost c.next_start_after_failure-next.ensures.next_if_work_counted;
     }
 
 pub returns-in_err-end-clause-steps : goal.returns-in_err-end-clause-steps

@@ -12,25 +12,25 @@ no_probe = record { ahead = 0; mask = 0; bits = 0 }
 pub marks_of_probe-requires : goal.marks_of_probe-requires
 marks_of_probe-requires g c =
     let probed = c.args.self.now in
-    let four = probed.are_probes.four in
-    let is = probed.are_probes.each 0 (slice_index_or probed.probes.now 0 no_probe) (slice_get-get_or probed.probes.now 0 no_probe (omega (arith, four))) in
+    let four = probed.probes_pass_prefix.four in
+    let is = probed.probes_pass_prefix.each 0 (slice_index_or probed.probes.now 0 no_probe) (slice_get-get_or probed.probes.now 0 no_probe (omega (arith, four))) in
     let inside = is.inside in
     omega (arith, inside, c.requires)
 
 pub marks_of_probe-requires-2 : goal.marks_of_probe-requires-2
 marks_of_probe-requires-2 g c =
     let probed = c.args.self.now in
-    let four = probed.are_probes.four in
-    let is = probed.are_probes.each 1 (slice_index_or probed.probes.now 1 no_probe) (slice_get-get_or probed.probes.now 1 no_probe (omega (arith, four))) in
+    let four = probed.probes_pass_prefix.four in
+    let is = probed.probes_pass_prefix.each 1 (slice_index_or probed.probes.now 1 no_probe) (slice_get-get_or probed.probes.now 1 no_probe (omega (arith, four))) in
     let inside = is.inside in
     omega (arith, inside, c.requires)
 
 pub returns : goal.returns
 returns g c =
     let probed = c.args.self.now in
-    let four = probed.are_probes.four in
+    let four = probed.probes_pass_prefix.four in
     let prefix = probed.prefix.now in
-    let first = probed.are_probes.each 0 (slice_index_or probed.probes.now 0 no_probe) (slice_get-get_or probed.probes.now 0 no_probe (omega (arith, four))) in
-    let second = probed.are_probes.each 1 (slice_index_or probed.probes.now 1 no_probe) (slice_get-get_or probed.probes.now 1 no_probe (omega (arith, four))) in
+    let first = probed.probes_pass_prefix.each 0 (slice_index_or probed.probes.now 0 no_probe) (slice_get-get_or probed.probes.now 0 no_probe (omega (arith, four))) in
+    let second = probed.probes_pass_prefix.each 1 (slice_index_or probed.probes.now 1 no_probe) (slice_get-get_or probed.probes.now 1 no_probe (omega (arith, four))) in
     marks-both (prefix_fits_at (g.W.SearchContext.searching c.args.context.now) prefix) c.args.at c.marks_of_probe.result c.marks_of_probe-2.result
     (c.marks_of_probe.ensures prefix first) (c.marks_of_probe-2.ensures prefix second)

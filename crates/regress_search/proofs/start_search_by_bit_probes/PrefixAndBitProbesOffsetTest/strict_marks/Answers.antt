@@ -12,28 +12,28 @@ no_probe = record { ahead = 0; mask = 0; bits = 0 }
 pub marks_of_probe-requires : goal.marks_of_probe-requires
 marks_of_probe-requires g c =
     let probed = c.args.self.now in
-    let four = probed.are_probes.four in
-    let is = probed.are_probes.each 2 (slice_index_or probed.probes.now 2 no_probe) (slice_get-get_or probed.probes.now 2 no_probe (omega (arith, four))) in
+    let four = probed.probes_pass_prefix.four in
+    let is = probed.probes_pass_prefix.each 2 (slice_index_or probed.probes.now 2 no_probe) (slice_get-get_or probed.probes.now 2 no_probe (omega (arith, four))) in
     let inside = is.inside in
     omega (arith, inside, c.requires)
 
 pub marks_of_probe-requires-2 : goal.marks_of_probe-requires-2
 marks_of_probe-requires-2 g c =
     let probed = c.args.self.now in
-    let four = probed.are_probes.four in
-    let is = probed.are_probes.each 3 (slice_index_or probed.probes.now 3 no_probe) (slice_get-get_or probed.probes.now 3 no_probe (omega (arith, four))) in
+    let four = probed.probes_pass_prefix.four in
+    let is = probed.probes_pass_prefix.each 3 (slice_index_or probed.probes.now 3 no_probe) (slice_get-get_or probed.probes.now 3 no_probe (omega (arith, four))) in
     let inside = is.inside in
     omega (arith, inside, c.requires)
 
 pub returns : goal.returns
 returns g c =
     let probed = c.args.self.now in
-    let four = probed.are_probes.four in
+    let four = probed.probes_pass_prefix.four in
     let prefix = probed.prefix.now in
     let test = prefix_fits_at (g.W.SearchContext.searching c.args.context.now) prefix in
     let seldom = c.marks-seldom.result in
-    let third = probed.are_probes.each 2 (slice_index_or probed.probes.now 2 no_probe) (slice_get-get_or probed.probes.now 2 no_probe (omega (arith, four))) in
-    let fourth = probed.are_probes.each 3 (slice_index_or probed.probes.now 3 no_probe) (slice_get-get_or probed.probes.now 3 no_probe (omega (arith, four))) in
+    let third = probed.probes_pass_prefix.each 2 (slice_index_or probed.probes.now 2 no_probe) (slice_get-get_or probed.probes.now 2 no_probe (omega (arith, four))) in
+    let fourth = probed.probes_pass_prefix.each 3 (slice_index_or probed.probes.now 3 no_probe) (slice_get-get_or probed.probes.now 3 no_probe (omega (arith, four))) in
     marks-both test c.args.at (bit_and seldom c.marks_of_probe.result) c.marks_of_probe-2.result
     (marks-both test c.args.at seldom c.marks_of_probe.result c.marks-seldom.ensures (c.marks_of_probe.ensures prefix third))
     (c.marks_of_probe-2.ensures prefix fourth)

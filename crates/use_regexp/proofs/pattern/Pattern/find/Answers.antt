@@ -4,8 +4,8 @@ use Rattle.use_regexp.proofs.pattern.Pattern.find.Goals as goal
 
 pub returns-then-self-clause-found : goal.returns-then-self-clause-found
 returns-then-self-clause-found c =
-    found-ok c.args.self.now c.args.text.now c.search_index-index.result c.args.last_index c.search_index-index.ensures c.match_here.result true c.if-self.true
-    c.match_here.ensures.found
+    found-ok c.args.self.now c.args.text.now c.search_index-index.result c.args.last_index c.search_index-index.ensures c.match_beginning_at_index.result true c.if-self.true
+    c.match_beginning_at_index.ensures.found
 
 pub returns-else-self-clause-found : goal.returns-else-self-clause-found
 returns-else-self-clause-found c =

@@ -6,8 +6,8 @@ use Rattle.use_regexp.specs.Split.{separator}
 use Rattle.use_regexp.proofs.SplitLemmas.{cut-more, cut-none, cut-smaller, enough, split-end}
 use Rattle.use_regexp.proofs.pattern.Pattern.pieces.Goals as goal
 
-pub wanted_separator-requires : goal.wanted_separator-requires
-wanted_separator-requires c = c.cuts.invariant.inside
+pub next_separator_within_limit-requires : goal.next_separator_within_limit-requires
+next_separator_within_limit-requires c = c.cuts.invariant.inside
 
 pub cuts-init : goal.cuts-init
 cuts-init c = cut-none c.args.self.now c.args.text.now c.args.limit _ (ap (map (option_map range_as_pair)) c.new-pieces.ensures.items)

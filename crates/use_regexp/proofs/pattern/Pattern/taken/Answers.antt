@@ -7,8 +7,8 @@ use Rattle.use_regexp.proofs.pattern.Pattern.taken.Goals as goal
 
 pub returns-then-self-clause-taken : goal.returns-then-self-clause-taken
 returns-then-self-clause-taken c =
-    IfOk-map c.all_from.result _ _
-    (λ v h. taken-all c.args.self.now c.args.text.now c.args.first c.args.last_index (map answer_of v.items) c.if-self.true h) c.all_from.ensures.taken
+    IfOk-map c.all_matches_from_index.result _ _
+    (λ v h. taken-all c.args.self.now c.args.text.now c.args.first c.args.last_index (map answer_of v.items) c.if-self.true h) c.all_matches_from_index.ensures.taken
 
 pub returns-clause-taken : goal.returns-clause-taken
 returns-clause-taken c =

@@ -5,6 +5,6 @@ pub invariant_of-self : goal.invariant_of-self
 invariant_of-self c =
     let self = c.args.self.now in
     record {
-      of_their_texts =
-          kept-after c.args.pattern c.args.re c.requires c.insert.result self.compiled.entries _ self.of_their_texts c.insert.ensures.entries c.insert.ensures.err;
+      compiled_from_their_texts =
+          kept-after c.args.pattern c.args.re c.requires c.insert.result self.compiled.entries _ self.compiled_from_their_texts c.insert.ensures.entries c.insert.ensures.err;
     }

@@ -55,4 +55,4 @@ loop-item-preserved-in_ok-append_closure_result g c = let w = written g (goal.at
 pub returns-clause-made : goal.returns-clause-made
 returns-clause-made g c =
     ends _ string_bytes c.args.text.now c.args.matches.answers c.loop-item.item-iterator.answers c.loop-item.from (string_bytes c.loop-item.made) c.loop-item.invariant.begun
-    _ c.in-None.ensures.steps.0 c.in_ok-append_rest.ensures
+    _ c.in-None.ensures.steps.0 c.in_ok-append_text_after_last_match.ensures

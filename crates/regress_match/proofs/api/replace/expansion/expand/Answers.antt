@@ -9,16 +9,16 @@ pub loop-before-preserved : goal.loop-before-preserved
 loop-before-preserved c =
     let cut = rw c.in-Some.is at (split_once_first 36 c.loop-before.rest.now c.split_once.result c.split_once.ensures.cases (omega arith)) in (
       search rules,
-      expansion-more c.args.text.now (answer_of c.args.found.now) c.loop-before.rest.now c.in-Some.before.now c.in-Some.behind.now c.read_part.result.1.now (spec_parts_of_substitution c.read_part.result.0)
-          (string_bytes c.loop-before.out) (string_bytes c.push_str.new.self) (string_bytes c.write_part.new.out) _ cut.0
-          (ap (λ x. x.now) c.in-Some.before-is ∙ cut.1) (ap (λ x. x.now) c.in-Some.behind-is ∙ cut.2) c.read_part.ensures c.in_ok-push_str.ensures.bytes c.in_ok-write_part.ensures
+      expansion-more c.args.text.now (answer_of c.args.found.now) c.loop-before.rest.now c.in-Some.before.now c.in-Some.behind.now c.read_dollar_substitution.result.1.now (spec_parts_of_substitution c.read_dollar_substitution.result.0)
+          (string_bytes c.loop-before.out) (string_bytes c.push_str.new.self) (string_bytes c.append_part_expansion.new.out) _ cut.0
+          (ap (λ x. x.now) c.in-Some.before-is ∙ cut.1) (ap (λ x. x.now) c.in-Some.behind-is ∙ cut.2) c.read_dollar_substitution.ensures c.in_ok-push_str.ensures.bytes c.in_ok-append_part_expansion.ensures
           c.loop-before.invariant.1,
     )
 
 pub loop-before-smaller : goal.loop-before-smaller
 loop-before-smaller c =
     let cut = rw c.in-Some.is at (split_once_first 36 c.loop-before.rest.now c.split_once.result c.split_once.ensures.cases (omega arith)) in
-    left-less c.loop-before.rest.now c.in-Some.behind.now c.read_part.result.1.now (spec_parts_of_substitution c.read_part.result.0) cut.0 (ap (λ x. x.now) c.in-Some.behind-is ∙ cut.2) c.read_part.ensures
+    left-less c.loop-before.rest.now c.in-Some.behind.now c.read_dollar_substitution.result.1.now (spec_parts_of_substitution c.read_dollar_substitution.result.0) cut.0 (ap (λ x. x.now) c.in-Some.behind-is ∙ cut.2) c.read_dollar_substitution.ensures
 
 pub returns : goal.returns
 returns c =

@@ -6,7 +6,7 @@ use Rattle.regress_match.specs.ProgramTreesAndAnswers.{tree_for_byte_units}
 use Rattle.regress_match.specs.ExpansionsAndMatchRanges.{MatchesFitTextInOrderFrom}
 use Rattle.regress_match.proofs.MatchRangeLemmas.{matches-stand}
 use Rattle.regress_match.proofs.SearchStartLemmas.{utf8_start, utf8_units}
-use Rattle.regress_match.proofs.WorkBoundLemmas.{bound-Begins, bound-Yields, higher-left}
+use Rattle.regress_match.proofs.WorkBoundLemmas.{bound-Begins, bound-Yields, max_of_two-left}
 use Rattle.regress_match.proofs.api.work_budget_searches.BoundedRegex.find_from.Goals as goal
 
 pub matches_utf8-requires : goal.matches_utf8-requires
@@ -16,7 +16,7 @@ matches_utf8-requires c = record {
 }
 
 pub returns-clause-yields : goal.returns-clause-yields
-returns-clause-yields c = bound-Yields tree_for_byte_units c.self.inside.re.now (utf8_text c.args.text.now) (higher-left _ _) c.self.view_is (ap tree_of c.byte_program-program.ensures) c.in_ok-matches.ensures.yields
+returns-clause-yields c = bound-Yields tree_for_byte_units c.self.inside.re.now (utf8_text c.args.text.now) (max_of_two-left _ _) c.self.view_is (ap tree_of c.byte_program-program.ensures) c.in_ok-matches.ensures.yields
 
 pub returns-clause-in_text : goal.returns-clause-in_text
 returns-clause-in_text c =

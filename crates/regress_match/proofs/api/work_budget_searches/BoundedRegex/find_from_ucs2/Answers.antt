@@ -4,7 +4,7 @@ use Rattle.regex_pattern_front.specs.AstToSpecTree.{tree_of}
 use Rattle.regress_bounded.specs.WorkBoundForAllMatches.{TreeHasWorkBound}
 use Rattle.regress_match.specs.ProgramTreesAndAnswers.{tree_for_16_bit_units}
 use Rattle.regress_match.proofs.SearchStartLemmas.{ucs2_start, ucs2_units}
-use Rattle.regress_match.proofs.WorkBoundLemmas.{bound-Begins, bound-Yields, higher-right}
+use Rattle.regress_match.proofs.WorkBoundLemmas.{bound-Begins, bound-Yields, max_of_two-right}
 use Rattle.regress_match.proofs.api.work_budget_searches.BoundedRegex.find_from_ucs2.Goals as goal
 
 pub matches_ucs2-requires : goal.matches_ucs2-requires
@@ -14,7 +14,7 @@ matches_ucs2-requires c = record {
 }
 
 pub returns-clause-yields : goal.returns-clause-yields
-returns-clause-yields c = bound-Yields tree_for_16_bit_units c.self.inside.re.now (ucs2_text c.args.text.now) (higher-right _ _) c.self.view_is (ap tree_of c.unit_program-program.ensures) c.in_ok-matches.ensures.yields
+returns-clause-yields c = bound-Yields tree_for_16_bit_units c.self.inside.re.now (ucs2_text c.args.text.now) (max_of_two-right _ _) c.self.view_is (ap tree_of c.unit_program-program.ensures) c.in_ok-matches.ensures.yields
 
 pub returns-clause-ended : goal.returns-clause-ended
 returns-clause-ended c = c.in_ok-matches.ensures.ended ∙ ap (λ n. not (nat_le c.args.start n)) (ucs2_units _ c.args.text.now (tree_of c.unit_program-program.result.now).flags.unicode refl)

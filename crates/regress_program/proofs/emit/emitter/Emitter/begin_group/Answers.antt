@@ -1,7 +1,7 @@
 use Rattle.std.proofs.Common.{[], refl, arith}
 use Rattle.regex_meaning.specs.Tree.{capture_group}
 use Rattle.regex_meaning.specs.CompilationRelation.{BeginCaptureGroup, EndCaptureGroup}
-use Rattle.regex_pattern_front.specs.AstToSpecTree.{node_of}
+use Rattle.regex_pattern_front.specs.AstToSpecTree.{spec_node_of}
 use Rattle.regress_program.specs.InnerNodeCountMeasure.{inner_node_count}
 use Rattle.regress_program.specs.EmitterStateAndAppendedCode.{node_with_char_loops_if_enabled, emitter_state, with_code, with_insn_appended}
 use Rattle.regress_program.specs.PendingEmission.{node_measure, pending_measure, is_emittable, with_pending}
@@ -13,7 +13,7 @@ pub returns : goal.returns
 unfolding with_pending is_emittable pending_measure inner_node_count
 returns c =
     let m = c.args.mode in
-    let n = node_with_char_loops_if_enabled m.narrow (node_of c.args.contents.now) in
+    let n = node_with_char_loops_if_enabled m.narrow (spec_node_of c.args.contents.now) in
     let s = emitter_state c.args.self.now in
     let t = emitter_state c.append_insn.new.self in
     let inside = with_code m.unicode m.behind n t in

@@ -1,6 +1,6 @@
 use Rattle.std.proofs.Common.{arith}
 use Rattle.regex_meaning.specs.Tree.{lookaround}
-use Rattle.regex_pattern_front.specs.AstToSpecTree.{node_of}
+use Rattle.regex_pattern_front.specs.AstToSpecTree.{spec_node_of}
 use Rattle.regress_program.specs.InsnsAsSpec.{insn_as_spec_insn}
 use Rattle.regress_program.specs.InnerNodeCountMeasure.{inner_node_count}
 use Rattle.regress_program.specs.EmitterStateAndAppendedCode.{lookaround_as_spec, node_with_char_loops_if_enabled, emitter_state, with_code}
@@ -14,7 +14,7 @@ returns c =
     let u = c.args.mode.unicode in
     let d = c.args.mode.behind in
     let l = lookaround_as_spec c.args.look in
-    let n = node_with_char_loops_if_enabled c.args.mode.narrow (node_of c.args.contents.now) in
+    let n = node_with_char_loops_if_enabled c.args.mode.narrow (spec_node_of c.args.contents.now) in
     let x = insn_as_spec_insn c.insn.result in
     let head = c.next-head.result in
     let s = emitter_state c.args.self.now in

@@ -1,6 +1,6 @@
 use Rattle.std.proofs.Common.{refl, arith}
 use Rattle.regex_meaning.specs.Tree.{loop}
-use Rattle.regex_pattern_front.specs.AstToSpecTree.{node_of, spec_quantifier_of}
+use Rattle.regex_pattern_front.specs.AstToSpecTree.{spec_node_of, spec_quantifier_of}
 use Rattle.regress_program.specs.declared.instructions.LoopFields.{LoopFields}
 use Rattle.regress_program.specs.InnerNodeCountMeasure.{inner_node_count}
 use Rattle.regress_program.specs.EmitterStateAndAppendedCode.{node_with_char_loops_if_enabled, emitter_state, with_code}
@@ -11,7 +11,7 @@ use Rattle.regress_program.proofs.emit.emitter.Emitter.begin_loop.Goals as goal
 
 pub increment_loop_count-requires : goal.increment_loop_count-requires
 increment_loop_count-requires c =
-    loop_fits (spec_quantifier_of c.args.quant.now) c.args.groups.now.start c.args.groups.now.end (node_with_char_loops_if_enabled c.args.mode.narrow (node_of c.args.loopee.now))
+    loop_fits (spec_quantifier_of c.args.quant.now) c.args.groups.now.start c.args.groups.now.end (node_with_char_loops_if_enabled c.args.mode.narrow (spec_node_of c.args.loopee.now))
     (emitter_state c.args.self.now) (emitter_state c.append_insn.new.self) _ c.requires.room c.in_ok-append_insn.ensures
 
 pub returns : goal.returns
@@ -21,7 +21,7 @@ returns c =
     let q = spec_quantifier_of c.args.quant.now in
     let g = c.args.groups.now.start in
     let e = c.args.groups.now.end in
-    let n = node_with_char_loops_if_enabled m.narrow (node_of c.args.loopee.now) in
+    let n = node_with_char_loops_if_enabled m.narrow (spec_node_of c.args.loopee.now) in
     let begin = c.next-begin.result in
     let f : LoopFields = record { loop_id = c.args.self.now.loops; min_iters = c.args.quant.now.min; max_iters = c.unwrap_or.result; greedy = c.args.quant.now.greedy; exit = 0 } in
     let s = emitter_state c.args.self.now in

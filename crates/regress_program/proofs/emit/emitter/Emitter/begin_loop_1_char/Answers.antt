@@ -2,7 +2,7 @@ use Rattle.std.proofs.Common.{◌≡◌, refl, arith}
 use Rattle.regex_meaning.specs.Tree.{loop_1_char_body}
 use Rattle.regex_meaning.specs.CompilationRelation.{Loop1CharBody}
 use Rattle.regex_meaning.specs.Outcomes.{max_iterations}
-use Rattle.regex_pattern_front.specs.AstToSpecTree.{node_of, spec_quantifier_of}
+use Rattle.regex_pattern_front.specs.AstToSpecTree.{spec_node_of, spec_quantifier_of}
 use Rattle.regress_program.specs.InnerNodeCountMeasure.{inner_node_count}
 use Rattle.regress_program.specs.EmitterStateAndAppendedCode.{node_with_char_loops_if_enabled, emitter_state, with_code, with_insn_appended}
 use Rattle.regress_program.specs.PendingEmission.{node_measure, pending_measure, is_emittable, with_pending}
@@ -15,7 +15,7 @@ unfolding with_pending is_emittable pending_measure inner_node_count
 returns c =
     let m = c.args.mode in
     let q = spec_quantifier_of c.args.quant.now in
-    let n = node_with_char_loops_if_enabled m.narrow (node_of c.args.loopee.now) in
+    let n = node_with_char_loops_if_enabled m.narrow (spec_node_of c.args.loopee.now) in
     let s = emitter_state c.args.self.now in
     let t = emitter_state c.append_insn.new.self in
     let head : t ≡ with_insn_appended (Loop1CharBody q.min (max_iterations q) q.greedy) s = rw (← c.unwrap_or.ensures) c.in_ok-append_insn.ensures in

@@ -1,5 +1,5 @@
 use Rattle.std.proofs.Common.{◌+◌, arith}
-use Rattle.regex_pattern_front.specs.AstToSpecTree.{node_of}
+use Rattle.regex_pattern_front.specs.AstToSpecTree.{spec_node_of}
 use Rattle.regress_program.specs.EmitterStateAndAppendedCode.{node_with_char_loops_if_enabled, emitter_state}
 use Rattle.regress_program.specs.PendingEmission.{node_measure, pending_measure, is_emittable, with_pending, with_alternatives_emitted}
 use Rattle.regress_program.proofs.PendingEmissionLemmas.{arm-ended, begun-two, grows-arm, place-arm, put-others}
@@ -10,7 +10,7 @@ unfolding with_pending is_emittable pending_measure
 returns c =
     let u = c.args.mode.unicode in
     let d = c.args.mode.behind in
-    let b = node_with_char_loops_if_enabled c.args.mode.narrow (node_of c.args.others.now) in
+    let b = node_with_char_loops_if_enabled c.args.mode.narrow (spec_node_of c.args.others.now) in
     let branch = c.args.branch in
     let jump = c.next-jump.result in
     let s = emitter_state c.args.self.now in

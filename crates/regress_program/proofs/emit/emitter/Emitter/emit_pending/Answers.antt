@@ -3,8 +3,8 @@ use Rattle.std.proofs.lemmas.Bool.{ltb-true}
 use Rattle.std.proofs.lemmas.Result.{IfOk-weaker}
 use Rattle.regex_meaning.specs.CompilationRelation.{Goal, Jump as JumpInsn, LoopAgain}
 use Rattle.regex_meaning.proofs.BoolLemmas.{and-left, and-right}
-use Rattle.regex_pattern_front.specs.AstToSpecTree.{node_of}
-use Rattle.regress_program.specs.LeafNodesAndOptimizableLoops.{cat_of}
+use Rattle.regex_pattern_front.specs.AstToSpecTree.{spec_node_of}
+use Rattle.regress_program.specs.LeafNodesAndOptimizableLoops.{spec_cat_of_children}
 use Rattle.regress_program.specs.EmitterStateAndAppendedCode.{node_with_char_loops_if_enabled, emitter_state, with_insn_at}
 use Rattle.regress_program.specs.PendingEmission.{is_emittable, pending_measure, with_pending}
 use Rattle.regress_program.specs.declared.emit.nested_nodes.UnemittedCodePart.TheVariants.{Jump, GroupEnd, LookaroundEnd, LoopEnd}
@@ -19,7 +19,7 @@ pub begin-requires-clause-room : goal.begin-requires-clause-room
 unfolding with_pending
 begin-requires-clause-room c =
     let m = c.in-Node.mode in
-    room-of m.unicode m.behind (node_with_char_loops_if_enabled m.narrow (node_of c.in-Node.node.now)) (emitter_state c.args.self.now) (rw c.in-Node.is at c.requires.room)
+    room-of m.unicode m.behind (node_with_char_loops_if_enabled m.narrow (spec_node_of c.in-Node.node.now)) (emitter_state c.args.self.now) (rw c.in-Node.is at c.requires.room)
 
 pub begin_node_list-requires-clause-sets : goal.begin_node_list-requires-clause-sets
 unfolding is_emittable
@@ -29,7 +29,7 @@ pub begin_node_list-requires-clause-room : goal.begin_node_list-requires-clause-
 unfolding with_pending
 begin_node_list-requires-clause-room c =
     let m = c.in-Row.mode in
-    room-of m.unicode m.behind (node_with_char_loops_if_enabled m.narrow (cat_of c.in-Row.nodes.now)) (emitter_state c.args.self.now) (rw c.in-Row.is at c.requires.room)
+    room-of m.unicode m.behind (node_with_char_loops_if_enabled m.narrow (spec_cat_of_children c.in-Row.nodes.now)) (emitter_state c.args.self.now) (rw c.in-Row.is at c.requires.room)
 
 pub begin_other_arms-requires-clause-branch : goal.begin_other_arms-requires-clause-branch
 unfolding is_emittable

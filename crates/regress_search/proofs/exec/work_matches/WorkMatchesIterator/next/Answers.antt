@@ -28,5 +28,5 @@ returns-clause-steps g c =
           (c.in_ok-found.was ∙ ap Some w.in-Ok.is) w.result-is
       | in-Err w ↦
           gives-Err p offset c.self.inside.producer c.self.inside.position found.new.producer found.new.position found.result called result w.in-Err.field-0
-          w.cause_in.result (c.in_ok-found.was ∙ ap Some w.in-Err.is) w.result-is w.cause_in.ensures
+          w.cause_of_work_error.result (c.in_ok-found.was ∙ ap Some w.in-Err.is) w.result-is w.cause_of_work_error.ensures
     ])

@@ -1,5 +1,0 @@
-use Rattle.regex_meaning.proofs.EcmaGrammarLemmas.{one-tree}
-use Rattle.regex_meaning.proofs.ecmascript_one_tree.Goals as goal
-
-pub returns : goal.returns
-returns c = one-tree

@@ -1,5 +1,0 @@
-use Rattle.regex_meaning.proofs.MatchAtOffsetLemmas.{matches_at-first}
-use Rattle.regex_meaning.proofs.match_at_offset_is_first_answer.Goals as goal
-
-pub returns : goal.returns
-returns c = matches_at-first

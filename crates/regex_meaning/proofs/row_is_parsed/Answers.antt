@@ -1,6 +1,0 @@
-use Rattle.regex_meaning.proofs.ExamplePatternTree.{row}
-use Rattle.regex_meaning.proofs.row_is_parsed.Goals as goal
-
--- src/lib.rt:7:1
-pub returns : goal.returns
-returns c = row

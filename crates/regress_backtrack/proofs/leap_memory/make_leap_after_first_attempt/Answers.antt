@@ -1,0 +1,15 @@
+use Rattle.std.proofs.Common.{Option, subst}
+use Rattle.std.specs.Prelude.{IfSome}
+use Rattle.regress_program.specs.declared.leap.Leap.{Leap}
+use Rattle.regress_program.specs.declared.plan.Plan.{Plan}
+use Rattle.regress_program.specs.Leaps.{IsLeapRightForProgram}
+use Rattle.regress_program.specs.TableKeysOfUnits.{is_16_bit_encoding}
+use Rattle.regress_program.proofs.FollowSetAndStartLemmas.{some-has}
+use Rattle.regress_search.specs.TreePlanAndText.{program_of}
+use Rattle.regress_backtrack.proofs.leap_memory.make_leap_after_first_attempt.Goals as goal
+
+pub make_leap_and_store_it-requires-clause-leap : goal.make_leap_and_store_it-requires-clause-leap
+make_leap_and_store_it-requires-clause-leap g c =
+    let w = g.W.SearchContext.searching c.args.context.now in
+    let P : Leap → Type 0 = IsLeapRightForProgram (is_16_bit_encoding w.encoding) (program_of w) in
+    some-has w.plan.leap P c.in-Some.leap (rw (← c.plan.ensures) c.in-Some.is) c.lemma_plan_fits_program.ensures.leap

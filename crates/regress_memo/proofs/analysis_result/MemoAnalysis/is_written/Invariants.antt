@@ -1,9 +1,0 @@
-use Rattle.std.proofs.Common.{◌<◌, ℕ, slice_get}
-use Rattle.regex_meaning.specs.CompilationRelation.{Program}
-use Rattle.regress_memo.specs.Successors.{AreInsnsOfProgram, successors_of_insn_if_any}
-use Rattle.regress_memo.specs.AnalysisChecks.{IsInsnChecked}
-use Rattle.regress_memo.proofs.analysis_result.MemoAnalysis.is_written.Given as goal
-
-abbrev pub invariant-loop-ip : goal.invariant-loop-ip
-invariant-loop-ip l =
-    (program : Program) → AreInsnsOfProgram program l.insns → (k : ℕ) → k < l.ip → IsInsnChecked l.self program (successors_of_insn_if_any k (slice_get program.insns k)) k

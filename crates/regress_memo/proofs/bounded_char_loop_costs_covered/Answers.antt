@@ -1,5 +1,0 @@
-use Rattle.regress_memo.proofs.CappedCharLoopLemmas.{others-paid}
-use Rattle.regress_memo.proofs.bounded_char_loop_costs_covered.Goals as goal
-
-pub returns : goal.returns
-returns c = others-paid

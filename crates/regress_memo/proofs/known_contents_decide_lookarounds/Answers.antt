@@ -1,5 +1,0 @@
-use Rattle.regress_memo.proofs.SharedMemoLookaroundLemmas.{looks-decided}
-use Rattle.regress_memo.proofs.known_contents_decide_lookarounds.Goals as goal
-
-pub returns : goal.returns
-returns c = looks-decided

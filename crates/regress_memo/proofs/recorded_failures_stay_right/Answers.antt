@@ -1,5 +1,0 @@
-use Rattle.regress_memo.proofs.MemoSearchLemmas.{noted-stays}
-use Rattle.regress_memo.proofs.recorded_failures_stay_right.Goals as goal
-
-pub returns : goal.returns
-returns c = noted-stays

@@ -1,5 +1,0 @@
-use Rattle.regress_pikevm.proofs.InsnEffectLemmas.{enters}
-use Rattle.regress_pikevm.proofs.pikevm.single_insn_execution.enter_iteration.Goals as goal
-
-pub returns : goal.returns
-returns g c = enters g.P.PositionType.offset c.args.state c.args.id c.args.begin c.args.k

@@ -1,0 +1,26 @@
+use Rattle.std.proofs.Common.{◌≡◌, sym, ap, ◌∙◌, arith}
+use Rattle.regress_program.specs.PrefixesAndPrefilters.{units_allowed_by_prefix, prefix_allows_units_at}
+use Rattle.regress_search.specs.StartSearch.{keys_in}
+use Rattle.regress_search.proofs.ProbeLemmas.{fits-goes, fits-stops}
+use Rattle.regress_search.proofs.start_search_by_bit_probes.prefix_fits_at_offset.Goals as goal
+
+pub returns-then-not-is_key_allowed : goal.returns-then-not-is_key_allowed
+returns-then-not-is_key_allowed g c =
+    let w = g.W.SearchContext.searching c.args.context.now in
+    let there = c.unit_key_at_offset-key.ensures.is in
+    sym (fits-stops w c.args.prefix.now c.args.at c.units.ahead c.unit_key_at_offset-key.result c.is_key_allowed.result c.units-test.true there c.is_key_allowed.ensures
+    c.if-not-is_key_allowed.true)
+
+pub units-preserved : goal.units-preserved
+units-preserved g c =
+    let w = g.W.SearchContext.searching c.args.context.now in
+    let there = c.unit_key_at_offset-key.ensures.is in (
+      omega (arith, c.units-test.true),
+      fits-goes w c.args.prefix.now c.args.at c.units.ahead c.unit_key_at_offset-key.result c.is_key_allowed.result there c.is_key_allowed.ensures c.if-not-is_key_allowed.false c.units.invariant.1,
+    )
+
+pub returns : goal.returns
+returns g c =
+    let w = g.W.SearchContext.searching c.args.context.now in
+    let all : c.units.ahead ≡ c.args.prefix.now.len = omega (arith, c.units-test.false, c.units.invariant.0) in
+    sym (ap (prefix_allows_units_at (units_allowed_by_prefix c.args.prefix.now) (keys_in w) c.args.at) (sym all) ∙ c.units.invariant.1)

@@ -1,8 +1,0 @@
-use Rattle.std.proofs.Common.{refl}
-use Rattle.regress_match.specs.ProgramTreesAndAnswers.{tree_for_byte_units}
-use Rattle.regress_match.proofs.SearchStartLemmas.{ascii_start}
-use Rattle.test_trials.proofs.checks.is_copied_in_ascii.Goals as goal
-
-pub find_ascii-requires : goal.find_ascii-requires
-find_ascii-requires c = λ lifetimes.
-    ((refl, tt), (c.requires, ascii_start _ c.args.text.now (tree_for_byte_units c.args.re.now).flags.unicode refl 0))

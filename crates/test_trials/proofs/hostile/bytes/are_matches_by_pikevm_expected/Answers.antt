@@ -1,0 +1,8 @@
+use Rattle.std.proofs.Common.{refl}
+use Rattle.regress_match.specs.ProgramTreesAndAnswers.{tree_for_byte_units}
+use Rattle.regress_match.proofs.SearchStartLemmas.{utf8_start}
+use Rattle.test_trials.proofs.hostile.bytes.are_matches_by_pikevm_expected.Goals as goal
+
+pub find-requires : goal.find-requires
+find-requires c = λ lifetimes.
+    ((refl, tt), (tt, utf8_start _ c.args.text.now (tree_for_byte_units c.args.re.now).flags.unicode refl c.utf8.text c.args.start c.requires))

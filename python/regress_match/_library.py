@@ -125,7 +125,8 @@ def _open():
         raise ImportError(f"{failure}: {todo}") from None
     version = library.regress_c_version()
     if version // 100 != VERSION:
-        raise ImportError(f"{NAME} has version {version}, and this module is for {VERSION}00 to {VERSION}99")
+        found = f"{version // 10000}.{version // 100 % 100}.{version % 100}"
+        raise ImportError(f"{NAME} has version {found}, and this module needs {VERSION // 100}.{VERSION % 100}")
     return library
 
 

@@ -4,7 +4,7 @@ use crate::error::{SearchError, Unbounded};
 use crate::found::Match;
 use crate::raw::{code, Span};
 use crate::regex::Regex;
-use crate::search::{match_at_index, splits_character};
+use crate::search::{make_room, match_at_index, splits_character};
 use std::fmt;
 use std::iter::FusedIterator;
 
@@ -75,25 +75,28 @@ impl<'r> BoundedRegex<'r> {
     fn find_as_many(&self, text: &str, start: usize, work: u64, room: usize) -> MatchesInWork<'r> {
         let mut matches = MatchesInWork {
             re: self.re,
-            spans: vec![Span::default(); room * self.re.ranges()],
+            spans: Vec::new(),
             found: 0,
             yielded: 0,
             work_left: work,
             code: code::DONE,
         };
         let (spans, left) = (&mut matches.spans, &mut matches.work_left);
-        let reply = self
-            .re
-            .with(|handle| handle.find_all_in_work(text, start, left, spans));
-        match reply.code {
+        let reply = make_room(spans, room * self.re.ranges()).and_then(|()| {
+            self.re
+                .with(|handle| handle.find_all_in_work(text, start, left, spans))
+        });
+        match reply {
+            Err(_) => matches.code = code::MEMORY,
+            Ok(reply) => (matches.code, matches.found) = (reply.code, reply.count),
+        }
+        match matches.code {
             code::NOT_BOUNDARY => splits_character(start),
             code if Unbounded::of(code).is_some() => {
                 unreachable!("the bound of this pattern is known")
             }
-            code => matches.code = code,
+            _ => matches,
         }
-        matches.found = reply.count;
-        matches
     }
 }
 
@@ -112,6 +115,12 @@ impl MatchesInWork<'_> {
     pub fn work_left(&self) -> u64 {
         self.work_left
     }
+
+    // Drops the matches that were not yielded, and ends the iteration.
+    fn stop(&mut self) {
+        self.yielded = self.found;
+        self.code = code::NO_MATCH;
+    }
 }
 
 impl Iterator for MatchesInWork<'_> {
@@ -120,14 +129,18 @@ impl Iterator for MatchesInWork<'_> {
     fn next(&mut self) -> Option<Self::Item> {
         if self.yielded < self.found {
             self.yielded += 1;
-            return Some(Ok(match_at_index(self.re, &self.spans, self.yielded - 1)));
+            let found = match_at_index(self.re, &self.spans, self.yielded - 1);
+            if found.is_err() {
+                self.stop();
+            }
+            return Some(found);
         }
         let told = match self.code {
             code::MEMORY => Some(Err(SearchError::Memory)),
             code::WORK_LIMIT => Some(Err(SearchError::WorkLimit)),
             _ => None,
         };
-        self.code = code::NO_MATCH;
+        self.stop();
         told
     }
 }

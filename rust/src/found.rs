@@ -5,8 +5,9 @@ use std::iter::FusedIterator;
 use std::ops::Range;
 use std::sync::Arc;
 
-/// The names of the groups from number 1 on. The name of an unnamed group is empty.
-pub(crate) type Names = Arc<[Box<str>]>;
+/// The names of the groups from number 1 on. The name of an unnamed group is empty. It is `None` if no group has a name, so that
+/// matches of such patterns count no references.
+pub(crate) type Names = Option<Arc<[Box<str>]>>;
 
 /// A match: the range of the whole match, and the ranges of its groups, in units of the text.
 #[derive(Clone)]
@@ -52,7 +53,7 @@ impl Match {
         if name.is_empty() {
             return None;
         }
-        let id = self.names.iter().position(|other| **other == *name)?;
+        let id = self.names().iter().position(|other| **other == *name)?;
         self.captures.get(id).cloned().flatten()
     }
 
@@ -67,6 +68,10 @@ impl Match {
     /// Returns an iterator over the names and ranges of the named groups, in order of their numbers.
     pub fn named_groups(&self) -> NamedGroups<'_> {
         NamedGroups { found: self, id: 0 }
+    }
+
+    fn names(&self) -> &[Box<str>] {
+        self.names.as_deref().unwrap_or_default()
     }
 }
 
@@ -127,7 +132,7 @@ impl<'m> Iterator for NamedGroups<'m> {
     type Item = (&'m str, Option<Range<usize>>);
 
     fn next(&mut self) -> Option<Self::Item> {
-        while let Some(name) = self.found.names.get(self.id) {
+        while let Some(name) = self.found.names().get(self.id) {
             let id = self.id;
             self.id += 1;
             if !name.is_empty() {
@@ -138,7 +143,7 @@ impl<'m> Iterator for NamedGroups<'m> {
     }
 
     fn size_hint(&self) -> (usize, Option<usize>) {
-        let names = self.found.names.iter().skip(self.id);
+        let names = self.found.names().iter().skip(self.id);
         let left = names.filter(|name| !name.is_empty()).count();
         (left, Some(left))
     }

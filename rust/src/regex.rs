@@ -4,8 +4,8 @@ use crate::bounded::BoundedRegex;
 use crate::error::{Cause, Error, Place, SearchError, Unbounded};
 use crate::flags::Flags;
 use crate::found::{Match, Names};
-use crate::raw::{self, code, Handle, RawBounds, Reading, Reply, Span, Text};
-use crate::search::{match_of, out_of_memory, splits_character};
+use crate::raw::{self, code, Handle, RawBounds, Reading, Reply, Text};
+use crate::search::{make_room, match_of, out_of_memory, splits_character};
 use crate::search::{AsciiMatches, Matches, TryMatches};
 use std::fmt;
 use std::str::FromStr;
@@ -196,15 +196,16 @@ impl Regex {
 
     fn of(mut handle: Handle, pattern: Arc<str>, flags: Flags) -> Regex {
         let ranges = handle.range_count();
-        let names = (1..ranges)
+        let names: Arc<[Box<str>]> = (1..ranges)
             .map(|number| name_of(&mut handle, number))
             .collect();
+        let named = names.iter().any(|name| !name.is_empty());
         Regex {
             handles: Arc::new(Handles {
                 first: Mutex::new(handle),
                 more: Mutex::new(Vec::new()),
             }),
-            names,
+            names: named.then_some(names),
             ranges,
             pattern,
             flags,
@@ -212,23 +213,30 @@ impl Regex {
     }
 
     /// Calls `call` with a handle that no other call uses.
-    pub(crate) fn with<T>(&self, call: impl FnOnce(&mut Handle) -> T) -> T {
+    ///
+    /// # Errors
+    ///
+    /// `Memory` if all handles are in use and one more cannot be allocated.
+    pub(crate) fn with<T>(&self, call: impl FnOnce(&mut Handle) -> T) -> Result<T, SearchError> {
         match self.handles.first.try_lock() {
-            Ok(mut handle) => return call(&mut handle),
-            Err(TryLockError::Poisoned(lock)) => return call(&mut lock.into_inner()),
+            Ok(mut handle) => return Ok(call(&mut handle)),
+            Err(TryLockError::Poisoned(lock)) => return Ok(call(&mut lock.into_inner())),
             Err(TryLockError::WouldBlock) => {}
         }
         let kept = locked(&self.handles.more).pop();
         let mut handle = match kept {
             Some(handle) => handle,
-            None => match locked(&self.handles.first).again() {
-                Ok(handle) => handle,
-                Err(_) => out_of_memory(),
-            },
+            None => locked(&self.handles.first)
+                .again()
+                .map_err(|_| SearchError::Memory)?,
         };
         let answer = call(&mut handle);
-        locked(&self.handles.more).push(handle);
-        answer
+        let mut more = locked(&self.handles.more);
+        // A handle is freed if there is no memory to keep it.
+        if more.try_reserve(1).is_ok() {
+            more.push(handle);
+        }
+        Ok(answer)
     }
 
     /// Returns the number of ranges of a match: one for the whole match, and one for each group.
@@ -247,9 +255,11 @@ impl Regex {
 
     /// Returns an iterator over the names of the groups, from number 1 on. An unnamed group yields `None`.
     pub fn group_names(&self) -> impl ExactSizeIterator<Item = Option<&str>> {
-        self.names
-            .iter()
-            .map(|name| Some(&**name).filter(|name| !name.is_empty()))
+        let names = self.names.as_deref().unwrap_or_default();
+        (0..self.group_count()).map(|id| {
+            let name = &**names.get(id)?;
+            Some(name).filter(|name| !name.is_empty())
+        })
     }
 
     /// Returns the first match in `text`.
@@ -434,10 +444,11 @@ impl Regex {
     }
 
     fn matched_at(&self, text: Text<'_>, at: usize) -> Result<Option<Match>, SearchError> {
-        let mut spans = vec![Span::default(); self.ranges];
-        let reply = self.with(|handle| handle.match_at(text, at, &mut spans));
+        let mut spans = Vec::new();
+        make_room(&mut spans, self.ranges)?;
+        let reply = self.with(|handle| handle.match_at(text, at, &mut spans))?;
         match reply.code {
-            code::DONE => Ok(Some(match_of(self, &spans))),
+            code::DONE => match_of(self, &spans).map(Some),
             code::NO_MATCH => Ok(None),
             code::NOT_BOUNDARY => splits_character(at),
             _ => Err(SearchError::Memory),
@@ -454,7 +465,8 @@ impl Regex {
     ///
     /// If an allocation fails.
     pub fn bounded(&self) -> Result<BoundedRegex<'_>, Unbounded> {
-        match self.with(Handle::work_per_unit) {
+        let bound = self.with(Handle::work_per_unit);
+        match bound.unwrap_or_else(|_| out_of_memory()) {
             Ok(per_unit) => Ok(BoundedRegex::new(self, per_unit)),
             Err(code) => Err(Unbounded::of(code).unwrap_or_else(|| out_of_memory())),
         }
@@ -487,6 +499,7 @@ impl Regex {
     fn replaced(&self, text: &str, replacement: &str, all: bool) -> String {
         written(text.len() + replacement.len(), |made| {
             self.with(|handle| handle.replace(text, replacement, all, made))
+                .unwrap_or_else(|_| out_of_memory())
         })
     }
 

@@ -2,7 +2,7 @@
 
 use crate::error::SearchError;
 use crate::found::Match;
-use crate::raw::{code, Search, Span, Text, UNMATCHED};
+use crate::raw::{code, Reply, Search, Span, Text, UNMATCHED};
 use crate::regex::Regex;
 use std::fmt;
 use std::iter::FusedIterator;
@@ -12,6 +12,8 @@ use std::ops::Range;
 const MOST_AT_ONCE: usize = 32;
 
 /// An iterator over the matches in a text. If the search fails, the error is its last item.
+///
+/// Without a step limit the library finds up to 32 matches a call, so the search may be ahead of the items that were yielded.
 pub struct TryMatches<'r, 't> {
     re: &'r Regex,
     search: Search<'t>,
@@ -54,27 +56,66 @@ impl<'r, 't> TryMatches<'r, 't> {
     }
 
     fn fill(&mut self) {
-        self.spans
-            .resize(self.at_once * self.re.ranges(), Span::default());
-        let (search, steps, spans) = (&mut self.search, self.steps.as_mut(), &mut self.spans);
-        let reply = self.re.with(|handle| search.next(handle, steps, spans));
-        self.code = reply.code;
-        self.found = reply.count;
-        self.yielded = 0;
+        let (code, found) = match self.next_reply() {
+            Ok(reply) => (reply.code, reply.count),
+            Err(_) => (code::MEMORY, 0),
+        };
+        (self.code, self.found, self.yielded) = (code, found, 0);
         // With a limit, one match is searched for at a time, so that no step is spent on matches that nobody asked for.
         if self.steps.is_none() {
             self.at_once = MOST_AT_ONCE.min(2 * self.at_once);
         }
     }
+
+    fn next_reply(&mut self) -> Result<Reply, SearchError> {
+        make_room(&mut self.spans, self.at_once * self.re.ranges())?;
+        let (search, steps, spans) = (&mut self.search, self.steps.as_mut(), &mut self.spans);
+        self.re.with(|handle| search.next(handle, steps, spans))
+    }
+
+    // Drops the matches that were not yielded, and ends the iteration.
+    fn stop(&mut self) {
+        self.yielded = self.found;
+        self.code = code::NO_MATCH;
+    }
+}
+
+/// Lengthens a buffer to `length` ranges. A longer one stays as it is.
+///
+/// # Errors
+///
+/// `Memory` if the allocation fails. The buffer stays as it is.
+pub(crate) fn make_room(spans: &mut Vec<Span>, length: usize) -> Result<(), SearchError> {
+    let more = length.saturating_sub(spans.len());
+    reserve(spans, more)?;
+    spans.resize(spans.len() + more, Span::default());
+    Ok(())
+}
+
+fn reserve<T>(values: &mut Vec<T>, more: usize) -> Result<(), SearchError> {
+    values
+        .try_reserve_exact(more)
+        .map_err(|_| SearchError::Memory)
 }
 
 /// Returns the match with these ranges: that of the whole match, and that of each group.
-pub(crate) fn match_of(re: &Regex, spans: &[Span]) -> Match {
-    Match {
-        range: spans[0].start..spans[0].end,
-        captures: spans[1..].iter().map(range_of).collect(),
-        names: re.names().clone(),
+///
+/// # Errors
+///
+/// `Memory` if the allocation for the groups fails.
+pub(crate) fn match_of(re: &Regex, spans: &[Span]) -> Result<Match, SearchError> {
+    let (whole, groups) = spans.split_first().expect("a match has a range");
+    let mut captures = Vec::new();
+    // Without this condition a match without groups takes a third more instructions here.
+    if !groups.is_empty() {
+        reserve(&mut captures, groups.len())?;
+        captures.extend(groups.iter().map(range_of));
     }
+    Ok(Match {
+        range: whole.start..whole.end,
+        captures,
+        names: re.names().clone(),
+    })
 }
 
 fn range_of(span: &Span) -> Option<Range<usize>> {
@@ -82,7 +123,11 @@ fn range_of(span: &Span) -> Option<Range<usize>> {
 }
 
 /// Returns the match with this index among several, whose ranges follow one another in `spans`.
-pub(crate) fn match_at_index(re: &Regex, spans: &[Span], index: usize) -> Match {
+pub(crate) fn match_at_index(
+    re: &Regex,
+    spans: &[Span],
+    index: usize,
+) -> Result<Match, SearchError> {
     let ranges = re.ranges();
     match_of(re, &spans[index * ranges..(index + 1) * ranges])
 }
@@ -97,14 +142,17 @@ impl Iterator for TryMatches<'_, '_> {
         if self.yielded < self.found {
             self.yielded += 1;
             let found = match_at_index(self.re, &self.spans, self.yielded - 1);
-            return Some(Ok(found));
+            if found.is_err() {
+                self.stop();
+            }
+            return Some(found);
         }
         let told = match self.code {
             code::MEMORY => Some(Err(SearchError::Memory)),
             code::STEP_LIMIT => Some(Err(SearchError::StepLimit)),
             _ => None,
         };
-        self.code = code::NO_MATCH;
+        self.stop();
         told
     }
 }

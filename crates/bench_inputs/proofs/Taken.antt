@@ -1,6 +1,5 @@
 -- A matcher that reads to the right moves forward, to a boundary.
-use Rattle.std.proofs.Common.{◌≡◌, ℕ, ◌<◌, ◌≤◌, ◌-◌, Bool, true, false, Option, Some, None, option_and_then, if◌then◌else◌, refl, sym, ◌∙◌, ap}
-use Rattle.std.proofs.Common.{subst, arith}
+use Rattle.std.proofs.Common.{◌≡◌, ℕ, ◌<◌, ◌≤◌, ◌-◌, Bool, true, false, Option, Some, None, option_and_then, if◌then◌else◌, refl, sym, ◌∙◌, ap, subst, arith}
 use Rattle.regex_meaning.specs.Text.{Text, rightwards}
 use Rattle.regex_meaning.specs.CodeUnitOffsets.{HasRisingPlaceOffsets, IsBoundary, units, read}
 use Rattle.regress_input.specs.CharAndByteReadsFromOffset.{end_if_matched, past_if}

@@ -1,22 +1,16 @@
 -- A join of abstract start predicates allows each text that one of the joined predicates allows.
-use Rattle.std.proofs.Common.{◌≡◌, ℕ, zero, suc, ◌+◌, ◌-◌, ◌<◌, ◌≤◌, Bool, true, false, ◌||◌, List, [], ◌∷◌, ◌++◌, map, length, take, drop, flat_map}
-use Rattle.std.proofs.Common.{refl, sym, arith}
-use Rattle.std.specs.Prelude.{if◌then◌else◌, nat_lt, nat_eq, ◌==◌, encode_utf8_all, slice_get}
+use Rattle.std.proofs.Common.{◌≡◌, ℕ, zero, suc, ◌+◌, ◌-◌, ◌<◌, ◌≤◌, Bool, true, false, ◌||◌, List, [], ◌∷◌, ◌++◌, map, length, take, drop, flat_map, refl, sym, arith}
+use Rattle.std.specs.Prelude.{if◌then◌else◌, nat_lt, nat_eq, ◌==◌, encode_utf8_all, slice_get, min, max}
 use Rattle.std.specs.List.{list_any, list_all, starts_with}
 use Rattle.std.specs.Char.{encode_utf8 as encode}
 use lib.Pointwise.{pointwise}
 use Rattle.std.specs.Int.{is_in_range}
 use mathlib.Core.Logic.{◌⊎◌, inl, inr}
-use Rattle.std.specs.Prelude.{min, max}
 use Rattle.regex_meaning.specs.Tree.{Intervals, BracketContents, bracket}
 use Rattle.regex_meaning.specs.Text.{Text, is_scalar}
 use Rattle.regex_meaning.specs.Outcomes.{is_some_and, in_intervals, accepts}
-use Rattle.regex_meaning.specs.StartPredicate.{AbstractStartPredicate, open_ended, arbitrary, sequence, one_of, join, common_prefix_or_first_bytes, common_prefix}
-use Rattle.regex_meaning.specs.StartPredicate.{union_of_byte_sets}
-use Rattle.regex_meaning.specs.StartPredicate.{first_byte_as_set, first_byte_is_one_of, utf8_bytes_of_text_from_place, interval_minus, intervals_minus}
-use Rattle.regex_meaning.specs.StartPredicate.{code_points_of_class}
-use Rattle.regex_meaning.specs.StartPredicate.{first_bytes, chars_with_first_byte}
-use Rattle.regex_meaning.specs.StartPredicate.{intersects}
+use Rattle.regex_meaning.specs.StartPredicate.{AbstractStartPredicate, open_ended, arbitrary, sequence, one_of, join, common_prefix_or_first_bytes, common_prefix, union_of_byte_sets, first_byte_as_set, first_byte_is_one_of, utf8_bytes_of_text_from_place, interval_minus, intervals_minus, intersects}
+use Rattle.regex_meaning.specs.StartPredicate.{code_points_of_class, first_bytes, chars_with_first_byte}
 use Rattle.regex_meaning.specs.NumberListHelpers.{contains}
 use Rattle.regex_meaning.proofs.FirstByteOfCharacter.{in_range-true, true-in_range, scalar-below, contains-bytes_where, first_of_char, FirstOf}
 use Rattle.std.proofs.lemmas.Bool.{cases_lt, not-true, and_from, or_left, or_right, lt-ltb, eq-eqb, eqb-true}

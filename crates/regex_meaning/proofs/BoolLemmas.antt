@@ -22,6 +22,14 @@ same-truth true b h k = sym (h refl)
 same-truth false true h k = k refl
 same-truth false false h k = refl
 
+-- A test is false if it implies a test that is false.
+pub false-by-implication : (a b : Bool) → (a ≡ true → b ≡ true) → b ≡ false → a ≡ false
+false-by-implication true b f e = let t : b ≡ true = f refl in cc
+false-by-implication false b f e = refl
+
+pub not-both : (b : Bool) → b ≡ true → b ≡ false → ⊥
+not-both b t f = cc
+
 -- Two tests of order are equal if each of the two orders implies the other.
 pub le-same : (a b c d : ℕ) → (a ≤ b → c ≤ d) → (c ≤ d → a ≤ b) → nat_le a b ≡ nat_le c d
 le-same a b c d to back = elim (cases_lt b a) [

@@ -5,12 +5,7 @@ use Rattle.std.proofs.lemmas.Bool.{or_cases, cases_lt}
 use Rattle.regex_meaning.specs.Tree.{Intervals}
 use Rattle.regex_meaning.specs.Outcomes.{in_intervals}
 use Rattle.regex_meaning.specs.CharacterClasses.{AreCanonicalIntervals}
-
-in_range : (low high c : ℕ) → low ≤ c → c ≤ high → is_in_range low high c ≡ true
-in_range low high c e f = grind arith
-
-out_low : (low high c : ℕ) → c < low → is_in_range low high c ≡ false
-out_low low high c e = grind arith
+use Rattle.regex_meaning.proofs.FirstByteOfCharacter.{in_range-true, in_range-below}
 
 out_high : (low high c : ℕ) → high < c → is_in_range low high c ≡ false
 out_high low high c e = grind arith
@@ -31,7 +26,7 @@ below_rest i [] a c e = refl
 below_rest i (j ∷ js) a c e =
     let h : j.0 ≤ j.1 = holds j js a.2 in
     let g : suc i.1 < j.0 = a.1 in
-    rw (out_low j.0 j.1 c (omega arith)) (below_rest j js a.2 c (omega arith))
+    rw (in_range-below j.0 j.1 c (omega arith)) (below_rest j js a.2 c (omega arith))
 
 least : (i : ℕ × ℕ) (is : Intervals) → AreCanonicalIntervals (i ∷ is) → (c : ℕ) → in_intervals (i ∷ is) c ≡ true → i.0 ≤ c
 least i is a c e = ⊎_elim (λ f. above i.0 i.1 c f) (λ f. beyond (cases_lt (suc i.1) c) f) (or_cases (is_in_range i.0 i.1 c) _ e)
@@ -41,12 +36,12 @@ least i is a c e = ⊎_elim (λ f. above i.0 i.1 c f) (λ f. beyond (cases_lt (s
     beyond (inr g) f = absurd (true≢false (sym f ∙ below_rest i is a c g))
 
 at_first : (i : ℕ × ℕ) (is : Intervals) → AreCanonicalIntervals (i ∷ is) → in_intervals (i ∷ is) i.0 ≡ true
-at_first i is a = rw (in_range i.0 i.1 i.0 (le_refl i.0) (holds i is a)) refl
+at_first i is a = rw (in_range-true i.0 i.1 i.0 (le_refl i.0) (holds i is a)) refl
 
 no_longer : (i j : ℕ × ℕ) (is js : Intervals) → AreCanonicalIntervals (i ∷ is) → i.0 ≡ j.0 → ((c : ℕ) → in_intervals (i ∷ is) c ≡ in_intervals (j ∷ js) c) → i.1 < j.1 → ⊥
 no_longer i j is js a e same f =
     let h : i.0 ≤ i.1 = holds i is a in
-    let x : in_intervals (j ∷ js) (suc i.1) ≡ true = rw (in_range j.0 j.1 (suc i.1) (omega arith) (omega arith)) refl in
+    let x : in_intervals (j ∷ js) (suc i.1) ≡ true = rw (in_range-true j.0 j.1 (suc i.1) (omega arith) (omega arith)) refl in
     let y : in_intervals (i ∷ is) (suc i.1) ≡ false = rw (out_high i.0 i.1 (suc i.1) (omega arith)) (below_rest i is a (suc i.1) (omega arith)) in
     true≢false (sym x ∙ sym (same (suc i.1)) ∙ y)
 

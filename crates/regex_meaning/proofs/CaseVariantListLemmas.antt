@@ -1,6 +1,5 @@
 -- Each character has exactly one list of case variants, which has at most four members.
-use Rattle.std.proofs.Common.{◌≡◌, ◌≢◌, ◌⊎◌, ℕ, zero, suc, ◌<◌, ◌≤◌, Bool, true, false, not, ◌&&◌, ◌||◌, ◌==◌, nat_le, nat_lt, nat_eq, List, [], ◌∷◌, length, filter}
-use Rattle.std.proofs.Common.{Contains, refl, sym, ap, ap₂, subst, ◌∙◌, arith, inl, inr, ⊎_elim, leb-true, eqb-true, eq-eqb}
+use Rattle.std.proofs.Common.{◌≡◌, ◌≢◌, ◌⊎◌, ℕ, zero, suc, ◌<◌, ◌≤◌, Bool, true, false, not, ◌&&◌, ◌||◌, ◌==◌, nat_le, nat_lt, nat_eq, List, [], ◌∷◌, length, filter, Contains, refl, sym, ap, ap₂, subst, ◌∙◌, arith, inl, inr, ⊎_elim, leb-true, eqb-true, eq-eqb}
 use Rattle.std.proofs.Common.{true≢false, le_of_suc-le-suc, not-suc-le-zero}
 use Rattle.std.specs.Prelude.{if◌then◌else◌}
 use Rattle.std.specs.List.{list_all}
@@ -16,6 +15,7 @@ use Rattle.regex_meaning.specs.NumberListHelpers.{contains}
 use Rattle.regex_meaning.specs.Canonical.{canonicalize, are_alike, AreIncreasing, AreCaseVariants}
 use Rattle.regex_meaning.specs.CaseLaws.{EachCharacterHasCaseVariants, CaseVariantsAreFew}
 use Rattle.regex_meaning.proofs.CaseLawLemmas.{alike-folds}
+use Rattle.regex_meaning.proofs.FirstByteOfCharacter.{contains-cons}
 
 -- ---- Increasing lists
 
@@ -37,9 +37,6 @@ first-least x (y ∷ ys) d h e =
 
 itself : (x : ℕ) (xs : List ℕ) → contains (x ∷ xs) x ≡ true
 itself x xs = or_left (nat_eq x x) (contains xs x) (eq-eqb x x refl)
-
-later : (x : ℕ) (xs : List ℕ) (d : ℕ) → contains xs d ≡ true → contains (x ∷ xs) d ≡ true
-later x xs d e = or_right (nat_eq d x) (contains xs d) e
 
 none-of-itself : (x : ℕ) (xs : List ℕ) → AreIncreasing (x ∷ xs) → contains xs x ≡ false
 none-of-itself x xs h = false_from_ne_true (contains xs x) (λ e. let a = first-least x xs x h e in absurd (omega (arith, a)))
@@ -102,14 +99,14 @@ without-keeps m (x ∷ xs) d e f = by (nat_eq m x) refl (λ g. without-keeps m x
     by true g k (inl h) = absurd (true≢false (sym (eq-eqb d m (eqb-true d x h ∙ sym (eqb-true m x g))) ∙ e))
     by true g k (inr h) = k h
     by false g k (inl h) = or_left (nat_eq d x) _ h
-    by false g k (inr h) = later x (without m xs) d (k h)
+    by false g k (inr h) = contains-cons x (without m xs) d (k h)
 
 fits-within : (ms xs : List ℕ) → AreIncreasing ms → ((d : ℕ) → contains ms d ≡ true → contains xs d ≡ true) → length ms ≤ length xs
 fits-within [] xs h within = omega arith
 fits-within (m ∷ ms) xs h within =
     let a = without-shorter m xs (within m (itself m ms)) in
     let b = fits-within ms (without m xs) (rest-increasing m ms h)
-    (λ d e. without-keeps m xs d (false_from_ne_true (nat_eq d m) (λ f. let c = first-least m ms d h e in let g = eqb-true d m f in absurd (omega (arith, c, g)))) (within d (later m ms d e))) in
+    (λ d e. without-keeps m xs d (false_from_ne_true (nat_eq d m) (λ f. let c = first-least m ms d h e in let g = eqb-true d m f in absurd (omega (arith, c, g)))) (within d (contains-cons m ms d e))) in
     omega (arith, a, b)
 
 -- ---- The characters with one folding
@@ -242,8 +239,8 @@ insert-has c (x ∷ xs) d e = by (nat_lt c x) (λ f. insert-has c xs d f) (or_ca
     by : (b : Bool) → (contains (c ∷ xs) d ≡ true → contains (insert c xs) d ≡ true) → (nat_eq d c ≡ true) ⊎ (contains (x ∷ xs) d ≡ true)
         → contains (if b then c ∷ x ∷ xs else x ∷ insert c xs) d ≡ true
     by true k f = e
-    by false k (inl f) = later x (insert c xs) d (k (or_left (nat_eq d c) _ f))
-    by false k (inr f) = ⊎_elim (λ g. or_left (nat_eq d x) _ g) (λ g. later x (insert c xs) d (k (later c xs d g))) (or_cases (nat_eq d x) (contains xs d) f)
+    by false k (inl f) = contains-cons x (insert c xs) d (k (or_left (nat_eq d c) _ f))
+    by false k (inr f) = ⊎_elim (λ g. or_left (nat_eq d x) _ g) (λ g. contains-cons x (insert c xs) d (k (contains-cons c xs d g))) (or_cases (nat_eq d x) (contains xs d) f)
 
 filter-above : (p : ℕ → Bool) (n : ℕ) (xs : List ℕ) → AreIncreasing (n ∷ xs) → AreIncreasing (n ∷ filter p xs)
 filter-above p n [] h = tt
@@ -255,7 +252,7 @@ filter-increasing p [] h = tt
 filter-increasing p (x ∷ xs) h =
     cond_both (p x) (x ∷ filter p xs) (filter p xs) (λ ys. AreIncreasing ys) (λ _. filter-above p x xs h) (λ _. filter-increasing p xs (rest-increasing x xs h))
 
-filter-has : (p : ℕ → Bool) (xs : List ℕ) (d : ℕ) → contains (filter p xs) d ≡ (contains xs d && p d)
+pub filter-has : (p : ℕ → Bool) (xs : List ℕ) (d : ℕ) → contains (filter p xs) d ≡ (contains xs d && p d)
 filter-has p [] d = refl
 filter-has p (x ∷ xs) d = by (p x) (nat_eq d x) refl refl (filter-has p xs d)
   where

@@ -1,10 +1,26 @@
 -- The length of a text in code units is the length of the list that encodes it.
-use Rattle.std.proofs.Common.{◌≡◌, ℕ, ◌+◌, ◌<◌, ◌^◌, Bool, List, [], ◌∷◌, length, get_or, map, chars, IsUtf8, length-append, refl, ◌∙◌, ap, arith}
-use Rattle.std.specs.Char.{len_utf8}
-use Rattle.std.proofs.lemmas.Str.{length-encode, encodes-chars, IsUtf8-had}
+use Rattle.std.proofs.Common.{◌≡◌, ℕ, ◌+◌, ◌<◌, ◌^◌, Bool, true, false, List, [], ◌∷◌, length, get_or, map, chars, IsUtf8, length-append, append-nil, refl, ◌∙◌, ap, arith}
+use Rattle.std.specs.Prelude.{nat_lt, if◌then◌else◌}
+use Rattle.std.specs.Char.{len_utf8, encode_utf8}
+use Rattle.std.proofs.lemmas.Str.{length-encode, len_utf8_bounds, encodes-chars, IsUtf8-had}
 use lib.Utf8.{encode, encodes}
 use Rattle.regex_meaning.specs.Text.{offsets_from, width_of_single_unit_character, utf8_text, ascii_text, ucs2_text}
 use Rattle.regex_meaning.specs.CodeUnitOffsets.{units}
+use Rattle.regex_meaning.specs.CodeUnits.{Encoding, utf8, utf16, ucs2, code_units_of_character, surrogate_pair}
+
+-- Each character has at least one unit.
+pub has-unit : (e : Encoding) (c : ℕ) → 0 < length (code_units_of_character e c)
+has-unit utf8 c =
+    let l = ap length (append-nil (encode_utf8 c)) in
+    let w = length-encode c in
+    let b = len_utf8_bounds c in
+    omega (arith, l, w, b.0)
+has-unit utf16 c = by (nat_lt c 0x1_0000)
+  where
+    by : (b : Bool) → 0 < length (if b then c ∷ [] else surrogate_pair c)
+    by true = omega arith
+    by false = omega arith
+has-unit ucs2 c = omega arith
 
 abbrev total : (width : ℕ → ℕ) → List ℕ → ℕ
 total width [] = 0

@@ -1,17 +1,13 @@
 -- A disjunction has at most one tree in a dialect whose atoms and names have at most one reading.
-use Rattle.std.proofs.Common.{◌≡◌, ℕ, Bool, true, false, ◌&&◌, List, [], ◌∷◌, ◌++◌, true≢false, inl, inr, ⊎_elim, ◌⊎◌, refl, sym, ap, ap₂, subst}
-use Rattle.std.proofs.Common.{nat_eq, ◌∙◌}
+use Rattle.std.proofs.Common.{◌≡◌, ℕ, Bool, true, false, ◌&&◌, List, [], ◌∷◌, ◌++◌, true≢false, inl, inr, ⊎_elim, ◌⊎◌, refl, sym, ap, ap₂, subst, nat_eq, ◌∙◌}
 use Rattle.std.specs.Prelude.{codes, if◌then◌else◌, not}
-use Rattle.std.proofs.lemmas.Bool.{or_right, or_cases, eq-eqb, eqb-true}
+use Rattle.std.proofs.lemmas.Bool.{or_right, or_cases, eq-eqb, eqb-true, false≢true}
 use Rattle.std.proofs.lemmas.List.{append_cancel_left}
 use Prim.Native.String.{String}
 use Rattle.regex_meaning.specs.Tree.{Node, Quantifier, anchor, start_of_line, end_of_line, word_boundary, capture_group, lookaround, loop}
-use Rattle.regex_meaning.specs.ReadingStatesAndDigits.{RemainingCodePoints, ParseState, PatternContext, number_of_opened_groups, ◌▸◌, state_with_text_left, with_opened_group, ◌∈◌}
-use Rattle.regex_meaning.specs.ReadingStatesAndDigits.{begins_with_characters, arm}
+use Rattle.regex_meaning.specs.ReadingStatesAndDigits.{RemainingCodePoints, ParseState, PatternContext, number_of_opened_groups, ◌▸◌, state_with_text_left, with_opened_group, ◌∈◌, begins_with_characters, arm}
 use Rattle.regex_meaning.specs.EscapesNamesQuantifiers.{BeginsQuantifier, ValidQuantifier, greedy, lazy}
-use Rattle.regex_meaning.specs.Grammar.{PatternDialect, Disjunction, Alternative, Term, Assertion, Atom, last_alternative, alternatives, no_terms, terms}
-use Rattle.regex_meaning.specs.Grammar.{assertion, repeated_assertion, atom, quantified, start, end, boundary, look, lookaround_opener, leaf, group, named_group}
-use Rattle.regex_meaning.specs.Grammar.{plain_group}
+use Rattle.regex_meaning.specs.Grammar.{PatternDialect, Disjunction, Alternative, Term, Assertion, Atom, last_alternative, alternatives, no_terms, terms, assertion, repeated_assertion, atom, quantified, start, end, boundary, look, lookaround_opener, leaf, group, named_group, plain_group}
 
 -- Nothing is left, or a closing parenthesis is next.
 abbrev pub closes_here : RemainingCodePoints → Bool
@@ -122,9 +118,6 @@ Agree q r a b = (q ≡ r) × (a ≡ b)
 abbrev pub QuantifiersAgree : Type 0
 QuantifiersAgree = (here a b : RemainingCodePoints) (n m : Quantifier) → ValidQuantifier here a n → ValidQuantifier here b m → (a ≡ b) × (n ≡ m)
 
-unlike_true : false ≡ true → ⊥
-unlike_true e = true≢false (sym e)
-
 abbrev pub leaf_begins : RemainingCodePoints → Bool
 leaf_begins [] = false
 leaf_begins (c ∷ cs) = not (c ∈ "^$*+?()|")
@@ -217,8 +210,8 @@ module _ (S : PatternDialect) (one : IsReadInOneWay S) (one_quantifier : Quantif
   leaf_ended (c ∷ cs) e f = at_end c (or_cases _ _ f) e
     where
       at_end : (c : ℕ) → (nat_eq c 124 ≡ true) ⊎ (c ∈ ")" ≡ true) → leaf_begins (c ∷ []) ≡ true → ⊥
-      at_end c (inl f) e = unlike_true (subst (λ d. leaf_begins (d ∷ []) ≡ true) (eqb-true c 124 f) e)
-      at_end c (inr f) e = ⊎_elim (λ g. unlike_true (subst (λ d. leaf_begins (d ∷ []) ≡ true) (eqb-true c 41 g) e)) (λ g. unlike_true g) (or_cases (nat_eq c 41) false f)
+      at_end c (inl f) e = false≢true (subst (λ d. leaf_begins (d ∷ []) ≡ true) (eqb-true c 124 f) e)
+      at_end c (inr f) e = ⊎_elim (λ g. false≢true (subst (λ d. leaf_begins (d ∷ []) ≡ true) (eqb-true c 41 g) e)) (λ g. false≢true g) (or_cases (nat_eq c 41) false f)
 
   atom_begins : {in_lookbehind : Bool} {p q : ParseState} {n : Node} → Atom S w in_lookbehind p q n → ends_here p.text ≡ true → ⊥
   atom_begins {p = p} (leaf a) e = leaf_ended p.text (one.leaf_apart w _ _ _ a) e

@@ -1,6 +1,5 @@
 -- A property of each element of a list carries over to the lists that are made from it.
-use Rattle.std.proofs.Common.{◌≡◌, ℕ, zero, suc, Bool, true, false, List, [], ◌∷◌, refl, sym, subst, ◌++◌, filter, flat_map, map, take, drop}
-use Rattle.std.proofs.Common.{reverse, replicate, slice_set}
+use Rattle.std.proofs.Common.{◌≡◌, ℕ, zero, suc, Bool, true, false, List, [], ◌∷◌, refl, sym, subst, ◌++◌, filter, flat_map, map, take, drop, reverse, replicate, slice_set}
 use Rattle.std.proofs.lemmas.List.{reverse-append}
 use Rattle.std.specs.Prelude.{if◌then◌else◌}
 pub use Rattle.regex_meaning.specs.Laws.{Each}
@@ -9,6 +8,14 @@ module _ {A : Type 0} where
   pub Each-append : (P : A → Type 0) (xs ys : List A) → Each P xs → Each P ys → Each P (xs ++ ys)
   Each-append P [] ys h k = k
   Each-append P (x ∷ xs) ys h k = (h.0, Each-append P xs ys h.1 k)
+
+  pub Each-left : (P : A → Type 0) (xs ys : List A) → Each P (xs ++ ys) → Each P xs
+  Each-left P [] ys h = tt
+  Each-left P (x ∷ xs) ys h = (h.0, Each-left P xs ys h.1)
+
+  pub Each-right : (P : A → Type 0) (xs ys : List A) → Each P (xs ++ ys) → Each P ys
+  Each-right P [] ys h = h
+  Each-right P (x ∷ xs) ys h = Each-right P xs ys h.1
 
   pub Each-if : (P : A → Type 0) (b : Bool) (xs ys : List A) → Each P xs → Each P ys → Each P (if b then xs else ys)
   Each-if P true xs ys h k = h

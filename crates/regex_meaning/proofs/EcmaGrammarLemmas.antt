@@ -1,5 +1,5 @@
 -- The laws of the ECMAScript grammar hold: a pattern has at most one tree, which is well formed.
-use Rattle.std.proofs.Common.{◌≡◌, ℕ, Bool, true, false, List, [], length, refl, ap, ◌∙◌}
+use Rattle.std.proofs.Common.{◌≡◌, ℕ, List, [], length, refl, ap, ◌∙◌}
 use Rattle.std.specs.Prelude.{if◌then◌else◌, nat_lt, ◌==◌}
 use Rattle.std.specs.List.{list_all}
 use Rattle.std.proofs.lemmas.Bool.{le-leb}
@@ -8,25 +8,17 @@ use Rattle.regex_meaning.specs.Canonical.{AreCaseVariants}
 use Rattle.regex_meaning.proofs.CaseVariantListLemmas.{few-case-variants}
 use Rattle.regex_meaning.specs.ReadingStatesAndDigits.{RemainingCodePoints, PatternContext}
 use Rattle.regex_meaning.specs.Grammar.{pattern_is}
-use Rattle.regex_meaning.specs.EcmaGrammarWithAnnexB.{node_of_case_variants, group_number, AtomEscape, decimal_escape, character_class_escape, property_escape}
-use Rattle.regex_meaning.specs.EcmaGrammarWithAnnexB.{character_escape}
-use Rattle.regex_meaning.specs.EcmaGrammarWithAnnexB.{named_reference}
+use Rattle.regex_meaning.specs.EcmaGrammarWithAnnexB.{node_of_case_variants, group_number, AtomEscape, decimal_escape, character_class_escape, property_escape, character_escape, named_reference, ecmascript}
 use Rattle.regex_meaning.specs.EcmaGrammarWithAnnexB.{SimpleAtom, pattern_character, extended_pattern_character, any_character, atom_escape, backslash, character_class}
-use Rattle.regex_meaning.specs.EcmaGrammarWithAnnexB.{ecmascript}
 use Rattle.regex_meaning.specs.SubtreeInvariants.{IsWellFormedGrouplessSubtree}
-use Rattle.regex_meaning.specs.EcmaGrammarLaws.{EcmaScriptGroupsAreFound, EcmaScriptGroupsIndependentOfContext, EcmaScriptPatternHasAtMostOneTree, EcmaScriptTreesAreWellFormed}
-use Rattle.regex_meaning.specs.EcmaGrammarLaws.{EcmaScriptGroupsAgreeWithScan}
+use Rattle.regex_meaning.specs.EcmaGrammarLaws.{EcmaScriptGroupsAreFound, EcmaScriptGroupsIndependentOfContext, EcmaScriptPatternHasAtMostOneTree, EcmaScriptTreesAreWellFormed, EcmaScriptGroupsAgreeWithScan}
 use Rattle.regex_meaning.proofs.BackreferenceNumberLemmas.{number-positive, number_of-bounds}
 use Rattle.regex_meaning.proofs.GroupNamesOfTreeLemmas.{names-by}
-use Rattle.regex_meaning.proofs.PatternTreeLemmas.{leaf-reference, AtomsAreSound, groups_in, counted-by, well-formed-by}
+use Rattle.regex_meaning.proofs.PatternTreeLemmas.{leaf-reference, AtomsAreSound, groups_in, counted-by, well-formed-by, leaf-if}
 use Rattle.regex_meaning.proofs.GroupOpeningScanLemmas.{groups-found, one-groups}
 use Rattle.regex_meaning.proofs.UniqueTreeLemmas.{one-tree-by}
 use Rattle.regex_meaning.proofs.EcmaClassAndAtomLemmas.{ecmascript-reads}
 use Rattle.regex_meaning.proofs.EcmaGroupScanLemmas.{ecmascript-scanned}
-
-leaf-if : (greatest : ℕ) (b : Bool) (x y : Node) → IsWellFormedGrouplessSubtree greatest x → IsWellFormedGrouplessSubtree greatest y → IsWellFormedGrouplessSubtree greatest (if b then x else y)
-leaf-if greatest true x y h k = h
-leaf-if greatest false x y h k = k
 
 leaf-spelled : (greatest : ℕ) (flags : Flags) (c : ℕ) (members : List ℕ) → AreCaseVariants flags.icase flags.unicode c members → IsWellFormedGrouplessSubtree greatest (node_of_case_variants c members)
 leaf-spelled greatest flags c members s =

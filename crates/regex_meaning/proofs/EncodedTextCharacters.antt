@@ -1,16 +1,15 @@
 -- The characters of a text in an encoding are characters of that encoding.
-use Rattle.std.proofs.Common.{◌≡◌, ℕ, suc, ◌<◌, List, [], ◌∷◌, length, chars, Bool, true, false, ◌&&◌, refl, subst, arith, IsUtf8, IsAscii}
-use Rattle.std.specs.Prelude.{if◌then◌else◌, nat_lt}
+use Rattle.std.proofs.Common.{◌≡◌, ℕ, suc, ◌<◌, List, [], ◌∷◌, chars, Bool, true, false, ◌&&◌, refl, subst, arith, IsUtf8, IsAscii}
+use Rattle.std.specs.Prelude.{if◌then◌else◌}
 use Rattle.std.specs.List.{list_all}
 use Rattle.std.proofs.lemmas.Bool.{and_from, lt-ltb}
 use Rattle.std.proofs.lemmas.Str.{chars_from_encodes, IsUtf8-had}
 use lib.Utf8.{scalar, scalars}
-use Rattle.regex_meaning.specs.Text.{is_scalar, is_high_surrogate, is_low_surrogate, decode_surrogate_pair, utf16_characters}
-use Rattle.regex_meaning.specs.CodeUnits.{Encoding, utf8, utf16, ucs2, is_character_in_encoding}
+use Rattle.regex_meaning.specs.Text.{is_high_surrogate, is_low_surrogate, decode_surrogate_pair, utf16_characters}
+use Rattle.regex_meaning.specs.CodeUnits.{Encoding, utf8, utf16, ucs2, is_character_in_encoding, AreU16Units}
 use Rattle.regex_meaning.proofs.BoolLemmas.{and-left, and-right}
 use Rattle.regex_meaning.proofs.StartPredicateSoundness.{is_scalar-of}
 use Rattle.regex_meaning.proofs.SameMatchesAcrossEncodings.{small-scalar}
-use Rattle.regex_meaning.proofs.UnitBoundaryLemmas.{AreUnits}
 
 abbrev pub AreCharacters : Encoding → List ℕ → Type 0
 AreCharacters e cs = list_all (is_character_in_encoding e) cs ≡ true
@@ -31,7 +30,7 @@ pub ascii-characters : (bytes : List ℕ) → IsAscii bytes → AreCharacters ut
 ascii-characters [] h = refl
 ascii-characters (b ∷ bytes) h = one-more utf8 b bytes (small-scalar b (let less = h 0 in omega (arith, less))) (ascii-characters bytes (λ i. h (suc i)))
 
-pub ucs2-characters : (units : List ℕ) → AreUnits units → AreCharacters ucs2 units
+pub ucs2-characters : (units : List ℕ) → AreU16Units units → AreCharacters ucs2 units
 ucs2-characters [] h = refl
 ucs2-characters (u ∷ units) h =
     one-more ucs2 u units (lt-ltb u 0x1_0000 (h 0 (omega arith))) (ucs2-characters units (λ k less. h (suc k) (omega (arith, less))))
@@ -42,7 +41,7 @@ unit-character u less = lt-ltb u 0x11_0000 (omega (arith, less))
 pair-character : (u v : ℕ) → is_character_in_encoding utf16 (decode_surrogate_pair u v) ≡ true
 pair-character u v = lt-ltb (decode_surrogate_pair u v) 0x11_0000 (omega arith)
 
-pub utf16-characters : (units : List ℕ) → AreUnits units → AreCharacters utf16 (utf16_characters units)
+pub utf16-characters : (units : List ℕ) → AreU16Units units → AreCharacters utf16 (utf16_characters units)
 utf16-characters [] h = refl
 utf16-characters (u ∷ []) h = one-more utf16 u [] (unit-character u (h 0 (omega arith))) refl
 utf16-characters (u ∷ v ∷ units) h =

@@ -7,8 +7,7 @@ use Rattle.regex_meaning.specs.NumberListHelpers.{contains}
 use Rattle.regex_meaning.specs.FlagLettersAndEscaping.{syntax_characters, with_backslash_if_syntax, escape}
 use Rattle.regex_meaning.specs.ReadingStatesAndDigits.{RemainingCodePoints, PatternContext, ◌∈◌}
 use Rattle.regex_meaning.specs.EscapesNamesQuantifiers.{identity_escape, BeginsQuantifier}
-use Rattle.regex_meaning.specs.Grammar.{character_node, SimpleAtom, pattern_character, character_escape, Alternative, no_terms, terms, atom, leaf}
-use Rattle.regex_meaning.specs.Grammar.{profile, last_alternative, pattern_is}
+use Rattle.regex_meaning.specs.Grammar.{character_node, SimpleAtom, pattern_character, character_escape, Alternative, no_terms, terms, atom, leaf, profile, last_alternative, pattern_is}
 use Rattle.regex_meaning.specs.GrammarLaws.{EscapedTextParsesAsLiteral}
 use Rattle.regex_meaning.proofs.EscapesAndNamesLemmas.{inside}
 use Rattle.regex_meaning.proofs.QuantifierStartLemmas.{head, not_quantified}

@@ -1,6 +1,5 @@
 -- Escaping the UTF-8 bytes of a text escapes its characters.
-use Rattle.std.proofs.Common.{◌≡◌, ℕ, ◌≤◌, Bool, true, false, inl, inr, List, [], ◌∷◌, ◌++◌, flat_map, refl, sym, ap, ap₂, subst, ◌∙◌, arith}
-use Rattle.std.proofs.Common.{lit<, append-nil}
+use Rattle.std.proofs.Common.{◌≡◌, ℕ, ◌≤◌, Bool, true, false, inl, inr, List, [], ◌∷◌, ◌++◌, flat_map, refl, sym, ap, ap₂, subst, ◌∙◌, arith, lit<, append-nil}
 use Rattle.std.specs.Prelude.{◌||◌, nat_lt, nat_eq, if◌then◌else◌, chars, IsTrue}
 use Rattle.std.specs.List.{list_all}
 use Rattle.std.specs.Char.{encode_utf8}

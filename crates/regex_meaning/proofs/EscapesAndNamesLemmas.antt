@@ -1,17 +1,13 @@
 -- Each escape, group name and quantifier of the profile's grammar has at most one reading.
-use Rattle.std.proofs.Common.{◌≡◌, ℕ, ◌<◌, Bool, true, false, not, [], ◌∷◌, ◌++◌, length, true≢false, ⊎_elim, nat_eq, refl, sym, ap, ap₂, subst, ◌∙◌}
-use Rattle.std.proofs.Common.{arith}
+use Rattle.std.proofs.Common.{◌≡◌, ℕ, ◌<◌, Bool, true, false, not, [], ◌∷◌, ◌++◌, length, true≢false, ⊎_elim, nat_eq, refl, sym, ap, ap₂, subst, ◌∙◌, arith}
 use Rattle.std.specs.Prelude.{codes, Option, Some, None, if◌then◌else◌}
 use Rattle.std.specs.List.{list_all}
 use Rattle.std.specs.Char.{is_digit, is_ascii_alphanumeric}
 use Rattle.std.proofs.lemmas.Bool.{or_cases, and_parts, eqb-true, false_from_ne_true}
 use Rattle.regex_meaning.specs.NumberListHelpers.{contains}
 use Rattle.regex_meaning.specs.ReadingStatesAndDigits.{RemainingCodePoints, ◌∈◌, begins_with_characters, Digits, digits_from, leading_digits, value_of_digits}
-use Rattle.regex_meaning.specs.EscapesNamesQuantifiers.{FixedHexDigits, hex, SurrogatePair, pair, UnicodeEscape, surrogates, four_digits, code_point, CharacterEscape}
-use Rattle.regex_meaning.specs.EscapesNamesQuantifiers.{control_escape_code_point}
-use Rattle.regex_meaning.specs.EscapesNamesQuantifiers.{control_escape, null, hex_escape, unicode_escape, identity_escape, GroupName, group_name}
-use Rattle.regex_meaning.specs.EscapesNamesQuantifiers.{is_ascii_identifier_start, is_ascii_identifier_part}
-use Rattle.regex_meaning.specs.EscapesNamesQuantifiers.{is_name, saturated_count, QuantifierPrefix, star, plus, question, exactly, at_least, between, greedy, lazy}
+use Rattle.regex_meaning.specs.EscapesNamesQuantifiers.{FixedHexDigits, hex, SurrogatePair, pair, UnicodeEscape, surrogates, four_digits, code_point, CharacterEscape, control_escape_code_point, control_escape, null, hex_escape, unicode_escape, identity_escape, GroupName, group_name}
+use Rattle.regex_meaning.specs.EscapesNamesQuantifiers.{is_ascii_identifier_start, is_ascii_identifier_part, is_name, saturated_count, QuantifierPrefix, star, plus, question, exactly, at_least, between, greedy, lazy}
 use Rattle.regex_meaning.proofs.DisjunctionReadingLemmas.{first, rest_of, unlike, QuantifiersAgree}
 
 -- Two readings are the same if they leave the same text and have the same result.
@@ -80,7 +76,7 @@ one_prefix (between e d f g i) (exactly e' d' f') = absurd (unlike _ _ refl (fir
 one_prefix (between e d f g i) (at_least e' d' f') = absurd (no_digit g (behind f ((digits_on (behind e e') d d').0 ∙ f')))
 one_prefix x y = absurd (unlike (start x).0 (start y).0 refl (firsts (start x).2 (start y).2))
 
-no_lazy : {here rest : RemainingCodePoints} → begins_with_characters "?" here ≡ false → here ≡ 63 ∷ rest → ⊥
+pub no_lazy : {here rest : RemainingCodePoints} → begins_with_characters "?" here ≡ false → here ≡ 63 ∷ rest → ⊥
 no_lazy f e = true≢false (subst (λ x. begins_with_characters "?" x ≡ false) e f)
 
 pub one_quantifier : QuantifiersAgree

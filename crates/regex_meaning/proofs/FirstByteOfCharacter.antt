@@ -1,6 +1,5 @@
 -- The UTF-8 encoding of a character begins with a byte that is no continuation byte.
-use Rattle.std.proofs.Common.{◌≡◌, ◌≢◌, ℕ, zero, suc, ◌+◌, ◌-◌, ◌*◌, ◌/◌, ◌<◌, ◌≤◌, Bool, true, false, ◌&&◌, List, [], ◌∷◌, drop, filter, refl, sym}
-use Rattle.std.proofs.Common.{arith, T, eq-eqb}
+use Rattle.std.proofs.Common.{◌≡◌, ◌≢◌, ℕ, zero, suc, ◌+◌, ◌-◌, ◌*◌, ◌/◌, ◌<◌, ◌≤◌, Bool, true, false, ◌&&◌, List, [], ◌∷◌, drop, filter, refl, sym, arith, T, eq-eqb}
 use mathlib.Core.Logic.{◌⊎◌, inl, inr}
 use Rattle.std.specs.Prelude.{if◌then◌else◌, nat_le, ◌==◌}
 use Rattle.std.specs.Char.{encode_utf8 as encode}
@@ -37,7 +36,7 @@ in_range-above lo hi c k h = rw (le-leb lo c k) (lt-leb c hi h)
 
 -- ---- Sets of bytes
 
-contains-cons : (x : ℕ) (xs : List ℕ) (b : ℕ) → contains xs b ≡ true → contains (x ∷ xs) b ≡ true
+pub contains-cons : (x : ℕ) (xs : List ℕ) (b : ℕ) → contains xs b ≡ true → contains (x ∷ xs) b ≡ true
 contains-cons x xs b h = or_right _ _ h
 
 hit : (c : Bool) (x b : ℕ) (rest : List ℕ) → c ≡ true → x ≡ b → contains (if c then x ∷ rest else rest) b ≡ true

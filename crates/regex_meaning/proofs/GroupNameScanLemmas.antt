@@ -1,6 +1,5 @@
 -- The scan for group names finds the names of the groups that open in a pattern.
-use Rattle.std.proofs.Common.{◌≡◌, ℕ, Bool, true, false, not, ◌&&◌, List, [], ◌∷◌, ◌++◌, length, drop, true≢false, nat_eq, refl, sym, ap}
-use Rattle.std.proofs.Common.{ap₂, ◌∙◌}
+use Rattle.std.proofs.Common.{◌≡◌, ℕ, Bool, true, false, not, ◌&&◌, List, [], ◌∷◌, ◌++◌, length, drop, true≢false, nat_eq, refl, sym, ap, ap₂, ◌∙◌}
 use Rattle.std.specs.Prelude.{codes, if◌then◌else◌, take_while, flat_map}
 use Rattle.std.specs.List.{list_all}
 use Rattle.std.proofs.lemmas.Bool.{and_parts, eqb-true, false_from_ne_true}
@@ -8,27 +7,17 @@ use Rattle.std.proofs.Math.Seq.{drop-append_seam}
 use Rattle.std.proofs.lemmas.List.Concat.{flat_map-append}
 use Rattle.regex_meaning.specs.NumberListHelpers.{contains}
 use Rattle.regex_meaning.specs.Tree.{Node, Flags, Quantifier, BracketContents}
-use Rattle.regex_meaning.specs.ReadingStatesAndDigits.{RemainingCodePoints, ParseState, PatternContext, ◌▸◌, state_with_text_left, with_opened_group, ◌∈◌}
-use Rattle.regex_meaning.specs.ReadingStatesAndDigits.{begins_with_characters}
-use Rattle.regex_meaning.specs.EscapesNamesQuantifiers.{CharacterEscape, control_escape}
-use Rattle.regex_meaning.specs.EscapesNamesQuantifiers.{null, hex_escape, unicode_escape, identity_escape, GroupName, group_name, is_ascii_identifier_start}
-use Rattle.regex_meaning.specs.EscapesNamesQuantifiers.{is_ascii_identifier_part}
-use Rattle.regex_meaning.specs.EscapesNamesQuantifiers.{is_name, ValidQuantifier}
-use Rattle.regex_meaning.specs.CharacterClasses.{ClassMember, ClassAtom, verbatim, of_class, backspace, escaped, ClassMembers, alone, from_to, no_range}
-use Rattle.regex_meaning.specs.CharacterClasses.{ClassRanges, no_more, more, CharacterClass, plain, inverted}
-use Rattle.regex_meaning.specs.Grammar.{profile, lookaround_opener, SimpleAtom}
-use Rattle.regex_meaning.specs.Grammar.{pattern_character, extended_character, any_character, decimal_escape, named_reference, character_escape}
-use Rattle.regex_meaning.specs.Grammar.{character_class_escape, character_class}
+use Rattle.regex_meaning.specs.ReadingStatesAndDigits.{RemainingCodePoints, ParseState, PatternContext, ◌▸◌, state_with_text_left, with_opened_group, ◌∈◌, begins_with_characters}
+use Rattle.regex_meaning.specs.EscapesNamesQuantifiers.{CharacterEscape, control_escape, null, hex_escape, unicode_escape, identity_escape, GroupName, group_name, is_ascii_identifier_start, is_ascii_identifier_part, is_name, ValidQuantifier}
+use Rattle.regex_meaning.specs.CharacterClasses.{ClassMember, ClassAtom, verbatim, of_class, backspace, escaped, ClassMembers, alone, from_to, no_range, ClassRanges, no_more, more, CharacterClass, plain, inverted}
+use Rattle.regex_meaning.specs.Grammar.{profile, lookaround_opener, SimpleAtom, pattern_character, extended_character, any_character, decimal_escape, named_reference, character_escape, character_class_escape, character_class}
 use Rattle.regex_meaning.specs.GroupNameScan.{group_name_at, name_of_opened_group, scanned_names_per_capturing_group}
-use Rattle.regex_meaning.specs.GroupOpeningScanWithoutParsing.{texts_after_parentheses, OpensGroups, no_parenthesis, opens_plain_group, opens_lookaround, opens_group}
-use Rattle.regex_meaning.specs.GroupOpeningScanWithoutParsing.{opens_named_group}
+use Rattle.regex_meaning.specs.GroupOpeningScanWithoutParsing.{texts_after_parentheses, OpensGroups, no_parenthesis, opens_plain_group, opens_lookaround, opens_group, opens_named_group}
 use Rattle.regex_meaning.specs.GrammarLaws.{ScanFindsOpenedGroupNames}
 use Rattle.regex_meaning.proofs.DisjunctionReadingLemmas.{rest_of}
 use Rattle.regex_meaning.proofs.EscapesAndNamesLemmas.{inside, name_letters}
-use Rattle.regex_meaning.proofs.GroupOpeningScanLemmas.{Ahead as SameAhead, nothing, signs, past as pass, past_there, past_open, past_close, past_all, all_of, says_nothing, take_split}
-use Rattle.regex_meaning.proofs.GroupOpeningScanLemmas.{while_more, past_hex, past_in, past_slash, past_unicode}
-use Rattle.regex_meaning.proofs.GroupOpeningScanLemmas.{past_quantifier as pass_quantifier, past_extended, past_number, IsScanned, Opens as OpensBy, past_opener as pass_opener}
-use Rattle.regex_meaning.proofs.GroupOpeningScanLemmas.{past_plain as pass_plain, past_group as pass_group, past_named as pass_named, groups-found}
+use Rattle.regex_meaning.proofs.GroupOpeningScanLemmas.{Ahead as SameAhead, nothing, signs, past as pass, past_there, past_open, past_close, past_all, all_of, says_nothing, take_split, while_more, past_hex, past_in, past_slash, past_unicode}
+use Rattle.regex_meaning.proofs.GroupOpeningScanLemmas.{past_quantifier as pass_quantifier, past_extended, past_number, IsScanned, Opens as OpensBy, past_opener as pass_opener, past_plain as pass_plain, past_group as pass_group, past_named as pass_named, groups-found}
 
 -- The scan passes over a character escape together with its backslash.
 past_character : (b : Bool) {unicode : Bool} {here a there : RemainingCodePoints} {n : ℕ} → here ≡ 92 ∷ a → CharacterEscape unicode a there n → SameAhead b here there
@@ -144,7 +133,7 @@ choose-names t false false false true a b c d e f g h = ap (λ x. name_of_opened
 choose-names t false false false false a b c d e f g h = h
 
 -- The scanned names are the names at the scanned parentheses.
-names-at : (b : Bool) (t : RemainingCodePoints) → scanned_names_per_capturing_group b t ≡ flat_map name_of_opened_group (texts_after_parentheses b t)
+pub names-at : (b : Bool) (t : RemainingCodePoints) → scanned_names_per_capturing_group b t ≡ flat_map name_of_opened_group (texts_after_parentheses b t)
 unfolding scanned_names_per_capturing_group texts_after_parentheses
 names-at b [] = refl
 names-at b (c ∷ []) = by (c ∈ "(" && not b)
@@ -182,7 +171,7 @@ no-names-look true false here e = ap (λ x. name_of_opened_group (rest_of x)) e
 no-names-look false true here e = ap (λ x. name_of_opened_group (rest_of x)) e
 no-names-look true true here e = ap (λ x. name_of_opened_group (rest_of x)) e
 
-unnamed : (text : RemainingCodePoints) → begins_with_characters "?" text ≡ false → name_of_opened_group text ≡ [] ∷ []
+pub unnamed : (text : RemainingCodePoints) → begins_with_characters "?" text ≡ false → name_of_opened_group text ≡ [] ∷ []
 unnamed [] e = refl
 unnamed (c ∷ t) e = by (nat_eq 63 c) refl
   where

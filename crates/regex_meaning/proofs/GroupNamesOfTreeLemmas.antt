@@ -1,6 +1,5 @@
 -- The group names of a pattern's tree are the names that the scan finds in the pattern.
-use Rattle.std.proofs.Common.{◌≡◌, ℕ, zero, suc, ◌+◌, ◌<◌, Bool, true, false, ◌||◌, List, [], ◌∷◌, ◌++◌, length, map, get_or, reverse, true≢false}
-use Rattle.std.proofs.Common.{refl, sym, ap, ◌∙◌, arith, append_assoc, append-nil}
+use Rattle.std.proofs.Common.{◌≡◌, ℕ, zero, suc, ◌+◌, ◌<◌, Bool, true, false, ◌||◌, List, [], ◌∷◌, ◌++◌, length, map, get_or, reverse, true≢false, refl, sym, ap, ◌∙◌, arith, append_assoc, append-nil}
 use Rattle.std.specs.Prelude.{if◌then◌else◌, nat_eq, ◌==◌}
 use Rattle.std.specs.List.{list_all}
 use Rattle.std.proofs.lemmas.Bool.{eqb-true, eq-eqb, ne_eqb, and_parts, and_from}
@@ -13,11 +12,8 @@ use Rattle.regex_meaning.specs.Laws.{Each}
 use Rattle.regex_meaning.proofs.EachElementLemmas.{Each-append, Each-reverse}
 use Rattle.regex_meaning.proofs.BoolLemmas.{same-truth}
 use Rattle.regex_meaning.proofs.ListLemmas.{length-numbers_from}
-use Rattle.regex_meaning.specs.ReadingStatesAndDigits.{RemainingCodePoints, ParseState, PatternContext, number_of_opened_groups, state_with_text_left, with_opened_group, arm}
-use Rattle.regex_meaning.specs.ReadingStatesAndDigits.{sequence_node}
-use Rattle.regex_meaning.specs.Grammar.{PatternDialect, profile, Disjunction, Alternative, Term, Assertion, Atom, last_alternative, alternatives, no_terms}
-use Rattle.regex_meaning.specs.Grammar.{terms, assertion, repeated_assertion, atom, quantified, start, end, boundary, look}
-use Rattle.regex_meaning.specs.Grammar.{leaf, group, named_group, plain_group, pattern_is}
+use Rattle.regex_meaning.specs.ReadingStatesAndDigits.{RemainingCodePoints, ParseState, PatternContext, number_of_opened_groups, state_with_text_left, with_opened_group, arm, sequence_node}
+use Rattle.regex_meaning.specs.Grammar.{PatternDialect, profile, Disjunction, Alternative, Term, Assertion, Atom, last_alternative, alternatives, no_terms, terms, assertion, repeated_assertion, atom, quantified, start, end, boundary, look, leaf, group, named_group, plain_group, pattern_is}
 use Rattle.regex_meaning.specs.GrammarLaws.{ScanFindsGroupNames}
 use Rattle.regex_meaning.proofs.SubtreeInvariantsLemmas.{contains-counted, once-inside}
 use Rattle.regex_meaning.proofs.GroupNameScanLemmas.{scan_finds_opened_group_names}

@@ -1,6 +1,5 @@
 -- Matches are disjoint, in ascending order and within the text.
-use Rattle.std.proofs.Common.{◌≡◌, ℕ, zero, suc, ◌+◌, ◌-◌, ◌<◌, ◌≤◌, List, [], ◌∷◌, ◌++◌, length, map, min, max, Option, Some, None, refl, sym, ap}
-use Rattle.std.proofs.Common.{◌∙◌, arith, le_refl, option_map, option_and_then, IfSome, lt-ltb}
+use Rattle.std.proofs.Common.{◌≡◌, ℕ, zero, suc, ◌+◌, ◌-◌, ◌<◌, ◌≤◌, List, [], ◌∷◌, ◌++◌, length, map, min, max, Option, Some, None, refl, sym, ap, ◌∙◌, arith, le_refl, option_map, option_and_then, IfSome, lt-ltb}
 use Rattle.std.specs.Prelude.{if◌then◌else◌, nat_lt}
 use Rattle.std.specs.Option.{option_or}
 use Rattle.std.proofs.lemmas.List.{length-set, length-replicate, length-map, length-append}
@@ -25,7 +24,7 @@ module _ (text : Text) where
   count-kept : (n : ℕ) → AreKept text (λ place. Unit {0}) (λ groups. length groups ≡ n)
   count-kept n = record {
     onward = λ d a b on p. tt;
-    cleared = λ id groups e. length-set groups id None ∙ e;
+    with_groups_cleared = λ id groups e. length-set groups id None ∙ e;
     set = λ id a b groups p q e. length-set groups id (Some (min a b, max a b)) ∙ e;
   }
 
@@ -42,7 +41,7 @@ module _ (text : Text) where
   inside-kept : AreKept text (λ place. place ≤ last_place text) (λ groups. Each (IsWithinText text) groups)
   inside-kept = record {
     onward = inside-onward;
-    cleared = λ id groups h. Each-set (IsWithinText text) groups id None h tt;
+    with_groups_cleared = λ id groups h. Each-set (IsWithinText text) groups id None h tt;
     set = λ id a b groups p q h. Each-set (IsWithinText text) groups id (Some (min a b, max a b)) h (omega arith, omega arith);
   }
 

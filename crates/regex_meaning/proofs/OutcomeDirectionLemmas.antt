@@ -1,13 +1,9 @@
 -- Each outcome of a node ends at its start or ahead of it in the direction of matching.
-use Rattle.regex_meaning.specs.Tree.{Sameness}
-use Rattle.std.proofs.Common.{◌≡◌, ℕ, zero, suc, ◌+◌, ◌-◌, ◌<◌, ◌≤◌, Bool, true, false, List, [], ◌∷◌, length, Option, Some, None, arith, leb→le, T}
-use Rattle.std.proofs.Common.{filter, flat_map}
+use Rattle.regex_meaning.specs.Tree.{Sameness, Node, empty, goal, byte_sequence, cat, end_of_cat, alt, string_set, anchor, word_boundary, capture_group, back_ref, lookaround, loop, loop_1_char_body}
+use Rattle.std.proofs.Common.{◌≡◌, ℕ, zero, suc, ◌+◌, ◌-◌, ◌<◌, ◌≤◌, Bool, true, false, List, [], ◌∷◌, length, Option, Some, None, arith, leb→le, T, filter, flat_map}
 use Rattle.std.specs.Prelude.{if◌then◌else◌, ◌&&◌, nat_le, nat_lt, slice_get}
-use Rattle.regex_meaning.specs.Tree.{Node, empty, goal, byte_sequence, cat, end_of_cat, alt, string_set, anchor, word_boundary, capture_group}
-use Rattle.regex_meaning.specs.Tree.{back_ref, lookaround, loop, loop_1_char_body}
-use Rattle.regex_meaning.specs.Text.{Text, Direction, rightwards, leftwards, characters_ahead, moved, next_character}
-use Rattle.regex_meaning.specs.Outcomes.{Groups, Outcome, Repetition, bounded_repeat, outcomes, passes_empty_check, preferred, captured, cleared, is_some_and}
-use Rattle.regex_meaning.specs.Outcomes.{one_character, spelled, is_case_variant, backref_outcomes, empty_match_if, lookaround_outcomes}
+use Rattle.regex_meaning.specs.Text.{Text, Direction, rightwards, leftwards, last_place, characters_ahead, moved, next_character}
+use Rattle.regex_meaning.specs.Outcomes.{Groups, Outcome, Repetition, bounded_repeat, outcomes, passes_empty_check, preferred, captured, with_groups_cleared, is_some_and, one_character, spelled, is_case_variant, backref_outcomes, empty_match_if, lookaround_outcomes}
 pub use Rattle.regex_meaning.specs.Laws.{IsAtOrAheadInDirection}
 use Rattle.regex_meaning.proofs.EachElementLemmas.{Each, Each-append, Each-if, Each-when, Each-filter, Each-map, Each-flat_map, Each-image}
 
@@ -19,6 +15,15 @@ slice_get-below test (x ∷ xs) (suc i) h = let below : i < length xs = slice_ge
 passed-left : (a b : Bool) → (a && b) ≡ true → T a
 passed-left true b h = tt
 passed-left false b h = grind arith
+
+pub left-few : (text : Text) (d : Direction) (p : ℕ) → p ≤ last_place text → characters_ahead text d p ≤ last_place text
+left-few text rightwards p le = omega arith
+left-few text leftwards p le = le
+
+-- Two moves in one direction are one move.
+pub moved-twice : (text : Text) (d : Direction) (m n p : ℕ) → moved text d n (moved text d m p) ≡ moved text d (m + n) p
+moved-twice text rightwards m n p = omega arith
+moved-twice text leftwards m n p = omega arith
 
 module _ (text : Text) where
   pub IsAtOrAheadInDirection-refl : (d : Direction) (a : ℕ) → IsAtOrAheadInDirection text d a a
@@ -124,13 +129,13 @@ module _ (text : Text) where
   outcomes-onward (alt left right) d place groups =
       Each-append _ _ _ (outcomes-onward left d place groups) (outcomes-onward right d place groups)
   outcomes-onward (capture_group id name contents) d place groups =
-      Each-image _ _ (captured id place) (λ o h. h) _ (outcomes-onward contents d place (cleared id 1 groups))
+      Each-image _ _ (captured id place) (λ o h. h) _ (outcomes-onward contents d place (with_groups_cleared id 1 groups))
   outcomes-onward (back_ref group sameness) d place groups = same_as_group-onward sameness _ d place groups
   outcomes-onward (anchor type multiline) d place groups = here_if-onward _ d place groups
   outcomes-onward (word_boundary invert unicode_icase) d place groups = here_if-onward _ d place groups
   outcomes-onward (lookaround l contents) d place groups = looked-onward l.negate _ d place groups
   outcomes-onward (loop q start_group end_group loopee) d place groups =
-      rounds-onward d _ (λ p g. outcomes-onward loopee d p (cleared start_group (end_group - start_group) g)) _ 0 place groups
+      rounds-onward d _ (λ p g. outcomes-onward loopee d p (with_groups_cleared start_group (end_group - start_group) g)) _ 0 place groups
   outcomes-onward (loop_1_char_body q loopee) d place groups =
       rounds-onward d _ (λ p g. outcomes-onward loopee d p g) _ 0 place groups
   outcomes-onward _ d place groups = one_character-onward _ d place groups

@@ -1,13 +1,9 @@
 -- The outcomes of a node keep each invariant of positions and groups that the search keeps.
-use Rattle.regex_meaning.specs.Tree.{Sameness}
+use Rattle.regex_meaning.specs.Tree.{Sameness, Node, empty, goal, char, char_set, byte_set, byte_sequence, cat, end_of_cat, alt, bracket, string_set, match_any, match_any_except_line_terminator, anchor, word_boundary, capture_group, back_ref, lookaround, loop, loop_1_char_body}
 use Rattle.std.proofs.Common.{ℕ, zero, suc, ◌+◌, ◌-◌, Bool, true, false, List, [], ◌∷◌, map, min, max, Option, Some, None, filter, flat_map}
 use Rattle.std.specs.Prelude.{if◌then◌else◌, nat_lt, nat_le, slice_set}
-use Rattle.regex_meaning.specs.Tree.{Node, empty, goal, char, char_set, byte_set, byte_sequence, cat, end_of_cat, alt, bracket, string_set}
-use Rattle.regex_meaning.specs.Tree.{match_any, match_any_except_line_terminator, anchor, word_boundary, capture_group, back_ref, lookaround, loop}
-use Rattle.regex_meaning.specs.Tree.{loop_1_char_body}
 use Rattle.regex_meaning.specs.Text.{Text, Direction}
-use Rattle.regex_meaning.specs.Outcomes.{Groups, Outcome, Repetition, bounded_repeat, outcomes, passes_empty_check, preferred, captured, cleared, one_character, spelled}
-use Rattle.regex_meaning.specs.Outcomes.{is_case_variant, backref_outcomes, empty_match_if, lookaround_outcomes, direction_of}
+use Rattle.regex_meaning.specs.Outcomes.{Groups, Outcome, Repetition, bounded_repeat, outcomes, passes_empty_check, preferred, captured, with_groups_cleared, one_character, spelled, is_case_variant, backref_outcomes, empty_match_if, lookaround_outcomes, direction_of}
 use Rattle.regex_meaning.specs.Laws.{IsAtOrAheadInDirection}
 use Rattle.regex_meaning.proofs.EachElementLemmas.{Each, Each-append, Each-if, Each-filter, Each-flat_map, Each-image}
 use Rattle.regex_meaning.proofs.OutcomeDirectionLemmas.{one_character-onward, spelled-onward}
@@ -16,7 +12,7 @@ use Rattle.regex_meaning.proofs.OutcomeDirectionLemmas.{one_character-onward, sp
 -- cleared and set to such places.
 pub record AreKept (text : Text) (P : ℕ → Type 0) (G : Groups → Type 0) : Type 0 where
   pub onward : (d : Direction) (a b : ℕ) → IsAtOrAheadInDirection text d a b → P a → P b
-  pub cleared : (id : ℕ) (groups : Groups) → G groups → G (slice_set groups id None)
+  pub with_groups_cleared : (id : ℕ) (groups : Groups) → G groups → G (slice_set groups id None)
   pub set : (id a b : ℕ) (groups : Groups) → P a → P b → G groups → G (slice_set groups id (Some (min a b, max a b)))
 
 module _ {A : Type 0} where
@@ -31,9 +27,9 @@ module _ (text : Text) (P : ℕ → Type 0) (G : Groups → Type 0) (kept : AreK
   abbrev pub AreStates : List Outcome → Type 0
   AreStates os = Each IsState os
 
-  all-cleared : (id count : ℕ) (groups : Groups) → G groups → G (cleared id count groups)
-  all-cleared id zero groups g = g
-  all-cleared id (suc count) groups g = all-cleared (id + 1) count (slice_set groups id None) (kept.cleared id groups g)
+  all-with_groups_cleared : (id count : ℕ) (groups : Groups) → G groups → G (with_groups_cleared id count groups)
+  all-with_groups_cleared id zero groups g = g
+  all-with_groups_cleared id (suc count) groups g = all-with_groups_cleared (id + 1) count (slice_set groups id None) (kept.with_groups_cleared id groups g)
 
   here-state : (place : ℕ) (groups : Groups) → P place → G groups → AreStates (record { end = place; groups = groups } ∷ [])
   here-state place groups p g = ((p, g), tt)
@@ -126,8 +122,8 @@ module _ (text : Text) (P : ℕ → Type 0) (G : Groups → Type 0) (kept : AreK
   outcomes-states (alt left right) d place groups p g =
       Each-append _ _ _ (outcomes-states left d place groups p g) (outcomes-states right d place groups p g)
   outcomes-states (capture_group id name contents) d place groups p g =
-      captured-states id place (outcomes text contents d place (cleared id 1 groups)) p
-      (outcomes-states contents d place (cleared id 1 groups) p (all-cleared id 1 groups g))
+      captured-states id place (outcomes text contents d place (with_groups_cleared id 1 groups)) p
+      (outcomes-states contents d place (with_groups_cleared id 1 groups) p (all-with_groups_cleared id 1 groups g))
   outcomes-states (back_ref group sameness) d place groups p g = same_as_group-states sameness _ d place groups p g
   outcomes-states (anchor type multiline) d place groups p g = here_if-states _ place groups p g
   outcomes-states (word_boundary invert unicode_icase) d place groups p g = here_if-states _ place groups p g
@@ -135,7 +131,7 @@ module _ (text : Text) (P : ℕ → Type 0) (G : Groups → Type 0) (kept : AreK
       looked-states l.negate (outcomes text contents (direction_of l) place groups) place groups p g
       (outcomes-states contents (direction_of l) place groups p g)
   outcomes-states (loop q start_group end_group loopee) d place groups p g =
-      rounds-states _ (λ a h p_at g_at. outcomes-states loopee d a (cleared start_group (end_group - start_group) h) p_at
-      (all-cleared start_group (end_group - start_group) h g_at)) _ 0 place groups p g
+      rounds-states _ (λ a h p_at g_at. outcomes-states loopee d a (with_groups_cleared start_group (end_group - start_group) h) p_at
+      (all-with_groups_cleared start_group (end_group - start_group) h g_at)) _ 0 place groups p g
   outcomes-states (loop_1_char_body q loopee) d place groups p g =
       rounds-states _ (λ a h p_at g_at. outcomes-states loopee d a h p_at g_at) _ 0 place groups p g

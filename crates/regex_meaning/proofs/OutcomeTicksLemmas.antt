@@ -1,16 +1,10 @@
 -- The list of outcomes with ticks is, without the ticks, the list of outcomes.
 use Rattle.std.proofs.Common.{◌≡◌, ℕ, zero, suc, ◌+◌, ◌-◌, Bool, true, false, List, [], ◌∷◌, refl, ap, sym, ◌∙◌, ◌++◌, filter, flat_map, map}
 use Rattle.std.specs.Prelude.{if◌then◌else◌, nat_le, nat_lt}
-use Rattle.regex_meaning.specs.Tree.{Quantifier, Node, empty, goal, char, char_set, byte_set, byte_sequence, cat, end_of_cat, alt, bracket}
-use Rattle.regex_meaning.specs.Tree.{string_set, match_any, match_any_except_line_terminator, anchor, word_boundary, capture_group, back_ref}
-use Rattle.regex_meaning.specs.Tree.{lookaround, loop, loop_1_char_body}
+use Rattle.regex_meaning.specs.Tree.{Quantifier, Node, empty, goal, char, char_set, byte_set, byte_sequence, cat, end_of_cat, alt, bracket, string_set, match_any, match_any_except_line_terminator, anchor, word_boundary, capture_group, back_ref, lookaround, loop, loop_1_char_body}
 use Rattle.regex_meaning.specs.Text.{Text, Direction}
-use Rattle.regex_meaning.specs.Outcomes.{Groups, Outcome, repetition, bounded_repeat, passes_empty_check, preferred, captured, cleared, lookaround_outcomes}
-use Rattle.regex_meaning.specs.Outcomes.{direction_of, spelled}
-use Rattle.regex_meaning.specs.Outcomes.{is_case_variant, outcomes, max_iterations}
-use Rattle.regex_meaning.specs.OutcomesWithStepTicks.{TickOrOutcome, tick, pair, outcomes_without_ticks, ticks, outcomes_replaced_by_lists, ticks_before_outcomes}
-use Rattle.regex_meaning.specs.OutcomesWithStepTicks.{with_ticks_between, ticked_alt, ticked_preferred, ticked_bounded_repeat}
-use Rattle.regex_meaning.specs.OutcomesWithStepTicks.{ticked_string, ticked_strings, ticked}
+use Rattle.regex_meaning.specs.Outcomes.{Groups, Outcome, repetition, bounded_repeat, passes_empty_check, preferred, captured, with_groups_cleared, lookaround_outcomes, direction_of, spelled, is_case_variant, outcomes, max_iterations}
+use Rattle.regex_meaning.specs.OutcomesWithStepTicks.{TickOrOutcome, tick, pair, outcomes_without_ticks, ticks, outcomes_replaced_by_lists, ticks_before_outcomes, with_ticks_between, ticked_alt, ticked_preferred, ticked_bounded_repeat, ticked_string, ticked_strings, ticked}
 use Rattle.std.proofs.lemmas.List.{append-nil, map-id}
 use Rattle.std.proofs.lemmas.List.Concat.{flat_map_single}
 use Rattle.regex_meaning.proofs.ListLemmas.{flat_map-same}
@@ -151,13 +145,13 @@ module _ (text : Text) where
       )
   pairs-ticked (capture_group id name contents) d place groups =
       rw (
-        pairs-and_then (ticked text contents d place (cleared id 1 groups)) (λ o. tick ∷ pair (captured id place o) ∷ []),
-        pairs-ticked contents d place (cleared id 1 groups),
+        pairs-and_then (ticked text contents d place (with_groups_cleared id 1 groups)) (λ o. tick ∷ pair (captured id place o) ∷ []),
+        pairs-ticked contents d place (with_groups_cleared id 1 groups),
       ) (flat_map_single (captured id place) _)
   pairs-ticked (lookaround l contents) d place groups =
       rw (pairs-ticks, pairs-pair)
       (ap (λ (os : List Outcome). lookaround_outcomes l.negate os place groups)
       (pairs-ticked_pairs (ticked text contents (direction_of l) place groups) ∙ pairs-ticked contents (direction_of l) place groups))
   pairs-ticked (loop q start_group end_group loopee) d place groups =
-      pairs-ticked_rounds q _ _ (λ p g. pairs-ticks (end_group - start_group) _ ∙ pairs-ticked loopee d p (cleared start_group (end_group - start_group) g)) _ 0 place groups
+      pairs-ticked_rounds q _ _ (λ p g. pairs-ticks (end_group - start_group) _ ∙ pairs-ticked loopee d p (with_groups_cleared start_group (end_group - start_group) g)) _ 0 place groups
   pairs-ticked (loop_1_char_body q loopee) d place groups = rw pairs-ticks (pairs-with_ticks_between _)

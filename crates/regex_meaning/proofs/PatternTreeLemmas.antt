@@ -1,37 +1,28 @@
 -- The tree of a pattern is well formed and has as many groups as the scan finds.
-use Rattle.std.proofs.Common.{◌≡◌, ℕ, ◌+◌, ◌<◌, ◌≤◌, Bool, true, false, ◌&&◌, List, [], ◌∷◌, ◌++◌, length, count_by, refl, sym, ap, subst, ◌∙◌}
-use Rattle.std.proofs.Common.{arith, length-append, append-nil, reverse}
+use Rattle.std.proofs.Common.{◌≡◌, ℕ, ◌+◌, ◌<◌, ◌≤◌, Bool, true, false, ◌&&◌, List, [], ◌∷◌, ◌++◌, length, count_by, refl, sym, ap, subst, ◌∙◌, arith, length-append, append-nil, reverse}
 use Rattle.std.specs.Prelude.{if◌then◌else◌, nat_le, nat_lt, nat_eq, ◌==◌, IsTrue}
 use Rattle.std.proofs.lemmas.Bool.{le-leb}
 use Rattle.std.proofs.lemmas.List.{reverse-append}
-use Rattle.regex_meaning.specs.Tree.{Node, Flags, Quantifier, group_ids, every_node_passes, goal, char, char_set, cat, end_of_cat, back_ref, match_any}
-use Rattle.regex_meaning.specs.Tree.{Sameness, by_case}
-use Rattle.regex_meaning.specs.Tree.{match_any_except_line_terminator, capture_group, lookaround}
+use Rattle.regex_meaning.specs.Tree.{Node, Flags, Quantifier, group_ids, every_node_passes, goal, char, char_set, cat, end_of_cat, back_ref, match_any, Sameness, by_case, match_any_except_line_terminator, capture_group, lookaround}
 use Rattle.regex_meaning.specs.Text.{expand_code_point, fold_code_point, code_points_with_fold, to_ascii_uppercase, to_ascii_lowercase}
-use Rattle.regex_meaning.specs.WellFormedTrees.{is_min_at_most_max, number_of_goal_nodes}
+use Rattle.regex_meaning.specs.WellFormedTrees.{is_min_at_most_max, number_of_goal_nodes, IsWellFormed}
 use Rattle.regex_meaning.specs.ReadingStatesAndDigits.{RemainingCodePoints, ParseState, PatternContext, number_of_opened_groups, arm, sequence_node}
 use Rattle.regex_meaning.specs.EscapesNamesQuantifiers.{ValidQuantifier, greedy, lazy}
-use Rattle.regex_meaning.specs.Grammar.{character_node, SimpleAtom, pattern_character, extended_character, any_character, decimal_escape, named_reference}
-use Rattle.regex_meaning.specs.Grammar.{character_escape, character_class_escape, character_class, Disjunction, Alternative, Term, Assertion, Atom}
-use Rattle.regex_meaning.specs.Grammar.{PatternDialect, profile, last_alternative, alternatives, no_terms, terms, assertion, repeated_assertion, atom, quantified, start}
-use Rattle.regex_meaning.specs.Grammar.{end}
-use Rattle.regex_meaning.specs.Grammar.{boundary, look}
-use Rattle.regex_meaning.specs.Grammar.{leaf, group, named_group, plain_group, pattern_is}
+use Rattle.regex_meaning.specs.Grammar.{character_node, SimpleAtom, pattern_character, extended_character, any_character, decimal_escape, named_reference, character_escape, character_class_escape, character_class, Disjunction, Alternative, Term, Assertion, Atom, end, boundary, look}
+use Rattle.regex_meaning.specs.Grammar.{PatternDialect, profile, last_alternative, alternatives, no_terms, terms, assertion, repeated_assertion, atom, quantified, start, leaf, group, named_group, plain_group, pattern_is}
 use Rattle.regex_meaning.specs.SubtreeInvariants.{is_well_formed_in_pattern, occurrences_of_id, one_if_id_within, IsSoundSubtreeWithGroupIds, IsWellFormedGrouplessSubtree}
 use Rattle.regex_meaning.specs.GroupNameScan.{scanned_names_per_capturing_group}
 use Rattle.regex_meaning.proofs.BoolLemmas.{and-left, and-right}
 use Rattle.regex_meaning.proofs.GroupNameScanLemmas.{scan_finds_opened_group_names}
 use Rattle.regex_meaning.specs.GrammarLaws.{ScanCountsPatternGroups, TreesAreWellFormed}
-use Rattle.regex_meaning.specs.WellFormedTrees.{IsWellFormed}
 use Rattle.regex_meaning.specs.CompilationRelation.{tree_contains_byte_nodes}
 use Rattle.regex_meaning.specs.TreesWithoutCharLoops.{has_no_char_loops}
-use Rattle.regex_meaning.proofs.SubtreeInvariantsLemmas.{part-leaf, IsJoined, part-joined, joined-cat, joined-alt, part-group, part-lookaround, part-loop}
-use Rattle.regex_meaning.proofs.SubtreeInvariantsLemmas.{count_by-append, whole, whole-reads_none, whole-plain}
+use Rattle.regex_meaning.proofs.SubtreeInvariantsLemmas.{part-leaf, IsJoined, part-joined, joined-cat, joined-alt, part-group, part-lookaround, part-loop, count_by-append, whole, whole-reads_none, whole-plain}
 use Rattle.regex_meaning.proofs.BackreferenceNumberLemmas.{number-positive, number_of-bounds}
 
 -- ---- Atoms without groups
 
-leaf-if : (greatest : ℕ) (b : Bool) (x y : Node) → IsWellFormedGrouplessSubtree greatest x → IsWellFormedGrouplessSubtree greatest y → IsWellFormedGrouplessSubtree greatest (if b then x else y)
+pub leaf-if : (greatest : ℕ) (b : Bool) (x y : Node) → IsWellFormedGrouplessSubtree greatest x → IsWellFormedGrouplessSubtree greatest y → IsWellFormedGrouplessSubtree greatest (if b then x else y)
 leaf-if greatest true x y h k = h
 leaf-if greatest false x y h k = k
 

@@ -1,6 +1,5 @@
 -- Replacing matches by themselves keeps a text, flags round-trip, and escaping is injective.
-use Rattle.std.proofs.Common.{◌≡◌, ℕ, ◌+◌, ◌-◌, ◌≤◌, Bool, true, false, List, [], ◌∷◌, ◌++◌, map, drop, max, refl, sym, ap, ◌∙◌, arith, append-nil}
-use Rattle.std.proofs.Common.{drop-drop, codes}
+use Rattle.std.proofs.Common.{◌≡◌, ℕ, ◌+◌, ◌-◌, ◌≤◌, Bool, true, false, List, [], ◌∷◌, ◌++◌, map, drop, max, refl, sym, ap, ◌∙◌, arith, append-nil, drop-drop, codes}
 use Rattle.std.specs.Prelude.{if◌then◌else◌, ◌==◌, slice_range}
 use Rattle.std.proofs.lemmas.List.{take-append-drop}
 use Rattle.std.proofs.lemmas.Bool.{cases_Bool}

@@ -1,6 +1,5 @@
 -- The start predicate of a tree allows each position where the tree has an outcome.
-use Rattle.std.proofs.Common.{◌≡◌, ◌≢◌, ℕ, zero, suc, ◌+◌, ◌-◌, ◌<◌, ◌≤◌, Bool, true, false, not, ◌&&◌, List, [], ◌∷◌, map, length, drop, filter}
-use Rattle.std.proofs.Common.{flat_map, refl, ap, sym, subst, ◌∙◌, arith}
+use Rattle.std.proofs.Common.{◌≡◌, ◌≢◌, ℕ, zero, suc, ◌+◌, ◌-◌, ◌<◌, ◌≤◌, Bool, true, false, not, ◌&&◌, List, [], ◌∷◌, map, length, drop, filter, flat_map, refl, ap, sym, subst, ◌∙◌, arith}
 use Rattle.std.specs.Prelude.{if◌then◌else◌, nat_lt, nat_le, nat_eq, ◌==◌, encode_utf8_all, bytes_eq, slice_get, slice_range, chars, IsTrue}
 use Rattle.std.specs.Str.{is_utf8}
 use Rattle.std.specs.List.{list_all}
@@ -9,23 +8,18 @@ use lib.Pointwise.{pointwise}
 use lib.Utf8.{scalars}
 use Rattle.regex_meaning.specs.NumberListHelpers.{contains}
 use Rattle.regex_meaning.specs.Laws.{Each}
-use Rattle.regex_meaning.specs.Tree.{Quantifier, Node, empty, goal, char, char_set, byte_set, byte_sequence, cat, end_of_cat, alt, bracket}
-use Rattle.regex_meaning.specs.Tree.{string_set, match_any, match_any_except_line_terminator, anchor, start_of_line, word_boundary, capture_group}
+use Rattle.regex_meaning.specs.Tree.{Quantifier, Node, empty, goal, char, char_set, byte_set, byte_sequence, cat, end_of_cat, alt, bracket, string_set, match_any, match_any_except_line_terminator, anchor, start_of_line, word_boundary, capture_group}
 use Rattle.regex_meaning.specs.Tree.{back_ref, lookaround, loop, loop_1_char_body, every_node_passes, Tree}
 use Rattle.regex_meaning.specs.Text.{Text, rightwards, is_scalar, character_before, last_place}
-use Rattle.regex_meaning.specs.Outcomes.{Outcome, Groups, Repetition, repetition, bounded_repeat, passes_empty_check, preferred, captured, cleared, accepts}
-use Rattle.regex_meaning.specs.Outcomes.{one_character, spelled, lookaround_outcomes, is_line_boundary, outcomes}
+use Rattle.regex_meaning.specs.Outcomes.{Outcome, Groups, Repetition, repetition, bounded_repeat, passes_empty_check, preferred, captured, with_groups_cleared, accepts, one_character, spelled, lookaround_outcomes, is_line_boundary, outcomes}
 use Rattle.regex_meaning.specs.WellFormedTrees.{has_text_in_sequence, set_sizes_and_characters_fit_instructions, IsWellFormed}
 use Rattle.regex_meaning.proofs.WellFormedTreesLemmas.{clauses}
-use Rattle.regex_meaning.specs.StartPredicate.{AbstractStartPredicate, open_ended, arbitrary, sequence, one_of, byte_sequence_predicate, first_not_open_ended, join}
-use Rattle.regex_meaning.specs.StartPredicate.{abstract_start_predicate, utf8_bytes_of_text_from_place}
+use Rattle.regex_meaning.specs.StartPredicate.{AbstractStartPredicate, open_ended, arbitrary, sequence, one_of, byte_sequence_predicate, first_not_open_ended, join, abstract_start_predicate, utf8_bytes_of_text_from_place, may_start}
 use Rattle.regex_meaning.specs.StartPredicate.{bytes_that_pass, first_bytes, code_points_of_class, is_anchored, resolved_start_predicate, start_anchored, start_predicate}
-use Rattle.regex_meaning.specs.StartPredicate.{may_start}
 use Rattle.regex_meaning.specs.FirstAndAllMatches.{no_groups}
 use Rattle.regex_meaning.proofs.EachElementLemmas.{Each-append, Each-if, Each-when, Each-filter, Each-map, Each-flat_map, Each-image, Each-all}
 use Rattle.regex_meaning.proofs.FirstByteOfCharacter.{encode-1, FirstOf, contains-bytes_where}
-use Rattle.regex_meaning.proofs.AbstractStartLemmas.{Says, OfChars, starts-first, from-byte, join-left, join-right, next-says, spelled-bytes, first-byte-in}
-use Rattle.regex_meaning.proofs.AbstractStartLemmas.{in-singles, in-bracket}
+use Rattle.regex_meaning.proofs.AbstractStartLemmas.{Says, OfChars, starts-first, from-byte, join-left, join-right, next-says, spelled-bytes, first-byte-in, in-singles, in-bracket}
 use Rattle.std.proofs.lemmas.Bool.{ltb-true, lt-leb, eq-eqb, eqb-true}
 use Rattle.regex_meaning.proofs.BoolLemmas.{and-left, and-right}
 
@@ -183,10 +177,10 @@ module _ (text : Text) (of_chars : OfChars text) where
       (Each-map _ _ (λ o s. join-right (abstract_start_predicate left) (abstract_start_predicate right) (utf8_bytes_of_text_from_place text p) p o.end (from-byte text of_chars p) s) _
       (begins right (and-right _ _ h) (and-right _ _ k) p g))
   begins (capture_group id name contents) h k p g =
-      Each-image _ _ (captured id p) (λ o s. s) _ (begins contents h k p (cleared id 1 g))
+      Each-image _ _ (captured id p) (λ o s. s) _ (begins contents h k p (with_groups_cleared id 1 g))
   begins (lookaround l contents) h k p g = looked-stay l.negate _ p g
   begins (loop q start_group end_group loopee) h k p g =
-      loop-begins (abstract_start_predicate loopee) q _ (λ p g. begins loopee h k p (cleared start_group (end_group - start_group) g)) _ p g
+      loop-begins (abstract_start_predicate loopee) q _ (λ p g. begins loopee h k p (with_groups_cleared start_group (end_group - start_group) g)) _ p g
   begins (loop_1_char_body q loopee) h k p g =
       loop-begins (abstract_start_predicate loopee) q _ (λ p g. begins loopee h k p g) _ p g
 
@@ -210,7 +204,7 @@ module _ (text : Text) where
   anchored (cat first rest) h p g l =
       Each-flat_map (λ o. p ≡ 0) (λ o. p ≡ 0) _ (λ o e. Each-any (p ≡ 0) e (outcomes text rest rightwards o.end o.groups)) _ (anchored first h p g l)
   anchored (capture_group id name contents) h p g l =
-      Each-image _ _ (captured id p) (λ o e. e) _ (anchored contents h p (cleared id 1 g) l)
+      Each-image _ _ (captured id p) (λ o e. e) _ (anchored contents h p (with_groups_cleared id 1 g) l)
   anchored (alt left right) h p g l =
       Each-append (λ o. p ≡ 0) _ _ (anchored left (and-left _ _ h) p g l) (anchored right (and-right _ _ h) p g l)
   anchored _ h p g l = grind arith

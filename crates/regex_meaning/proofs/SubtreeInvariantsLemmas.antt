@@ -1,15 +1,12 @@
 -- The invariants of subtrees hold of combined nodes and make the tree of the pattern well formed.
-use Rattle.std.proofs.Common.{◌≡◌, ℕ, zero, suc, ◌+◌, ◌-◌, ◌<◌, ◌≤◌, Bool, true, false, ◌&&◌, ◌||◌, List, [], ◌∷◌, ◌++◌, length, count_by, sum_by}
-use Rattle.std.proofs.Common.{refl, ap, ◌∙◌, arith, inl, inr, length-append, append-nil}
+use Rattle.std.proofs.Common.{◌≡◌, ℕ, zero, suc, ◌+◌, ◌-◌, ◌<◌, ◌≤◌, Bool, true, false, ◌&&◌, ◌||◌, List, [], ◌∷◌, ◌++◌, length, count_by, sum_by, refl, ap, ◌∙◌, arith, inl, inr, length-append, append-nil}
 use Rattle.std.specs.Prelude.{if◌then◌else◌, IsTrue, nat_eq, nat_le, ◌==◌}
-use Rattle.std.proofs.lemmas.Bool.{cases_lt, cases_eq, lt-ltb, le-ltb, lt-leb, le-leb, leb-true, eq-eqb, ne_eqb, and_parts, and_from}
+use Rattle.std.proofs.lemmas.Bool.{cases_lt, cases_eq, lt-ltb, le-ltb, lt-leb, le-leb, leb-true, eq-eqb, ne_eqb, and_parts, and_from, or_from}
 use Rattle.std.proofs.lemmas.List.Sums.{sum_by-append}
 use Rattle.regex_meaning.specs.NumberListHelpers.{contains, numbers_from}
-use Rattle.regex_meaning.specs.Tree.{Node, group_ids, every_node_passes, empty, goal, char, char_set, byte_set, byte_sequence, cat, end_of_cat, alt, bracket}
-use Rattle.regex_meaning.specs.Tree.{string_set, match_any, match_any_except_line_terminator, anchor, word_boundary, capture_group, back_ref}
+use Rattle.regex_meaning.specs.Tree.{Node, group_ids, every_node_passes, empty, goal, char, char_set, byte_set, byte_sequence, cat, end_of_cat, alt, bracket, string_set, match_any, match_any_except_line_terminator, anchor, word_boundary, capture_group, back_ref}
 use Rattle.regex_meaning.specs.Tree.{lookaround, loop, loop_1_char_body, Quantifier}
-use Rattle.regex_meaning.specs.WellFormedTrees.{number_of_goal_nodes, range_is_ids_of_enclosed_groups, is_min_at_most_max, has_exact_group_range, refers_to_a_group, has_order_in_quantifier}
-use Rattle.regex_meaning.specs.WellFormedTrees.{has_one_character_body, has_text_in_sequence, set_sizes_and_characters_fit_instructions, is_well_formed}
+use Rattle.regex_meaning.specs.WellFormedTrees.{number_of_goal_nodes, range_is_ids_of_enclosed_groups, is_min_at_most_max, has_exact_group_range, refers_to_a_group, has_order_in_quantifier, has_one_character_body, has_text_in_sequence, set_sizes_and_characters_fit_instructions, is_well_formed}
 use Rattle.regex_meaning.specs.CompilationRelation.{tree_contains_byte_nodes}
 use Rattle.regex_meaning.proofs.WellFormedTreesLemmas.{by_clauses}
 use Rattle.regex_meaning.proofs.BoolLemmas.{and-left, and-right}
@@ -271,14 +268,11 @@ text-from : (n : Node) → can_stand_in_pattern n ≡ true → has_text_in_seque
 text-from (byte_sequence bytes) h = grind arith
 text-from _ h = refl
 
-neither : (a b : Bool) → a ≡ false → b ≡ false → (a || b) ≡ false
-neither a b h k = rw (h, k) refl
-
 reads-none : (n : Node) → every_node_passes can_stand_in_pattern n ≡ true → tree_contains_byte_nodes n ≡ false
 reads-none (byte_set members) h = grind arith
 reads-none (byte_sequence bytes) h = grind arith
-reads-none (cat first rest) h = neither _ _ (reads-none first (and-left _ (every_node_passes can_stand_in_pattern rest) h)) (reads-none rest (and-right (every_node_passes can_stand_in_pattern first) _ h))
-reads-none (alt first rest) h = neither _ _ (reads-none first (and-left _ (every_node_passes can_stand_in_pattern rest) h)) (reads-none rest (and-right (every_node_passes can_stand_in_pattern first) _ h))
+reads-none (cat first rest) h = or_from _ _ (reads-none first (and-left _ (every_node_passes can_stand_in_pattern rest) h)) (reads-none rest (and-right (every_node_passes can_stand_in_pattern first) _ h))
+reads-none (alt first rest) h = or_from _ _ (reads-none first (and-left _ (every_node_passes can_stand_in_pattern rest) h)) (reads-none rest (and-right (every_node_passes can_stand_in_pattern first) _ h))
 reads-none (capture_group id name contents) h = reads-none contents h
 reads-none (lookaround l contents) h = reads-none contents h
 reads-none (loop q s e loopee) h = reads-none loopee h

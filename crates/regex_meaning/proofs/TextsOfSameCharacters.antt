@@ -1,15 +1,11 @@
 -- Texts with the same characters have the same matches if their folds agree on these characters.
-use Rattle.regex_meaning.specs.Tree.{Sameness, exact, folded, alike as by_unicode}
-use Rattle.std.proofs.Common.{◌≡◌, ℕ, zero, suc, ◌+◌, ◌-◌, Bool, ◌&&◌, ◌||◌, List, [], ◌∷◌, length, map, drop, Option, Some, None, refl, ap, ◌∙◌}
-use Rattle.std.proofs.Common.{flat_map, option_and_then}
+use Rattle.regex_meaning.specs.Tree.{Sameness, exact, folded, alike as by_unicode, Quantifier, Node, empty, goal, byte_sequence, cat, end_of_cat, alt, string_set, anchor, start_of_line, end_of_line, word_boundary, capture_group, back_ref, lookaround, loop, loop_1_char_body}
+use Rattle.std.proofs.Common.{◌≡◌, ℕ, zero, suc, ◌+◌, ◌-◌, Bool, ◌||◌, List, [], ◌∷◌, length, map, drop, Option, Some, None, refl, ap, ◌∙◌, flat_map, option_and_then}
 use Rattle.std.specs.Prelude.{◌==◌, slice_range}
 use mathlib.Core.Path.{fun_ext}
 use lib.Pointwise.{pointwise}
-use Rattle.regex_meaning.specs.Tree.{Quantifier, Node, empty, goal, byte_sequence, cat, end_of_cat, alt, string_set, anchor, start_of_line}
-use Rattle.regex_meaning.specs.Tree.{end_of_line, word_boundary, capture_group, back_ref, lookaround, loop, loop_1_char_body}
 use Rattle.regex_meaning.specs.Text.{Text, Direction, rightwards, leftwards}
-use Rattle.regex_meaning.specs.Outcomes.{is_same, Groups, Outcome, Repetition, repetition, repeat, outcomes, captured, cleared, one_character, spelled}
-use Rattle.regex_meaning.specs.Outcomes.{backref_outcomes, group_range, lookaround_outcomes, direction_of}
+use Rattle.regex_meaning.specs.Outcomes.{is_same, Groups, Outcome, Repetition, repetition, repeat, outcomes, captured, with_groups_cleared, one_character, spelled, backref_outcomes, group_range, lookaround_outcomes, direction_of}
 use Rattle.regex_meaning.specs.FirstAndAllMatches.{Found, no_groups, first_match, first_match_among, place_after_match, matches_from, match_list}
 use Rattle.regex_meaning.proofs.EachElementLemmas.{Each, Each-take, Each-drop}
 use Rattle.regex_meaning.proofs.ListLemmas.{flat_map-same}
@@ -86,7 +82,7 @@ module _ (characters : List ℕ) (unicode : Bool) (s_offsets t_offsets : List �
   outcomes-same (alt left right) d place groups =
       rw (outcomes-same left d place groups, outcomes-same right d place groups) refl
   outcomes-same (capture_group id name contents) d place groups =
-      ap (map (captured id place)) (outcomes-same contents d place (cleared id 1 groups))
+      ap (map (captured id place)) (outcomes-same contents d place (with_groups_cleared id 1 groups))
   outcomes-same (back_ref group sameness) d place groups = same_as_group-same sameness (group_range groups (group - 1)) d place groups
   outcomes-same (anchor start_of_line multiline) d place groups = refl
   outcomes-same (anchor end_of_line multiline) d place groups = refl
@@ -94,7 +90,7 @@ module _ (characters : List ℕ) (unicode : Bool) (s_offsets t_offsets : List �
   outcomes-same (lookaround l contents) d place groups =
       ap (λ (os : List Outcome). lookaround_outcomes l.negate os place groups) (outcomes-same contents (direction_of l) place groups)
   outcomes-same (loop q start_group end_group loopee) d place groups =
-      loop-same q _ _ (λ p g. outcomes-same loopee d p (cleared start_group (end_group - start_group) g)) d place groups
+      loop-same q _ _ (λ p g. outcomes-same loopee d p (with_groups_cleared start_group (end_group - start_group) g)) d place groups
   outcomes-same (loop_1_char_body q loopee) d place groups = loop-same q _ _ (λ p g. outcomes-same loopee d p g) d place groups
   outcomes-same _ d place groups = one_character-same _ d place groups
 

@@ -1,15 +1,14 @@
 -- The boundaries of a UTF-16 text are the offsets that cut no surrogate pair.
-use Rattle.std.proofs.Common.{◌≡◌, ℕ, zero, suc, ◌+◌, ◌<◌, Bool, true, false, cond, not, ◌&&◌, List, [], ◌∷◌, length, map, refl, sym, ap, ◌∙◌, arith}
-use Rattle.std.proofs.Common.{zero-add, eq-eqb, ne_eqb, lt-ltb, le-leb, leb-true, is_some, nat_eq, nat_le, nat_lt, Some, None, slice_index}
+use Rattle.std.proofs.Common.{◌≡◌, ℕ, zero, suc, ◌+◌, ◌<◌, Bool, true, false, cond, not, ◌&&◌, List, [], ◌∷◌, length, map, refl, sym, ap, ◌∙◌, arith, zero-add, eq-eqb, ne_eqb, lt-ltb, le-leb, leb-true, is_some, nat_eq, nat_le, nat_lt, Some, None, slice_index}
 use Rattle.std.specs.List.{list_any, position_or_len}
 use Rattle.std.proofs.lemmas.Bool.{cases_Bool, lt-leb, and_parts}
 use mathlib.Core.Logic.{inl, inr}
 use Rattle.regex_meaning.specs.NumberListHelpers.{contains}
-use Rattle.regex_meaning.specs.Text.{is_high_surrogate, is_low_surrogate, decode_surrogate_pair, utf16_width, utf16_characters, offsets_from}
-use Rattle.regex_meaning.specs.Text.{is_unit_boundary, utf16_text, width_of_single_unit_character}
+use Rattle.regex_meaning.specs.Text.{is_high_surrogate, is_low_surrogate, decode_surrogate_pair, utf16_width, utf16_characters, offsets_from, is_unit_boundary, utf16_text, width_of_single_unit_character}
 use Rattle.regex_meaning.specs.CodeUnitOffsets.{place_at, units}
 use Rattle.regex_meaning.specs.Laws.{is_within_pair}
 use Rattle.std.proofs.Math.Bool.{and-false}
+use Rattle.regex_meaning.specs.CodeUnits.{AreU16Units}
 use Rattle.regex_meaning.proofs.BoolLemmas.{le-same}
 
 any-position : (test : ℕ → Bool) (xs : List ℕ) → list_any test xs ≡ nat_lt (position_or_len test xs) (length xs)
@@ -33,12 +32,9 @@ unit_boundary-place_at units unicode i =
 -- ---- Between units
 
 -- No offset stands before the first one.
-none-before : (ws : List ℕ) (at i : ℕ) → i < at → contains (offsets_from at ws) i ≡ false
+pub none-before : (ws : List ℕ) (at i : ℕ) → i < at → contains (offsets_from at ws) i ≡ false
 none-before [] at i less = rw (ne_eqb i at (omega arith)) refl
 none-before (w ∷ ws) at i less = rw (ne_eqb i at (omega arith)) (none-before ws (at + w) i (omega arith))
-
-abbrev pub AreUnits : List ℕ → Type 0
-AreUnits units = (k : ℕ) → k < length units → slice_index units k < 0x1_0000
 
 abbrev pub is_between : List ℕ → ℕ → Bool
 is_between units i = nat_le i (length units) && not (is_within_pair units i)
@@ -96,14 +92,14 @@ step-pair u v us at (suc (suc (suc i))) ws more high low =
     ∙ ap (λ (b : Bool). b && not (is_within_pair us (suc i)))
     (le-same (suc i) (length us) (suc (suc (suc i))) (suc (suc (length us))) (λ h. omega arith) (λ h. omega arith))
 
-pub behind-first : (u : ℕ) (us : List ℕ) → AreUnits (u ∷ us) → AreUnits us
+pub behind-first : (u : ℕ) (us : List ℕ) → AreU16Units (u ∷ us) → AreU16Units us
 behind-first u us small k inside = small (suc k) (omega arith)
 
 -- These are the offsets of the characters of the units.
 abbrev unit_offsets : ℕ → List ℕ → List ℕ
 unit_offsets at units = offsets_from at (map utf16_width (utf16_characters units))
 
-unit_boundary-from : (units : List ℕ) (at k : ℕ) → AreUnits units → contains (unit_offsets at units) (at + k) ≡ is_between units k
+unit_boundary-from : (units : List ℕ) (at k : ℕ) → AreU16Units units → contains (unit_offsets at units) (at + k) ≡ is_between units k
 unit_boundary-from [] at zero small = here at []
 unit_boundary-from [] at (suc k) small =
     further at (suc k) [] (omega arith) ∙ sym (rw (lt-leb (suc k) 0 (omega arith)) refl)
@@ -123,7 +119,7 @@ unit_boundary-from (u ∷ v ∷ us) at k small = elim (cases_Bool (is_high_surro
 ]
 
 -- An offset is a unit boundary exactly if it is within the units and cuts no pair.
-pub unit_boundary-between : (units : List ℕ) (i : ℕ) → AreUnits units → is_unit_boundary units i ≡ is_between units i
+pub unit_boundary-between : (units : List ℕ) (i : ℕ) → AreU16Units units → is_unit_boundary units i ≡ is_between units i
 unit_boundary-between units i small =
     let e : i ≡ 0 + i = omega arith in
     ap (contains (unit_offsets 0 units)) e ∙ unit_boundary-from units 0 i small
@@ -140,7 +136,7 @@ two-on at n = omega arith
 one-on : (at n : ℕ) → at + 1 + n ≡ at + suc n
 one-on at n = omega arith
 
-last-utf16 : (us : List ℕ) (at : ℕ) → AreUnits us → slice_index (unit_offsets at us) (length (utf16_characters us)) ≡ at + length us
+last-utf16 : (us : List ℕ) (at : ℕ) → AreU16Units us → slice_index (unit_offsets at us) (length (utf16_characters us)) ≡ at + length us
 last-utf16 [] at small = omega arith
 last-utf16 (u ∷ []) at small = rw (single-width u (small 0 (omega arith))) refl
 last-utf16 (u ∷ v ∷ us) at small = elim (cases_Bool (is_high_surrogate u && is_low_surrogate v)) [
@@ -152,5 +148,5 @@ last-utf16 (u ∷ v ∷ us) at small = elim (cases_Bool (is_high_surrogate u && 
       (last-utf16 (v ∷ us) (at + 1) (behind-first u (v ∷ us) small) ∙ one-on at (length (v ∷ us)))
 ]
 
-pub units-utf16 : (us : List ℕ) (unicode : Bool) → AreUnits us → units (utf16_text us unicode) ≡ length us
+pub units-utf16 : (us : List ℕ) (unicode : Bool) → AreU16Units us → units (utf16_text us unicode) ≡ length us
 units-utf16 us unicode small = last-utf16 us 0 small ∙ zero-add (length us)

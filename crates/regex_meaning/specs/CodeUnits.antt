@@ -1,5 +1,5 @@
 -- The code units in which the characters of a text are encoded.
-use Rattle.std.specs.Prelude.{◌≡◌, ℕ, ◌+◌, ◌-◌, ◌/◌, ◌%◌, Bool, List, [], ◌∷◌, length, map, flat_map, if◌then◌else◌, nat_lt, encode_utf8_all}
+use Rattle.std.specs.Prelude.{◌≡◌, ℕ, ◌+◌, ◌-◌, ◌/◌, ◌%◌, ◌<◌, Bool, List, [], ◌∷◌, length, slice_index, map, flat_map, if◌then◌else◌, nat_lt, encode_utf8_all}
 use Rattle.regex_meaning.specs.Text.{Text, offsets_from, is_scalar}
 
 -- An encoding of texts. Code units are bytes in UTF-8, which contains ASCII, and have 16 bits in
@@ -14,6 +14,10 @@ abbrev pub is_character_in_encoding : Encoding → ℕ → Bool
 is_character_in_encoding utf8 c = is_scalar c
 is_character_in_encoding utf16 c = nat_lt c 0x11_0000
 is_character_in_encoding ucs2 c = nat_lt c 0x1_0000
+
+-- Each unit is a 16-bit number.
+abbrev pub AreU16Units : List ℕ → Type 0
+AreU16Units units = (k : ℕ) → k < length units → slice_index units k < 0x1_0000
 
 -- The surrogate pair of a code point above U+FFFF, with the high surrogate first.
 abbrev pub surrogate_pair : ℕ → List ℕ

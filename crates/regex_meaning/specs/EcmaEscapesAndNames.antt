@@ -1,8 +1,7 @@
 -- Escapes and names of groups in the whole language of ECMA-262, 9th edition: 21.2.1 with annexes
 -- B.1.2 and B.1.4. In each relation `here` is the text before what is read, and `there` the text
 -- after it. Where several alternatives apply, B.1.4 takes the first.
-use Rattle.std.specs.Prelude.{◌≡◌, ℕ, ◌+◌, ◌-◌, ◌*◌, ◌%◌, Bool, true, false, not, ◌&&◌, ◌||◌, nat_eq, List, [], ◌∷◌, ◌++◌, codes, encode_utf8_all, Some, IsTrue}
-use Rattle.std.specs.Prelude.{if◌then◌else◌}
+use Rattle.std.specs.Prelude.{◌≡◌, ℕ, ◌+◌, ◌-◌, ◌*◌, ◌%◌, Bool, true, false, not, ◌&&◌, ◌||◌, nat_eq, List, [], ◌∷◌, ◌++◌, codes, encode_utf8_all, Some, IsTrue, if◌then◌else◌}
 use Rattle.std.specs.Char.{digit_value, is_ascii_digit, is_ascii_alphabetic}
 use Rattle.std.specs.Int.{is_in_range}
 use Rattle.ucd_derived.specs.Binary.{is_id_start, is_id_continue}

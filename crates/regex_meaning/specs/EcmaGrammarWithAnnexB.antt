@@ -4,16 +4,14 @@
 -- if one might.
 use Rattle.std.specs.Prelude.{◌≡◌, ℕ, ◌≤◌, Bool, true, false, not, ◌&&◌, ◌||◌, List, [], ◌∷◌, ◌++◌, nat_lt, length, codes, Some, IsTrue, if◌then◌else◌}
 use Rattle.std.specs.List.{list_any}
-use Rattle.regex_meaning.specs.Tree.{Node, Tree, Flags, BracketContents, Intervals, char, char_set, bracket, match_any, match_any_except_line_terminator, back_ref}
-use Rattle.regex_meaning.specs.Tree.{by_canonical_case}
+use Rattle.regex_meaning.specs.Tree.{Node, Tree, Flags, BracketContents, Intervals, char, char_set, bracket, match_any, match_any_except_line_terminator, back_ref, by_canonical_case}
 use Rattle.regex_meaning.specs.Canonical.{AreCaseVariants}
 use Rattle.regex_meaning.specs.ReadingStatesAndDigits.{RemainingCodePoints, PatternContext, ◌∈◌, begins_with_characters, Digits, group_number_of}
 use Rattle.regex_meaning.specs.EscapesNamesQuantifiers.{BeginsQuantifier}
 use Rattle.regex_meaning.specs.Grammar.{PatternDialect, ParsesBy}
 use Rattle.regex_meaning.specs.UnicodeProperties.{Property, has_property}
 use Rattle.regex_meaning.specs.EcmaEscapesAndNames.{GrammarParameters, CharacterEscape, BeginsCharacterEscape, PropertyExpression, GroupName}
-use Rattle.regex_meaning.specs.EcmaClasses.{InvertibleSet, class, class_escape_set, is_in_invertible_set, IsSetOf, BeginsCharacterClassEscape, CharacterClass}
-use Rattle.regex_meaning.specs.EcmaClasses.{grammar_parameters}
+use Rattle.regex_meaning.specs.EcmaClasses.{InvertibleSet, class, class_escape_set, is_in_invertible_set, IsSetOf, BeginsCharacterClassEscape, CharacterClass, grammar_parameters}
 
 -- The grammar's parameter N, with which `\k` begins a reference: the flag `u` is set, or a group
 -- has a name.

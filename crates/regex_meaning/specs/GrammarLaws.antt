@@ -1,19 +1,15 @@
 -- Laws of the grammar; `src/lib.rt` proves each.
-use Rattle.std.specs.Prelude.{◌≡◌, List, [], false, codes}
-use Rattle.regex_meaning.specs.Tree.{Node, Tree, Flags, goal, char, cat, end_of_cat, alt}
-use Rattle.regex_meaning.specs.ReadingStatesAndDigits.{RemainingCodePoints, PatternContext}
-use Rattle.regex_meaning.specs.Grammar.{Disjunction, Parses, profile}
+use Rattle.std.specs.Prelude.{◌≡◌, List, [], false, codes, ℕ, ◌==◌, IsTrue, length, map, chars, count_by, nat_eq, nat_lt, if◌then◌else◌}
+use Rattle.regex_meaning.specs.Tree.{Node, Tree, Flags, goal, char, cat, end_of_cat, alt, group_ids}
+use Rattle.regex_meaning.specs.ReadingStatesAndDigits.{RemainingCodePoints, PatternContext, sequence_node}
+use Rattle.regex_meaning.specs.Grammar.{Disjunction, Parses, profile, character_node}
 use Rattle.regex_meaning.specs.GroupNameScan.{scanned_names_per_capturing_group}
-use Rattle.std.specs.Prelude.{ℕ, ◌==◌, IsTrue, length, map, chars, count_by, nat_eq, nat_lt, if◌then◌else◌}
 use Rattle.std.specs.List.{list_all}
 use Rattle.std.specs.Str.{is_utf8}
-use Rattle.regex_meaning.specs.Tree.{group_ids}
 use Rattle.regex_meaning.specs.FlagLettersAndEscaping.{escape}
 use Rattle.regex_meaning.specs.MatchGroupsByNumberAndName.{group_names_by_id}
 use Rattle.regex_meaning.specs.WellFormedTrees.{IsWellFormed}
 use Rattle.regex_meaning.specs.CompilationRelation.{tree_contains_byte_nodes}
-use Rattle.regex_meaning.specs.ReadingStatesAndDigits.{sequence_node}
-use Rattle.regex_meaning.specs.Grammar.{character_node}
 use Rattle.regex_meaning.specs.TreesWithoutCharLoops.{has_no_char_loops}
 
 -- No flag is set.

@@ -1,6 +1,6 @@
 -- A scan for the groups of a pattern of any dialect that does not parse the pattern: a parenthesis
 -- outside classes and escapes opens a group. The scan is not part of the grammar.
-use Rattle.std.specs.Prelude.{◌≡◌, Bool, true, false, not, ◌&&◌, List, [], ◌∷◌, ◌++◌, codes, if◌then◌else◌}
+use Rattle.std.specs.Prelude.{◌≡◌, ◌==◌, ℕ, Bool, true, false, not, ◌&&◌, List, [], ◌∷◌, ◌++◌, codes, if◌then◌else◌}
 use Rattle.regex_meaning.specs.ReadingStatesAndDigits.{RemainingCodePoints, ◌∈◌, begins_with_characters}
 use Rattle.regex_meaning.specs.Grammar.{PatternDialect, lookaround_opener}
 
@@ -15,6 +15,10 @@ texts_after_parentheses in_class (c ∷ d ∷ rest) =
     else if c ∈ "]" then texts_after_parentheses false (d ∷ rest)
     else if c ∈ "(" && not in_class then (d ∷ rest) ∷ texts_after_parentheses in_class (d ∷ rest)
     else texts_after_parentheses in_class (d ∷ rest)
+
+-- Whether a class is open after a code point that follows no backslash.
+abbrev pub in_class_after : (in_class : Bool) → ℕ → Bool
+in_class_after in_class c = if c == 91 then true else if c == 93 then false else in_class
 
 -- The parentheses before these texts open capturing groups with these names. A name is empty if the
 -- group has none.

@@ -1,7 +1,6 @@
 -- What a search yields: a match in offsets (`Answer`), the list of them from an offset on (`answers_from`), and
 -- groups by number and by name.
-use Rattle.std.specs.Prelude.{ℕ, zero, suc, ◌+◌, Bool, List, [], ◌∷◌, length, map, ◌++◌, ◌==◌, option_map, Option, Some, None, if◌then◌else◌}
-use Rattle.std.specs.Prelude.{bytes_eq}
+use Rattle.std.specs.Prelude.{ℕ, zero, suc, ◌+◌, Bool, List, [], ◌∷◌, length, map, ◌++◌, ◌==◌, option_map, Option, Some, None, if◌then◌else◌, bytes_eq}
 use Rattle.std.specs.List.{list_any, list_all}
 use Rattle.std.specs.Option.{option_or, option_map_or}
 use Rattle.regex_meaning.specs.NumberListHelpers.{numbers_from}

@@ -1,18 +1,13 @@
 -- The outcomes of a node at a place, in order of priority (ECMA-262, 21.2.2).
-use Rattle.std.specs.Prelude.{ℕ, zero, suc, ◌+◌, ◌-◌, ◌^◌, min, max, Bool, true, false, not, ◌&&◌, ◌||◌, List, [], ◌∷◌, length, Option, Some, None}
-use Rattle.std.specs.Prelude.{if◌then◌else◌, nat_lt, nat_le, nat_eq, ◌==◌, slice_get, slice_set, slice_range, chars, unwrap_or, ◌++◌, filter}
-use Rattle.std.specs.Prelude.{flat_map, map}
+use Rattle.std.specs.Prelude.{ℕ, zero, suc, ◌+◌, ◌-◌, ◌^◌, min, max, Bool, true, false, not, ◌&&◌, ◌||◌, List, [], ◌∷◌, length, Option, Some, None, if◌then◌else◌, nat_lt, nat_le, nat_eq, ◌==◌, slice_get, slice_set, slice_range, chars, unwrap_or, ◌++◌, filter, flat_map, map}
 use Rattle.std.specs.List.{list_any}
 use Rattle.std.specs.Option.{option_map_or}
 use lib.Pointwise.{pointwise}
 use Rattle.regex_meaning.specs.NumberListHelpers.{contains}
-use Rattle.regex_meaning.specs.Tree.{Intervals, AnchorType, start_of_line, end_of_line, Quantifier, Lookaround, Node, empty, goal, char, char_set}
-use Rattle.regex_meaning.specs.Tree.{byte_set, byte_sequence, cat, end_of_cat, alt, bracket, string_set, match_any, match_any_except_line_terminator}
+use Rattle.regex_meaning.specs.Tree.{Intervals, AnchorType, start_of_line, end_of_line, Quantifier, Lookaround, Node, empty, goal, char, char_set, byte_set, byte_sequence, cat, end_of_cat, alt, bracket, string_set, match_any, match_any_except_line_terminator, Sameness, exact, folded, alike}
 use Rattle.regex_meaning.specs.Tree.{anchor, word_boundary, capture_group, back_ref, lookaround, loop, loop_1_char_body}
-use Rattle.regex_meaning.specs.Tree.{Sameness, exact, folded, alike}
 use Rattle.regex_meaning.specs.Canonical.{canonicalize}
-use Rattle.regex_meaning.specs.Text.{Text, Direction, rightwards, leftwards, is_line_terminator, is_word_char, expand_code_point, character_before}
-use Rattle.regex_meaning.specs.Text.{character_after, next_character, characters_ahead, moved, next_characters}
+use Rattle.regex_meaning.specs.Text.{Text, Direction, rightwards, leftwards, is_line_terminator, is_word_char, expand_code_point, character_before, character_after, next_character, characters_ahead, moved, next_characters}
 use Rattle.std.specs.Int.{is_in_range}
 
 -- An entry for each capturing group by id: `None`, or its start and end places in order (21.2.2.1,
@@ -33,9 +28,9 @@ abbrev pub group_range : Groups → ℕ → Option (ℕ × ℕ)
 group_range groups id = unwrap_or (slice_get groups id) None
 
 -- The groups, with the entries of `count` groups from `id` on set to `None`.
-abbrev pub cleared : (id count : ℕ) → Groups → Groups
-cleared id zero groups = groups
-cleared id (suc count) groups = cleared (id + 1) count (slice_set groups id None)
+abbrev pub with_groups_cleared : (id count : ℕ) → Groups → Groups
+with_groups_cleared id zero groups = groups
+with_groups_cleared id (suc count) groups = with_groups_cleared (id + 1) count (slice_set groups id None)
 
 -- Sets the group to the range between the place and the end of the outcome, with the lesser place
 -- first.
@@ -212,7 +207,7 @@ module _ (text : Text) where
   -- 21.2.2.8. The range is in order in both directions. Inside its own contents, the group is
   -- `None`.
   outcomes (capture_group id name contents) direction place groups =
-      map (captured id place) (outcomes contents direction place (cleared id 1 groups))
+      map (captured id place) (outcomes contents direction place (with_groups_cleared id 1 groups))
   -- 21.2.2.9 and 21.2.2.9.1. The tree numbers groups from 1.
   outcomes (back_ref group same) direction place groups =
       backref_outcomes same (group_range groups (group - 1)) direction place groups
@@ -225,7 +220,8 @@ module _ (text : Text) where
       lookaround_outcomes l.negate (outcomes contents (direction_of l) place groups) place groups
   -- 21.2.2.5, 21.2.2.5.1 and 21.2.2.7. Each iteration first clears the groups inside the loop.
   outcomes (loop q start_group end_group loopee) direction place groups =
-      repeat (repetition q (λ p g. outcomes loopee direction p (cleared start_group (end_group - start_group) g)))
+      repeat (repetition q (λ p g. outcomes loopee direction p
+      (with_groups_cleared start_group (end_group - start_group) g)))
       direction 0 place groups
   outcomes (loop_1_char_body q loopee) direction place groups =
       repeat (repetition q (outcomes loopee direction)) direction 0 place groups

@@ -1,16 +1,12 @@
 -- The outcomes of a node with ticks among them. A tick is one step of a search that tries the
 -- outcomes in order (a rule of this crate).
-use Rattle.std.specs.Prelude.{ℕ, zero, suc, ◌+◌, ◌-◌, min, Bool, true, false, List, [], ◌∷◌, map, reverse, length, take, drop, replicate, Option}
-use Rattle.std.specs.Prelude.{Some, None, if◌then◌else◌, nat_lt, nat_le, nat_eq, encode_utf8_all, filter, ◌++◌}
+use Rattle.std.specs.Prelude.{ℕ, zero, suc, ◌+◌, ◌-◌, min, Bool, true, false, List, [], ◌∷◌, map, reverse, length, take, drop, replicate, Option, Some, None, if◌then◌else◌, nat_lt, nat_le, nat_eq, encode_utf8_all, filter, ◌++◌}
 use Rattle.std.specs.List.{starts_with, prefix_len}
 use Rattle.std.specs.Option.{option_map_or}
 use Rattle.regex_meaning.specs.NumberListHelpers.{numbers_from}
-use Rattle.regex_meaning.specs.Tree.{Quantifier, Node, empty, byte_sequence, cat, end_of_cat, alt, string_set, capture_group, lookaround, loop}
-use Rattle.regex_meaning.specs.Tree.{loop_1_char_body, Tree}
+use Rattle.regex_meaning.specs.Tree.{Quantifier, Node, empty, byte_sequence, cat, end_of_cat, alt, string_set, capture_group, lookaround, loop, loop_1_char_body, Tree}
 use Rattle.regex_meaning.specs.Text.{Text, Direction, rightwards, leftwards, last_place, characters_ahead}
-use Rattle.regex_meaning.specs.Outcomes.{Groups, Outcome, accepts, cleared, captured, max_iterations, Repetition, repetition, passes_empty_check, is_case_variant}
-use Rattle.regex_meaning.specs.Outcomes.{spelled}
-use Rattle.regex_meaning.specs.Outcomes.{lookaround_outcomes, direction_of, outcomes}
+use Rattle.regex_meaning.specs.Outcomes.{Groups, Outcome, accepts, with_groups_cleared, captured, max_iterations, Repetition, repetition, passes_empty_check, is_case_variant, spelled, lookaround_outcomes, direction_of, outcomes}
 use Rattle.regex_meaning.specs.StartPredicate.{StartPredicate, start_anchored, start_predicate, may_start}
 use Rattle.regex_meaning.specs.FirstAndAllMatches.{no_groups, first_match, place_after_match}
 use Rattle.regex_meaning.specs.CompilationRelation.{chunks}
@@ -155,7 +151,7 @@ module _ (text : Text) where
   ticked (alt left right) direction place groups =
       ticked_alt (ticked left direction place groups) (ticked right direction place groups)
   ticked (capture_group id name contents) direction place groups =
-      tick ∷ outcomes_replaced_by_lists (ticked contents direction place (cleared id 1 groups))
+      tick ∷ outcomes_replaced_by_lists (ticked contents direction place (with_groups_cleared id 1 groups))
       (λ o. tick ∷ pair (captured id place o) ∷ [])
   ticked (lookaround l contents) direction place groups =
       let inside = ticks_before_outcomes (ticked contents (direction_of l) place groups) in
@@ -163,7 +159,8 @@ module _ (text : Text) where
       (lookaround_outcomes l.negate (outcomes_without_ticks inside) place groups))
   ticked (loop q start_group end_group loopee) direction place groups =
       tick ∷ ticked_repeat (repetition q (λ p g.
-      ticks (end_group - start_group) ++ ticked loopee direction p (cleared start_group (end_group - start_group) g)))
+      ticks (end_group - start_group) ++ ticked loopee direction p
+      (with_groups_cleared start_group (end_group - start_group) g)))
       direction 0 place groups
   ticked (loop_1_char_body q loopee) direction place groups =
       tick ∷ (ticks (body_attempts q loopee direction place)

@@ -1,6 +1,5 @@
 -- The text with its matches replaced (a rule of this crate).
-use Rattle.std.specs.Prelude.{ℕ, zero, suc, ◌+◌, ◌*◌, Bool, ◌&&◌, List, [], ◌∷◌, ◌++◌, length, drop, Option, Some, None, if◌then◌else◌, nat_le, ◌==◌}
-use Rattle.std.specs.Prelude.{map, slice_range}
+use Rattle.std.specs.Prelude.{ℕ, zero, suc, ◌+◌, ◌*◌, Bool, ◌&&◌, List, [], ◌∷◌, ◌++◌, length, drop, Option, Some, None, if◌then◌else◌, nat_le, ◌==◌, map, slice_range}
 use Rattle.std.specs.List.{before_first, after_first, list_any}
 use Rattle.std.specs.Char.{is_ascii_digit, digit_value}
 use Rattle.regex_meaning.specs.MatchGroupsByNumberAndName.{Answer, group, named_group}

@@ -12,17 +12,10 @@ use Rattle.ucd_sets.specs.Sets.{in_set}
 use Rattle.ucd_sets.specs.declared.set.Set.{Set}
 use Rattle.ucd_sets.specs.declared.set.Set.TheVariants as set
 use Rattle.ucd_sets.specs.declared.property.BinaryProperty.{BinaryProperty}
-use Rattle.ucd_sets.specs.declared.property.BinaryProperty.TheVariants.{AsciiHexDigit, Alphabetic, BidiControl, BidiMirrored, CaseIgnorable, Cased}
-use Rattle.ucd_sets.specs.declared.property.BinaryProperty.TheVariants.{ChangesWhenCasefolded, ChangesWhenCasemapped, ChangesWhenLowercased}
-use Rattle.ucd_sets.specs.declared.property.BinaryProperty.TheVariants.{ChangesWhenTitlecased, ChangesWhenUppercased, Dash, DefaultIgnorableCodePoint}
-use Rattle.ucd_sets.specs.declared.property.BinaryProperty.TheVariants.{Deprecated, Diacritic, Emoji, EmojiComponent, EmojiModifier}
-use Rattle.ucd_sets.specs.declared.property.BinaryProperty.TheVariants.{EmojiModifierBase, EmojiPresentation, Extender, GraphemeBase, GraphemeExtend}
-use Rattle.ucd_sets.specs.declared.property.BinaryProperty.TheVariants.{HexDigit, IdsBinaryOperator, IdsTrinaryOperator, IdContinue, IdStart}
-use Rattle.ucd_sets.specs.declared.property.BinaryProperty.TheVariants.{Ideographic, JoinControl, LogicalOrderException, Lowercase, Math}
-use Rattle.ucd_sets.specs.declared.property.BinaryProperty.TheVariants.{NoncharacterCodePoint, PatternSyntax, PatternWhiteSpace, QuotationMark}
-use Rattle.ucd_sets.specs.declared.property.BinaryProperty.TheVariants.{Radical, RegionalIndicator, SentenceTerminal, SoftDotted, TerminalPunctuation}
+use Rattle.ucd_sets.specs.declared.property.BinaryProperty.TheVariants.{AsciiHexDigit, Alphabetic, BidiControl, BidiMirrored, CaseIgnorable, Cased, ChangesWhenCasefolded, ChangesWhenCasemapped, ChangesWhenLowercased, ChangesWhenTitlecased, ChangesWhenUppercased, Dash, DefaultIgnorableCodePoint}
+use Rattle.ucd_sets.specs.declared.property.BinaryProperty.TheVariants.{Deprecated, Diacritic, Emoji, EmojiComponent, EmojiModifier, EmojiModifierBase, EmojiPresentation, Extender, GraphemeBase, GraphemeExtend, HexDigit, IdsBinaryOperator, IdsTrinaryOperator, IdContinue, IdStart, XidStart}
+use Rattle.ucd_sets.specs.declared.property.BinaryProperty.TheVariants.{Ideographic, JoinControl, LogicalOrderException, Lowercase, Math, NoncharacterCodePoint, PatternSyntax, PatternWhiteSpace, QuotationMark, Radical, RegionalIndicator, SentenceTerminal, SoftDotted, TerminalPunctuation}
 use Rattle.ucd_sets.specs.declared.property.BinaryProperty.TheVariants.{UnifiedIdeograph, Uppercase, VariationSelector, WhiteSpace, XidContinue}
-use Rattle.ucd_sets.specs.declared.property.BinaryProperty.TheVariants.{XidStart}
 
 -- A property that a code point has or does not have: a set of the Unicode Character Database, or
 -- Changes_When_NFKC_Casefolded.

@@ -1,6 +1,5 @@
 -- The reader reads backreferences and other escapes of atoms as the profile's grammar specifies.
-use Rattle.std.proofs.Common.{◌≡◌, ℕ, zero, suc, ◌-◌, ◌<◌, ◌≤◌, ◌^◌, max, ◌⊎◌, inl, inr, Bool, true, false, not, List, [], ◌∷◌, ◌++◌, length}
-use Rattle.std.proofs.Common.{true≢false, ⊎_elim, nat_eq, nat_lt, refl, sym, ap, subst, ◌∙◌, arith, Some, None}
+use Rattle.std.proofs.Common.{◌≡◌, ℕ, zero, suc, ◌-◌, ◌<◌, ◌≤◌, ◌^◌, max, ◌⊎◌, inl, inr, Bool, true, false, not, List, [], ◌∷◌, ◌++◌, length, true≢false, ⊎_elim, nat_eq, nat_lt, refl, sym, ap, subst, ◌∙◌, arith, Some, None}
 use Rattle.std.specs.Prelude.{codes, Option, ◌||◌, ◌==◌, Result, Ok, Err, IsTrue, option_map, String}
 use Rattle.std.specs.Result.{IsErrAnd}
 use Rattle.std.specs.BTreeMap.{BTreeMap, get_by_text}
@@ -9,15 +8,12 @@ use Rattle.std.specs.Int.{is_in_range}
 use Rattle.std.proofs.lemmas.Bool.{or_right, or_cases, eqb-true, not-true, ltb-true}
 use Rattle.std.proofs.lemmas.Cmp.{nat_list_eq_equiv}
 use Rattle.std.proofs.lemmas.Str.Parse.{digit_from_value}
-use Rattle.regex_meaning.specs.Tree.{by_case}
+use Rattle.regex_meaning.specs.Tree.{by_case, Node, back_ref, bracket}
 use Rattle.regex_meaning.specs.Text.{is_scalar}
-use Rattle.regex_meaning.specs.Tree.{Node, back_ref, bracket}
-use Rattle.regex_meaning.specs.ReadingStatesAndDigits.{RemainingCodePoints, PatternContext, ◌∈◌, begins_with_characters, Digits, digits_from}
-use Rattle.regex_meaning.specs.ReadingStatesAndDigits.{group_number_of}
+use Rattle.regex_meaning.specs.ReadingStatesAndDigits.{RemainingCodePoints, PatternContext, ◌∈◌, begins_with_characters, Digits, digits_from, group_number_of}
 use Rattle.regex_meaning.specs.EscapesNamesQuantifiers.{CharacterEscape, GroupName, group_name}
 use Rattle.regex_meaning.specs.CharacterClasses.{ClassMember, class, class_escape, IsSetOf}
-use Rattle.regex_meaning.specs.Grammar.{SimpleAtom, pattern_character, extended_character, any_character, decimal_escape, named_reference}
-use Rattle.regex_meaning.specs.Grammar.{character_escape, character_class_escape, character_class}
+use Rattle.regex_meaning.specs.Grammar.{SimpleAtom, pattern_character, extended_character, any_character, decimal_escape, named_reference, character_escape, character_class_escape, character_class}
 use Rattle.regex_meaning.specs.GrammarLaws.{no_flags}
 use Rattle.regex_meaning.proofs.DisjunctionReadingLemmas.{first}
 use Rattle.regex_meaning.proofs.EscapesAndNamesLemmas.{inside, firsts, behind, one_digits, one_name, Some_inj, is_control_letter, control_letter}
@@ -32,10 +28,9 @@ use Rattle.regex_parser.specs.ClassReaderContracts.{uninverted_digit_word_or_spa
 use Rattle.regex_parser.specs.CodePointReaderContracts.{first_char_if_any, IsCodePointReadIfAny, is_syntax_error, IsNumberRead}
 use Rattle.regex_parser.specs.declared.parser_error.ParseStopReason.{ParseStopReason}
 use Rattle.regex_pattern_front.specs.AstToSpecTree.{spec_node_of, spec_flags_of, class_as_spec}
-use Rattle.regex_parser.specs.GrouplessTermContracts.{NoSimpleAtom, pattern_context, NamesAreNumberedWithinGroupLimit, IsTermReadOrNone, TextBetweenOpensNoGroup}
-use Rattle.regex_parser.specs.GrouplessTermContracts.{begins_backreference, IsReference, IsReferencedGroupNumberRead}
+use Rattle.regex_parser.specs.GrouplessTermContracts.{NoSimpleAtom, pattern_context, NamesAreNumberedWithinGroupLimit, IsTermReadOrNone, TextBetweenOpensNoGroup, begins_backreference, IsReference, IsReferencedGroupNumberRead}
 use Rattle.regex_parser.specs.GrouplessTermContracts.{IsNameWithNumber, IsReferencedNameNumberRead, IsNumberUnlessMissingOrZero, IsDecimalReadIfItFitsU32}
-use Rattle.regex_parser.proofs.GrouplessTermLemmas.{leaf-of}
+use Rattle.regex_parser.proofs.GrouplessTermLemmas.{leaf-of, special}
 use Rattle.regex_parser.proofs.NumberReaderLemmas.{nonzero_digit_bounds, no-number}
 
 -- ---- Code points that the reader has peeked at
@@ -68,9 +63,6 @@ class-escaped flags groups rest there (Some c) r e b p n m s i =
 
 abbrev slash : ℕ → Bool
 slash d = d ∈ "\\"
-
-abbrev special : ℕ → Bool
-special c = c ∈ "^$\\.*+?()[]{}|"
 
 pub no_leaf-slash : (w : PatternContext) (rest : RemainingCodePoints)
     → ((there : RemainingCodePoints) (n : ℕ) → begins_with_characters "0" rest ≡ false → Digits 10 rest there n → n ≤ length w.groups → ⊥)

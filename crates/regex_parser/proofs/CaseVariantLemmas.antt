@@ -1,6 +1,5 @@
 -- The case variants that the parser finds in its table of fold pairs are the specified ones.
-use Rattle.std.proofs.Common.{◌≡◌, ℕ, zero, suc, ◌+◌, ◌-◌, ◌<◌, ◌≤◌, Bool, true, false, not, ◌&&◌, ◌||◌, ◌==◌, List, [], ◌∷◌, ◌++◌, filter, take, drop}
-use Rattle.std.proofs.Common.{length, max, Contains, slice_index_or, refl, sym, ap, ap₂, subst, ◌∙◌, arith, inl, inr, ⊎_elim, true≢false, append_assoc}
+use Rattle.std.proofs.Common.{◌≡◌, ℕ, zero, suc, ◌+◌, ◌-◌, ◌<◌, ◌≤◌, Bool, true, false, not, ◌&&◌, ◌||◌, ◌==◌, List, [], ◌∷◌, ◌++◌, filter, take, drop, length, max, Contains, slice_index_or, refl, sym, ap, ap₂, subst, ◌∙◌, arith, inl, inr, ⊎_elim, true≢false, append_assoc}
 use Rattle.std.proofs.Common.{nat_lt, nat_eq, eq-eqb, eqb-true}
 use Rattle.std.specs.Prelude.{slice_range, if◌then◌else◌}
 use Rattle.std.specs.Bool.{beq}
@@ -14,6 +13,8 @@ use Rattle.regex_meaning.specs.NumberListHelpers.{contains}
 use Rattle.regex_meaning.specs.Canonical.{canonicalize, are_alike, AreIncreasing, AreCaseVariants}
 use Rattle.regex_meaning.proofs.CaseLawLemmas.{alike-folds}
 use Rattle.regex_meaning.proofs.BoolLemmas.{same-truth}
+use Rattle.regex_meaning.proofs.CaseVariantListLemmas.{filter-has}
+use Rattle.regex_meaning.proofs.ListLemmas.{contains-append}
 use Rattle.regex_parser.specs.CaseVariantContracts.{match_each_other, AreOtherVariants, matching_seconds, is_between, is_on_side}
 
 -- ---- The order of the fold pairs
@@ -273,31 +274,6 @@ module _ (unicode : Bool) (c : ℕ) where
 
 -- ---- The variants in order, with the character itself
 
-append-has : (xs ys : List ℕ) (d : ℕ) → contains (xs ++ ys) d ≡ (contains xs d || contains ys d)
-append-has [] ys d = refl
-append-has (x ∷ xs) ys d = by (nat_eq d x) (append-has xs ys d)
-  where
-    by : (b : Bool) → contains (xs ++ ys) d ≡ (contains xs d || contains ys d) → (b || contains (xs ++ ys) d) ≡ ((b || contains xs d) || contains ys d)
-    by true e = refl
-    by false e = e
-
-filter-has : (test : ℕ → Bool) (xs : List ℕ) (d : ℕ) → contains (filter test xs) d ≡ (contains xs d && test d)
-filter-has test [] d = refl
-filter-has test (x ∷ xs) d = by (test x) refl (nat_eq d x) refl (filter-has test xs d)
-  where
-    by : (a : Bool) → test x ≡ a → (b : Bool) → nat_eq d x ≡ b → contains (filter test xs) d ≡ (contains xs d && test d)
-        → contains (filter test (x ∷ xs)) d ≡ ((nat_eq d x || contains xs d) && test d)
-    by true e true f h = rw (e, f) (sym (ap test (eqb-true d x f) ∙ e))
-    by true e false f h = rw (e, f) h
-    by false e true f h =
-        let g : test d ≡ false = ap test (eqb-true d x f) ∙ e in
-        rw (e, f) (h ∙ ap (λ z. contains xs d && z) g ∙ none (contains xs d) ∙ sym g)
-      where
-        none : (b : Bool) → (b && false) ≡ false
-        none true = refl
-        none false = refl
-    by false e false f h = rw (e, f) h
-
 module _ (c : ℕ) where
   below-true : (d : ℕ) → d < c → is_on_side c true d ≡ true
   below-true d l = rw (lt-ltb d c l) refl
@@ -392,14 +368,14 @@ all-variants unicode c others h = record {
     to d e =
         ⊎_elim (λ k. matching d (and_parts (contains others d) _ (sym (filter-has (is_on_side c true) others d) ∙ k)).0)
         (λ k. ⊎_elim (λ f. itself (eqb-true d c f)) (λ f. matching d (and_parts (contains others d) _ (sym (filter-has (is_on_side c false) others d) ∙ f)).0) (or_cases (nat_eq d c) _ k))
-        (or_cases (contains (filter (is_on_side c true) others) d) _ (sym (append-has (filter (is_on_side c true) others) (c ∷ filter (is_on_side c false) others) d) ∙ e))
+        (or_cases (contains (filter (is_on_side c true) others) d) _ (sym (contains-append (filter (is_on_side c true) others) (c ∷ filter (is_on_side c false) others) d) ∙ e))
       where
         itself : d ≡ c → match_each_other unicode c d ≡ true
         itself f = eq-eqb _ _ (ap (canonicalize unicode) (sym f))
 
     from : (d : ℕ) → are_alike true unicode c d ≡ true → contains (filter (is_on_side c true) others ++ c ∷ filter (is_on_side c false) others) d ≡ true
     from d e =
-        append-has (filter (is_on_side c true) others) (c ∷ filter (is_on_side c false) others) d
+        contains-append (filter (is_on_side c true) others) (c ∷ filter (is_on_side c false) others) d
         ∙ elim (cases_lt d c) [
           | inl l ↦ or_left (contains (filter (is_on_side c true) others) d) _ (filter-has (is_on_side c true) others d ∙ rw (other (λ f. omega (arith, f, l)), below-true c d l) refl)
           | inr l ↦ or_right (contains (filter (is_on_side c true) others) d) _ (by (nat_eq d c) refl l)

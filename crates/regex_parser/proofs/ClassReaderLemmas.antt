@@ -1,6 +1,5 @@
 -- The class reader reads the members and sets that the profile's grammar specifies.
-use Rattle.std.proofs.Common.{◌≡◌, ℕ, ◌<◌, ◌≤◌, ◌⊎◌, inl, inr, Bool, true, false, not, ◌&&◌, ◌||◌, List, [], ◌∷◌, ◌++◌, true≢false, ⊎_elim}
-use Rattle.std.proofs.Common.{nat_eq, refl, sym, ap, ap₂, subst, ◌∙◌, arith, append_assoc, append-nil, Some, None}
+use Rattle.std.proofs.Common.{◌≡◌, ℕ, ◌<◌, ◌≤◌, ◌⊎◌, inl, inr, Bool, true, false, not, ◌&&◌, ◌||◌, List, [], ◌∷◌, ◌++◌, true≢false, ⊎_elim, nat_eq, refl, sym, ap, ap₂, subst, ◌∙◌, arith, append_assoc, append-nil, Some, None}
 use Rattle.std.specs.Prelude.{if◌then◌else◌, ◌==◌, nat_le, Option, Result, Ok, Err, IfOk, OnOk, IsErr, IsTrue}
 use Rattle.std.specs.Result.{IsErrAnd}
 use Rattle.std.specs.List.{list_any}
@@ -11,18 +10,15 @@ use Rattle.regex_meaning.specs.Outcomes.{in_intervals}
 use Rattle.regex_meaning.specs.Text.{expand_code_point, is_scalar}
 use Rattle.regex_meaning.specs.ReadingStatesAndDigits.{RemainingCodePoints, ◌∈◌}
 use Rattle.regex_meaning.specs.EscapesNamesQuantifiers.{CharacterEscape}
-use Rattle.regex_meaning.specs.CharacterClasses.{ClassMember, character, range, class, class_escape, closed_under_case_folding, class_member_contains}
-use Rattle.regex_meaning.specs.CharacterClasses.{AreCanonicalIntervals, IsSetOf, ClassAtom, verbatim}
+use Rattle.regex_meaning.specs.CharacterClasses.{ClassMember, character, range, class, class_escape, closed_under_case_folding, class_member_contains, AreCanonicalIntervals, IsSetOf, ClassAtom, verbatim, no_more, more, CharacterClass, plain, inverted, has_set_operation}
 use Rattle.regex_meaning.specs.CharacterClasses.{of_class, backspace, escaped, are_characters, IsRangeDash, ClassMembers, alone, from_to, no_range, ClassRanges}
-use Rattle.regex_meaning.specs.CharacterClasses.{no_more, more, CharacterClass, plain, inverted, has_set_operation}
 use Rattle.regex_meaning.proofs.DisjunctionReadingLemmas.{first, rest_of}
 use Rattle.regex_meaning.proofs.EscapesAndNamesLemmas.{behind}
 use Rattle.regex_meaning.proofs.ClassAndAtomLemmas.{class_letter, one_class_atom, atom_starts, is_range, atom_from, character_inj, one_member, member_starts}
 use Rattle.regex_pattern_front.specs.declared.codepointset.Interval.{Interval}
 use Rattle.regex_parser.specs.declared.parser_error.ParseStopReason.{ParseStopReason}
 use Rattle.regex_parser.specs.CodePointReaderContracts.{is_syntax_error, first_char_if_any, IsEaten, IsCodePointReadIfAny, IsUnescapedRead, IsReadAndErrorMeansUnreadable}
-use Rattle.regex_parser.specs.ClassReaderContracts.{is_in_any_interval, class_escape_of_letter, begins_nested_class_or_operation, IsCaseClosureOfTest, AddsMembers}
-use Rattle.regex_parser.specs.ClassReaderContracts.{IsClassMemberRead, AreClassRangesRead}
+use Rattle.regex_parser.specs.ClassReaderContracts.{is_in_any_interval, class_escape_of_letter, begins_nested_class_or_operation, IsCaseClosureOfTest, AddsMembers, IsClassMemberRead, AreClassRangesRead}
 use Rattle.regex_parser.proofs.ClassMemberListLemmas.{held-append, added-set, added-more, other_in_class}
 use Rattle.regex_parser.proofs.LetterCaseClosureLemmas.{closed-twice}
 use Rattle.regex_parser.proofs.NumberReaderLemmas.{no_sign}
@@ -190,14 +186,6 @@ pub ok-on : {A E : Type 0} (P : Type 0) {Q : Type 0} (r : Result A E) → OnOk r
 ok-on P (Ok a) h f = f h
 ok-on P (Err e) h f = tt
 
-pub not_true : (b : Bool) → not b ≡ true → b ≡ false
-not_true true e = absurd (true≢false (sym e))
-not_true false e = refl
-
-pub not_false : (b : Bool) → not b ≡ false → b ≡ true
-not_false true e = refl
-not_false false e = absurd (true≢false e)
-
 -- ---- Class escapes
 
 pub atom-class : {flags : Flags} (here there : RemainingCodePoints) (o r : Option ℕ) (m : ClassMember) → o ≡ first_char_if_any here → class_escape_of_letter o ≡ Some m → IsCodePointReadIfAny here r there
@@ -316,10 +304,6 @@ no_class here o e f letter there m g h =
     by : (b : Bool) → is_scalar letter ≡ b → class_escape_of_letter (if b then Some letter else None) ≡ None → ⊥
     by true k g = let x : class_escape letter ≡ None = g in cc
     by false k g = scalar k
-
-pub sets-none : (b c : Bool) → c ≡ false → (b && c) ≡ false
-sets-none true c e = e
-sets-none false c e = refl
 
 -- Ranges after a possible `^` make a class, unless `unicode_sets` finds a set operation in them.
 pub class-read : {flags : Flags} {here middle there : RemainingCodePoints} {ms : List ClassMember} {set : Intervals} (invert : Bool)

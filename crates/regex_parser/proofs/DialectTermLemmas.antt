@@ -7,8 +7,7 @@ use Rattle.regex_meaning.specs.ReadingStatesAndDigits.{RemainingCodePoints, Pars
 use Rattle.regex_meaning.specs.EscapesNamesQuantifiers.{group_name}
 use Rattle.regex_meaning.specs.Grammar.{PatternDialect, profile, Assertion, start, end, boundary, look}
 use Rattle.regex_meaning.specs.GroupOpeningScanWithoutParsing.{texts_after_parentheses}
-use Rattle.regex_meaning.specs.EcmaGrammarWithAnnexB.{ecmascript, AtomEscape, reference_node, group_number, decimal_escape, character_class_escape}
-use Rattle.regex_meaning.specs.EcmaGrammarWithAnnexB.{property_escape, character_escape, named_reference}
+use Rattle.regex_meaning.specs.EcmaGrammarWithAnnexB.{ecmascript, AtomEscape, reference_node, group_number, decimal_escape, character_class_escape, property_escape, character_escape, named_reference}
 use Rattle.regex_meaning.proofs.DisjunctionReadingLemmas.{first}
 use Rattle.regex_meaning.proofs.BackreferenceNumberLemmas.{number_of-bounds}
 use Rattle.regex_meaning.proofs.GroupOpeningScanLemmas.{IsScanned, past, past_escape}
@@ -18,8 +17,7 @@ use Rattle.regex_parser.specs.declared.groupless_terms.GrouplessTerm.{GrouplessT
 use Rattle.regex_parser.specs.declared.parser_error.ParseStopReason.{ParseStopReason}
 use Rattle.regex_parser.specs.SyntaxDialects.{AreGroupsKnownIn}
 use Rattle.regex_parser.specs.EcmaTermContracts.{AreGroupsKnown, IsEcmaAtomOr, IsEcmaTermRead}
-use Rattle.regex_parser.specs.GrouplessTermContracts.{IsAtomOr, IsAtomOrIn, IsTermReadIn, IsGrouplessTermReadIfPresent, NamesAreNumberedWithinGroupLimit}
-use Rattle.regex_parser.specs.GrouplessTermContracts.{TextBetweenOpensNoGroup, is_paren_or_bar}
+use Rattle.regex_parser.specs.GrouplessTermContracts.{IsAtomOr, IsAtomOrIn, IsTermReadIn, IsGrouplessTermReadIfPresent, NamesAreNumberedWithinGroupLimit, TextBetweenOpensNoGroup, is_paren_or_bar}
 use Rattle.regex_parser.specs.ParserInvariants.{parse_state}
 
 -- A term without groups that begins with neither a parenthesis nor a bar opens no group.

@@ -1,8 +1,6 @@
 -- The ECMAScript class reader reads the members and sets that the grammar specifies.
-use Rattle.std.proofs.Common.{◌≡◌, ◌⊎◌, ℕ, ◌<◌, ◌≤◌, Bool, true, false, ◌&&◌, ◌||◌, List, [], ◌∷◌, ◌++◌, length, true≢false, ⊎_elim, inl, inr, refl, sym}
-use Rattle.std.proofs.Common.{ap, ap₂, subst, ◌∙◌, arith, append_assoc, append-nil, Option, Some, None, is_some, nat_eq, not, codes}
+use Rattle.std.proofs.Common.{◌≡◌, ◌⊎◌, ℕ, ◌<◌, ◌≤◌, Bool, true, false, ◌&&◌, ◌||◌, List, [], ◌∷◌, ◌++◌, length, true≢false, ⊎_elim, inl, inr, refl, sym, ap, ap₂, subst, ◌∙◌, arith, append_assoc, append-nil, Option, Some, None, is_some, nat_eq, not, codes, eqb-true, eq-eqb}
 use Rattle.std.specs.Prelude.{IsTrue, Result, Ok, Err, if◌then◌else◌}
-use Rattle.std.proofs.Common.{eqb-true, eq-eqb}
 use Rattle.std.proofs.lemmas.Bool.{or_cases, or_left}
 use Rattle.std.proofs.Math.Bool.{or-false}
 use Rattle.regex_meaning.specs.Tree.{Flags, Intervals}
@@ -11,12 +9,8 @@ use Rattle.regex_meaning.specs.Canonical.{canonicalize, canonical_character}
 use Rattle.regex_meaning.specs.ReadingStatesAndDigits.{RemainingCodePoints, ◌∈◌, begins_with_characters}
 use Rattle.regex_meaning.specs.CharacterClasses.{AreCanonicalIntervals, IsRangeDash, digit_class, word_class, space_class}
 use Rattle.regex_meaning.specs.CharacterClasses as Profile
-use Rattle.regex_meaning.specs.EcmaClasses.{ClassMember, character, range, class, class_member_contains, are_characters, IsSetOf, ClassAtom, verbatim, ClassMembers}
-use Rattle.regex_meaning.specs.EcmaClasses.{alone, from_to, no_range, ClassRanges, no_more, more, escaped, backslash, InvertibleSet, is_in_invertible_set}
-use Rattle.regex_meaning.specs.EcmaClasses.{class_escape_set, word_characters}
-use Rattle.regex_meaning.specs.EcmaClasses.{CharacterClassEscape, by_letter, SimpleClassEscape, backspace, dash, class_control_letter}
-use Rattle.regex_meaning.specs.EcmaClasses.{ClassEscape, simple_escape, class_escape, character_escape, grammar_parameters, by_property}
-use Rattle.regex_meaning.specs.EcmaClasses.{CharacterClass, plain, inverted}
+use Rattle.regex_meaning.specs.EcmaClasses.{ClassMember, character, range, class, class_member_contains, are_characters, IsSetOf, ClassAtom, verbatim, ClassMembers, alone, from_to, no_range, ClassRanges, no_more, more, escaped, backslash, InvertibleSet, is_in_invertible_set}
+use Rattle.regex_meaning.specs.EcmaClasses.{class_escape_set, word_characters, CharacterClassEscape, by_letter, SimpleClassEscape, backspace, dash, class_control_letter, ClassEscape, simple_escape, class_escape, character_escape, grammar_parameters, by_property, CharacterClass, plain, inverted}
 use Rattle.regex_meaning.specs.UnicodeProperties.{Property as SpecProperty, has_property}
 use Rattle.regex_meaning.specs.EcmaEscapesAndNames.{CharacterEscape, non_identity_escape, identity_escape, is_identity_escape, PropertyExpression}
 use Rattle.regex_meaning.proofs.DisjunctionReadingLemmas.{first, rest_of}
@@ -24,14 +18,10 @@ use Rattle.regex_meaning.proofs.ClassAndAtomLemmas.{class_letter}
 use Rattle.regex_meaning.proofs.EcmaClassEscapeSets.{classes-are-closed}
 use Rattle.regex_meaning.proofs.EscapesAndNamesLemmas.{behind, apart, firsts, is_control_letter}
 use Rattle.regex_meaning.proofs.EcmaEscapesAndNamesLemmas.{proper-kind, escape_kind}
-use Rattle.regex_meaning.proofs.EcmaClassAndAtomLemmas.{property-from}
-use Rattle.regex_meaning.proofs.EcmaClassAndAtomLemmas.{class_letter as ecma_class_letter}
-use Rattle.regex_meaning.proofs.EcmaClassAndAtomLemmas.{one_class_atom, atom_starts, is_range, atom_from, character_inj, one_member, member_starts}
-use Rattle.regex_parser.specs.ClassReaderContracts.{is_in_any_interval}
+use Rattle.regex_meaning.proofs.EcmaClassAndAtomLemmas.{property-from, class_letter as ecma_class_letter, one_class_atom, atom_starts, is_range, atom_from, character_inj, one_member, member_starts}
+use Rattle.regex_parser.specs.ClassReaderContracts.{is_in_any_interval, uninverted_digit_word_or_space_set, class_escape_of_letter}
 use Rattle.regex_parser.specs.CaseVariantContracts.{AddsMatchingCharacters}
-use Rattle.regex_parser.specs.EcmaClassContracts.{AddsEcmaMembers, IsCanonicalClosure, set_of_letter, IsClassControlRead, IsSimpleClassEscapeRead}
-use Rattle.regex_parser.specs.EcmaClassContracts.{IsEcmaMemberRead}
-use Rattle.regex_parser.specs.EcmaClassContracts.{AreEcmaRangesRead, IsRangeOrCause, member_of_atom}
+use Rattle.regex_parser.specs.EcmaClassContracts.{AddsEcmaMembers, IsCanonicalClosure, set_of_letter, IsClassControlRead, IsSimpleClassEscapeRead, IsEcmaMemberRead, AreEcmaRangesRead, IsRangeOrCause, member_of_atom}
 use Rattle.regex_parser.specs.declared.ecmascript_classes.AtomValue.{AtomValue}
 use Rattle.regex_parser.specs.declared.ecmascript_classes.AtomValue.TheVariants.{Character, Letter, Property}
 use Rattle.regex_parser.specs.declared.diagnosis.Cause.{Cause}
@@ -40,7 +30,6 @@ use Rattle.regex_parser.specs.declared.parser_error.ParseStopReason.{ParseStopRe
 use Rattle.std.specs.Result.{IsErrAnd}
 use Rattle.regex_parser.proofs.ClassMemberListLemmas.{held-append, added-set, added-more, other_in_class}
 use Rattle.regex_parser.proofs.NumberReaderLemmas.{no_sign}
-use Rattle.regex_parser.specs.ClassReaderContracts.{uninverted_digit_word_or_space_set, class_escape_of_letter}
 use Rattle.regex_parser.specs.declared.character_class_parser.CharacterClassType.{CharacterClassType}
 use Rattle.regex_parser.specs.declared.character_class_parser.CharacterClassType.TheVariants.{Digits, WordCharacters, Spaces}
 use Rattle.regex_meaning.specs.Text.{is_word_char, nonascii_folds_to_ascii_word_char, is_scalar}

@@ -1,6 +1,5 @@
 -- The ECMAScript reader of group names reads the names that the grammar specifies.
-use Rattle.std.proofs.Common.{◌≡◌, ◌⊎◌, ℕ, ◌+◌, ◌-◌, ◌*◌, ◌<◌, inl, inr, Bool, true, false, ◌&&◌, ◌||◌, List, [], ◌∷◌, ◌++◌, true≢false, refl, sym, ap, ap₂}
-use Rattle.std.proofs.Common.{subst, ◌∙◌, arith, Some, append_assoc, append-nil}
+use Rattle.std.proofs.Common.{◌≡◌, ◌⊎◌, ℕ, ◌+◌, ◌-◌, ◌*◌, ◌<◌, inl, inr, Bool, true, false, ◌&&◌, ◌||◌, List, [], ◌∷◌, ◌++◌, true≢false, refl, sym, ap, ap₂, subst, ◌∙◌, arith, Some, append_assoc, append-nil}
 use Rattle.std.specs.Prelude.{encode_utf8_all, encode_utf8, nat_le, nat_lt, nat_eq, Result, Ok, Err, IsErr}
 use Rattle.std.specs.List.{list_all}
 use Rattle.std.specs.Char.{OutOfScalarRange}
@@ -12,8 +11,7 @@ use Rattle.ucd_derived.specs.IdStartRanges.{id_start_ranges}
 use Rattle.ucd_derived.specs.IdContinueRanges.{id_continue_ranges}
 use Rattle.regex_meaning.specs.ReadingStatesAndDigits.{RemainingCodePoints}
 use Rattle.regex_meaning.specs.EscapesNamesQuantifiers.{UnicodeEscape, is_high_surrogate, is_low_surrogate}
-use Rattle.regex_meaning.specs.EcmaEscapesAndNames.{verbatim, escaped, surrogates, NameRest, name_end, name_part}
-use Rattle.regex_meaning.specs.EcmaEscapesAndNames.{GroupName, group_name}
+use Rattle.regex_meaning.specs.EcmaEscapesAndNames.{verbatim, escaped, surrogates, NameRest, name_end, name_part, GroupName, group_name}
 use Rattle.regex_meaning.proofs.EscapesAndNamesLemmas.{behind, firsts, apart, one_unicode}
 use Rattle.regex_meaning.proofs.EcmaEscapesAndNamesLemmas.{TestsNames, start-tests, part-tests, no-sign, one_name_character}
 use Rattle.regex_parser.specs.CodePointReaderContracts.{IsReadOrSyntaxError}

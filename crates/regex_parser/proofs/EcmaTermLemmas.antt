@@ -1,9 +1,6 @@
 -- The ECMAScript term reader reads the terms without groups that the grammar specifies.
-use Rattle.std.proofs.Common.{◌≡◌, ◌⊎◌, ℕ, ◌+◌, ◌-◌, ◌<◌, ◌≤◌, Bool, true, false, not, ◌&&◌, List, [], ◌∷◌, ◌++◌, length, true≢false, ⊎_elim, inl, inr, refl, sym}
-use Rattle.std.proofs.Common.{ap, ap₂, subst}
-use Rattle.std.proofs.Common.{◌∙◌, arith, Option, Some, None, nat_eq, codes, is_some}
+use Rattle.std.proofs.Common.{◌≡◌, ◌⊎◌, ℕ, ◌+◌, ◌-◌, ◌<◌, ◌≤◌, Bool, true, false, not, ◌&&◌, List, [], ◌∷◌, ◌++◌, length, true≢false, ⊎_elim, inl, inr, refl, sym, ap, ap₂, subst, ◌∙◌, arith, Option, Some, None, nat_eq, codes, is_some, Global}
 use Rattle.std.specs.Prelude.{IsTrue, Result, Ok, Err, IfOk, IfErr, if◌then◌else◌, String, Vec}
-use Rattle.std.proofs.Common.{Global}
 use Rattle.std.specs.BTreeMap.{BTreeMap, get_by_text}
 use Rattle.std.specs.Result.{IsErrAnd}
 use Rattle.std.specs.Char.{is_digit}
@@ -16,23 +13,16 @@ use Rattle.regex_meaning.specs.Canonical.{AreCaseVariants}
 use Rattle.regex_meaning.proofs.CaseVariantListLemmas.{few-case-variants}
 use Rattle.regex_meaning.specs.ReadingStatesAndDigits.{RemainingCodePoints, ParseState, PatternContext, ◌∈◌, begins_with_characters, group_number_of}
 use Rattle.regex_meaning.specs.EscapesNamesQuantifiers.{BeginsQuantifier}
-use Rattle.regex_meaning.specs.Grammar.{Term, Assertion, Atom, assertion, repeated_assertion, atom, quantified, start, end as line_end, boundary, look, leaf, group}
-use Rattle.regex_meaning.specs.Grammar.{named_group, plain_group}
-use Rattle.regex_meaning.specs.EcmaEscapesAndNames.{CharacterEscape, NonIdentityEscape, non_identity_escape, identity_escape, is_identity_escape, GroupName}
-use Rattle.regex_meaning.specs.EcmaEscapesAndNames.{GrammarParameters, PropertyExpression}
-use Rattle.regex_meaning.specs.EcmaClasses.{IsSetOf, class, is_in_invertible_set, CharacterClassEscape, by_letter, by_property, grammar_parameters}
-use Rattle.regex_meaning.specs.EcmaClasses.{CharacterClass}
+use Rattle.regex_meaning.specs.Grammar.{Term, Assertion, Atom, assertion, repeated_assertion, atom, quantified, start, end as line_end, boundary, look, leaf, group, named_group, plain_group}
+use Rattle.regex_meaning.specs.EcmaEscapesAndNames.{CharacterEscape, NonIdentityEscape, non_identity_escape, identity_escape, is_identity_escape, GroupName, GrammarParameters, PropertyExpression}
+use Rattle.regex_meaning.specs.EcmaClasses.{IsSetOf, class, is_in_invertible_set, CharacterClassEscape, by_letter, by_property, grammar_parameters, CharacterClass}
 use Rattle.regex_meaning.specs.UnicodeProperties.{has_property, Property}
-use Rattle.regex_meaning.specs.EcmaGrammarWithAnnexB.{ecmascript, has_named_groups, grammar_parameters_of, group_number}
-use Rattle.regex_meaning.specs.EcmaGrammarWithAnnexB.{BeginsGroupNumber, reference_node}
-use Rattle.regex_meaning.specs.EcmaGrammarWithAnnexB.{AtomEscape}
-use Rattle.regex_meaning.specs.EcmaGrammarWithAnnexB.{decimal_escape, character_class_escape, property_escape, character_escape, named_reference}
+use Rattle.regex_meaning.specs.EcmaGrammarWithAnnexB.{ecmascript, has_named_groups, grammar_parameters_of, group_number, BeginsGroupNumber, reference_node, AtomEscape, decimal_escape, character_class_escape, property_escape, character_escape, named_reference}
 use Rattle.regex_meaning.specs.EcmaGrammarWithAnnexB.{SimpleAtom, pattern_character, extended_pattern_character, any_character, atom_escape, backslash, character_class}
 use Rattle.regex_meaning.proofs.DisjunctionReadingLemmas.{first, rest_of, unlike}
 use Rattle.regex_meaning.proofs.EscapesAndNamesLemmas.{behind, firsts, inside}
 use Rattle.regex_meaning.proofs.BackreferenceNumberLemmas.{number-positive, number_of-bounds}
-use Rattle.regex_meaning.proofs.EcmaClassAndAtomLemmas.{number-kind, letter-kind, property-kind, property-here, property-from, apart-kinds, kind, no-k, no-class}
-use Rattle.regex_meaning.proofs.EcmaClassAndAtomLemmas.{atom-tagged, atom_tag, atom_kind, c-first}
+use Rattle.regex_meaning.proofs.EcmaClassAndAtomLemmas.{number-kind, letter-kind, property-kind, property-here, property-from, apart-kinds, kind, no-k, no-class, atom-tagged, atom_tag, atom_kind, c-first}
 use Rattle.regex_meaning.proofs.EcmaEscapesAndNamesLemmas.{proper-kind, one_name}
 use Rattle.regex_meaning.proofs.FirstDigitOfNumber.{digit_begins}
 use Rattle.regex_meaning.proofs.PatternTreeLemmas.{leaf-reference}
@@ -51,17 +41,13 @@ use Rattle.regex_pattern_front.specs.AstToSpecTree.{spec_node_of, spec_flags_of,
 use Rattle.regex_parser.specs.ClassReaderContracts.{uninverted_digit_word_or_space_set, class_escape_of_letter}
 use Rattle.regex_parser.specs.CodePointReaderContracts.{is_syntax_error, first_char_if_any, IsCodePointReadIfAny}
 use Rattle.regex_parser.specs.EcmaClassContracts.{set_of_letter}
-use Rattle.regex_parser.specs.GrouplessTermContracts.{pattern_context, anchor_sign, boundary_letter, IsNumberUnlessMissingOrZero}
-use Rattle.regex_parser.specs.GrouplessTermContracts.{is_star_plus_or_question, is_brace_or_closing_bracket, is_paren_or_bar}
+use Rattle.regex_parser.specs.GrouplessTermContracts.{pattern_context, anchor_sign, boundary_letter, IsNumberUnlessMissingOrZero, is_star_plus_or_question, is_brace_or_closing_bracket, is_paren_or_bar}
 use Rattle.regex_parser.specs.ParserInvariants.{parse_state}
-use Rattle.regex_parser.specs.EcmaTermContracts.{AreGroupsKnown, NoEcmaTerm, IsEcmaAtomOr, IsEcmaTermRead, IsEcmaCharacterNode, NoAtomEscape, IsAtomEscapeRead}
-use Rattle.regex_parser.specs.EcmaTermContracts.{is_nonzero_digit}
-use Rattle.regex_parser.specs.EcmaTermContracts.{IsClassEscapeRead, NoGroupNumber, IsGroupNumberRead, IsEcmaNameWithNumber, IsEcmaNameNumberRead}
-use Rattle.regex_parser.specs.EcmaTermContracts.{IsEcmaReferenceRead}
+use Rattle.regex_parser.specs.EcmaTermContracts.{AreGroupsKnown, NoEcmaTerm, IsEcmaAtomOr, IsEcmaTermRead, IsEcmaCharacterNode, NoAtomEscape, IsAtomEscapeRead, is_nonzero_digit, IsClassEscapeRead, NoGroupNumber, IsGroupNumberRead, IsEcmaNameWithNumber, IsEcmaNameNumberRead, IsEcmaReferenceRead}
 use Rattle.regex_parser.proofs.EcmaClassLemmas.{letter-set, no-character, property-begin, control-parts}
 use Rattle.regex_parser.proofs.EcmaEscapeLemmas.{digit-none}
 use Rattle.regex_parser.proofs.NumberReaderLemmas.{no_sign, nonzero_digit_bounds}
-use Rattle.regex_parser.proofs.GrouplessTermLemmas.{none_of, unlike-first, begins_otherwise, no_plain}
+use Rattle.regex_parser.proofs.GrouplessTermLemmas.{none_of, unlike-first, begins_otherwise, no_plain, is_slash}
 use Rattle.regex_parser.specs.declared.ecmascript_escapes.GrammarParameters.{GrammarParameters as TheParameters}
 use Rattle.regex_parser.specs.EcmaReaderContracts.{spec_parameters_of}
 
@@ -394,9 +380,6 @@ no-term-plain w c rest e none behind opened q n t = by t
     by (repeated_assertion a may k) = no_assertion a
     by (atom a k) = in_atom a
     by (quantified a k) = in_atom a
-
-abbrev is_slash : ℕ → Bool
-is_slash c = c ∈ "\\"
 
 -- If no atom begins at a backslash that neither `b` nor `B` follows, no term begins there.
 no-term-escape : (w : PatternContext) (rest : RemainingCodePoints) → ((there : RemainingCodePoints) → rest ≡ 98 ∷ there → ⊥) → ((there : RemainingCodePoints) → rest ≡ 66 ∷ there → ⊥)

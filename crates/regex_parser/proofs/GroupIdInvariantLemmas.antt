@@ -1,10 +1,11 @@
 -- Opening and closing a group keep the invariant on group ids.
 use Rattle.std.proofs.Common.{◌≡◌, ℕ, ◌+◌, ◌≤◌, List, [], ◌∷◌, ◌++◌, refl, arith, vec_len}
+use Rattle.std.proofs.lemmas.List.{nil_from_length}
 use Rattle.regex_parser.specs.declared.open_groups.OpenGroup.{OpenGroup}
 use Rattle.regex_pattern_front.specs.SubtreeListInvariants.{AreSoundSubtrees}
 use Rattle.regex_parser.specs.declared.parse.Parser.{Parser}
 use Rattle.regex_parser.specs.GroupIdInvariant.{captures_opened_by_group_kind, nodes_read_in_disjunction, AreOpenGroupsSound, OpenDisjunctionsHaveAllGroups}
-use Rattle.regex_pattern_front.proofs.SubtreeListLemmas.{parts-more, empty-list}
+use Rattle.regex_pattern_front.proofs.SubtreeListLemmas.{parts-more}
 
 pub open-more : (greatest more first inner : ℕ) (os : List OpenGroup) → greatest ≤ more → AreOpenGroupsSound greatest first os inner → AreOpenGroupsSound more first os inner
 open-more greatest more first inner [] less h = h
@@ -37,6 +38,6 @@ open-none greatest first inner (o ∷ os) e h = cc
 -- If no parenthesis is open, the current level contains all groups.
 pub parts-whole : (p : Parser) → OpenDisjunctionsHaveAllGroups p → vec_len p.around ≡ 0 → AreSoundSubtrees 0 p.groups p.leaves.references (nodes_read_in_disjunction p.level)
 parts-whole p r none =
-    let closed : p.around.items ≡ [] = empty-list p.around.items (omega (arith, none, p.around.ok.0)) in
+    let closed : p.around.items ≡ [] = nil_from_length p.around.items (omega (arith, none, p.around.ok.0)) in
     let from_none : 0 ≡ r.inner = open-none p.leaves.references 0 r.inner p.around.items closed r.around in
     rw from_none r.level

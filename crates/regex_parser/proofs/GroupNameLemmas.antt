@@ -1,6 +1,5 @@
 -- The reader of group names reads a name letter by letter as the profile's grammar specifies.
-use Rattle.std.proofs.Common.{◌≡◌, ℕ, inl, inr, Bool, true, false, [], ◌∷◌, ◌++◌, true≢false, arith, ◌<◌, ◌≤◌, refl, sym, ap, ◌∙◌, append_assoc}
-use Rattle.std.proofs.Common.{append-nil}
+use Rattle.std.proofs.Common.{◌≡◌, ℕ, inl, inr, Bool, true, false, [], ◌∷◌, ◌++◌, true≢false, arith, ◌<◌, ◌≤◌, refl, sym, ap, ◌∙◌, append_assoc, append-nil}
 use Rattle.std.specs.Prelude.{◌&&◌, ◌==◌, not, if◌then◌else◌}
 use Rattle.std.specs.Char.{encode_utf8, OutOfScalarRange}
 use Rattle.std.specs.List.{list_all}

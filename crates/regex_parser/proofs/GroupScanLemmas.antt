@@ -1,6 +1,5 @@
 -- The scan for groups collects the groups and names that the specified scan finds.
-use Rattle.std.proofs.Common.{◌≡◌, ◌≢◌, ℕ, suc, ◌+◌, ◌-◌, ◌^◌, ◌<◌, inl, inr, min, Bool, true, false, not, ◌&&◌, ◌||◌, List, [], ◌∷◌, ◌++◌, length}
-use Rattle.std.proofs.Common.{true≢false, nat_eq, nat_lt, refl, sym, ap, ap₂, subst, ◌∙◌, arith, append_assoc, append-nil, Some, None}
+use Rattle.std.proofs.Common.{◌≡◌, ◌≢◌, ℕ, suc, ◌+◌, ◌-◌, ◌^◌, ◌<◌, inl, inr, min, Bool, true, false, not, ◌&&◌, ◌||◌, List, [], ◌∷◌, ◌++◌, length, true≢false, nat_eq, nat_lt, refl, sym, ap, ap₂, subst, ◌∙◌, arith, append_assoc, append-nil, Some, None}
 use Rattle.std.specs.Prelude.{if◌then◌else◌, codes, Option, Result, Ok, Err, OnOk, option_map, is_some, String, string_bytes}
 use Rattle.std.specs.List.{starts_with}
 use Rattle.std.specs.Map.{lookup}
@@ -9,26 +8,23 @@ use Rattle.std.proofs.lemmas.List.{length-append}
 use Rattle.std.proofs.lemmas.List.Folds.{list_any-append}
 use Rattle.std.proofs.lemmas.Str.{length-le-encodes}
 use lib.Pointwise.{pointwise}
-use Rattle.std.specs.Cmp.Lexicographic.{same_text, other_text}
+use Rattle.std.specs.Cmp.Lexicographic.{same_text, other_text, slice_cmp}
 use Rattle.std.specs.BTreeMap.{BTreeMap, get_by_text, btree_map_len, is_at, UpdatesBy}
 use Rattle.std.specs.Str.{bytes_eq}
 use Rattle.std.specs.String.{string_cmp}
 use Rattle.std.specs.Ordering.{nat_cmp}
-use Rattle.std.specs.Cmp.Lexicographic.{slice_cmp}
 use Rattle.std.proofs.lemmas.Map.Text.{btree_map_updates_text}
 use Rattle.regex_meaning.specs.ReadingStatesAndDigits.{RemainingCodePoints, group_number_of}
 use Rattle.regex_meaning.specs.EscapesNamesQuantifiers as Profile
 use Rattle.regex_meaning.specs.EcmaEscapesAndNames.{group_name}
 use Rattle.regex_meaning.specs.Grammar.{PatternDialect, lookaround_opener}
-use Rattle.regex_meaning.specs.GroupOpeningScanWithoutParsing.{texts_after_parentheses}
+use Rattle.regex_meaning.specs.GroupOpeningScanWithoutParsing.{texts_after_parentheses, in_class_after}
 use Rattle.regex_meaning.proofs.DisjunctionReadingLemmas.{rest_of}
 use Rattle.regex_parser.specs.declared.syntax.Syntax.{Syntax}
 use Rattle.regex_parser.specs.declared.syntax.Syntax.TheVariants.{Profile as InProfile, EcmaScript2018}
 use Rattle.regex_parser.specs.declared.group_openings_and_names.GroupAndNameScanState.{GroupAndNameScanState}
 use Rattle.regex_parser.specs.CodePointReaderContracts.{IsEaten, IsUnescapedRead}
-use Rattle.regex_parser.specs.GroupReaderContracts.{IsLookaroundPolaritySignRead, DoesNotBeginWith, in_class_after, text_after_open_parenthesis, group_numbers_adding_absent_name}
-use Rattle.regex_parser.specs.GroupReaderContracts.{AreGroupsCollected, OpensScannedGroups, CollectsGroups, RecordsFurtherGroupsInScan}
-use Rattle.regex_parser.specs.GroupReaderContracts.{GroupNameScanProcessesCodePoint, IsPatternScanned}
+use Rattle.regex_parser.specs.GroupReaderContracts.{IsLookaroundPolaritySignRead, DoesNotBeginWith, text_after_open_parenthesis, group_numbers_adding_absent_name, AreGroupsCollected, OpensScannedGroups, CollectsGroups, RecordsFurtherGroupsInScan, GroupNameScanProcessesCodePoint, IsPatternScanned}
 use Rattle.regex_parser.specs.ScannedGroups.{ScansGroups, NoGroupName, scans_nothing, scans_group, scans_named_group, scans_wrong_name, scans_other}
 use Rattle.regex_parser.specs.SyntaxDialects.{spec_syntax_of}
 

@@ -1,20 +1,16 @@
 -- The term reader reads the terms without groups that the profile's grammar specifies.
-use Rattle.std.proofs.Common.{◌≡◌, ℕ, ◌<◌, ◌≤◌, ◌⊎◌, inl, inr, Bool, true, false, not, List, ◌∷◌, length, true≢false, ⊎_elim, nat_eq, nat_lt}
-use Rattle.std.proofs.Common.{refl, sym, ap, ap₂, subst, ◌∙◌, arith, Vec, Global}
+use Rattle.std.proofs.Common.{◌≡◌, ℕ, ◌<◌, ◌≤◌, ◌⊎◌, inl, inr, Bool, true, false, not, List, ◌∷◌, length, true≢false, ⊎_elim, nat_eq, nat_lt, refl, sym, ap, ap₂, subst, ◌∙◌, arith, Vec, Global}
 use Rattle.std.specs.Prelude.{codes, ◌||◌, ◌&&◌, Result, Ok, Err, IfOk, IfErr, IsTrue}
 use Rattle.std.specs.List.{list_all}
 use Rattle.std.specs.Result.{IsErrAnd}
 use Rattle.std.proofs.lemmas.Bool.{false_from_ne_true, lt-ltb, not-true}
-use Rattle.regex_meaning.specs.Tree.{by_case}
+use Rattle.regex_meaning.specs.Tree.{by_case, Node, BracketContents, back_ref, bracket}
 use Rattle.regex_meaning.specs.NumberListHelpers.{contains}
 use Rattle.regex_meaning.specs.Text.{expand_code_point}
-use Rattle.regex_meaning.specs.Tree.{Node, BracketContents, back_ref, bracket}
 use Rattle.regex_meaning.specs.ReadingStatesAndDigits.{RemainingCodePoints, ParseState, PatternContext, ◌∈◌}
 use Rattle.regex_meaning.specs.EscapesNamesQuantifiers.{BeginsQuantifier}
 use Rattle.regex_meaning.specs.CharacterClasses.{CharacterClass}
-use Rattle.regex_meaning.specs.Grammar.{character_node, SimpleAtom, pattern_character, extended_character, any_character, decimal_escape, named_reference}
-use Rattle.regex_meaning.specs.Grammar.{character_escape, character_class_escape, character_class, profile, Term, assertion, atom, quantified, Assertion}
-use Rattle.regex_meaning.specs.Grammar.{repeated_assertion}
+use Rattle.regex_meaning.specs.Grammar.{character_node, SimpleAtom, pattern_character, extended_character, any_character, decimal_escape, named_reference, character_escape, character_class_escape, character_class, profile, Term, assertion, atom, quantified, Assertion, repeated_assertion}
 use Rattle.regex_meaning.specs.Grammar.{start, end, boundary, look, Atom, leaf, group, named_group, plain_group}
 use Rattle.regex_meaning.proofs.DisjunctionReadingLemmas.{first, rest_of}
 use Rattle.regex_meaning.proofs.EscapesAndNamesLemmas.{inside, firsts, behind}
@@ -29,16 +25,12 @@ use Rattle.regex_pattern_front.specs.declared.flags.Flags.{Flags}
 use Rattle.regex_pattern_front.specs.declared.ir.AnchorType.{AnchorType}
 use Rattle.regex_pattern_front.specs.declared.ir.AnchorType.TheVariants.{StartOfLine, EndOfLine}
 use Rattle.regex_pattern_front.specs.declared.ir.Node.{Node as TheNode}
-use Rattle.regex_pattern_front.specs.declared.ir.Node.TheVariants.{Char, CharSet, Bracket, MatchAny, MatchAnyExceptLineTerminator, Anchor}
-use Rattle.regex_pattern_front.specs.declared.ir.Node.TheVariants.{WordBoundary, BackRef}
+use Rattle.regex_pattern_front.specs.declared.ir.Node.TheVariants.{Char, CharSet, Bracket, MatchAny, MatchAnyExceptLineTerminator, Anchor, WordBoundary, BackRef}
 use Rattle.regex_parser.specs.declared.groupless_terms.GrouplessTerm.{GrouplessTerm as TheLeaf}
 use Rattle.regex_pattern_front.specs.declared.types.BracketContents.{BracketContents as TheContents}
 use Rattle.regex_pattern_front.specs.AstToSpecTree.{spec_node_of, spec_flags_of, class_as_spec}
-use Rattle.regex_parser.specs.GrouplessTermContracts.{NoSimpleAtom, NoTerm, pattern_context, TextBetweenIsGrouplessTerm, IsAtomOr, IsTermReadOrNone}
-use Rattle.regex_parser.specs.GrouplessTermContracts.{IsAtomReadIfPresent}
-use Rattle.regex_parser.specs.GrouplessTermContracts.{IsGrouplessTermReadIfPresent, TextBetweenOpensNoGroup}
+use Rattle.regex_parser.specs.GrouplessTermContracts.{NoSimpleAtom, NoTerm, pattern_context, TextBetweenIsGrouplessTerm, IsAtomOr, IsTermReadOrNone, IsAtomReadIfPresent, IsGrouplessTermReadIfPresent, TextBetweenOpensNoGroup, is_brace_or_closing_bracket}
 use Rattle.regex_parser.specs.GrouplessTermContracts.{IsAssertion, anchor_sign, boundary_letter, is_paren_or_bar, is_star_plus_or_question}
-use Rattle.regex_parser.specs.GrouplessTermContracts.{is_brace_or_closing_bracket}
 use Rattle.regex_parser.specs.ParserInvariants.{parse_state}
 
 -- Texts are different if a test tells their first characters apart.
@@ -74,7 +66,7 @@ no_term-plain w c rest e none behind opened q n t = by t
     by (atom a k) = in_atom a
     by (quantified a k) = in_atom a
 
-abbrev is_slash : ℕ → Bool
+abbrev pub is_slash : ℕ → Bool
 is_slash c = c ∈ "\\"
 
 -- If no atom begins at a backslash that neither `b` nor `B` follows, no term begins there.
@@ -118,7 +110,7 @@ is_bracket d = d ∈ "{}]"
 abbrev is_open : ℕ → Bool
 is_open d = d ∈ "["
 
-abbrev special : ℕ → Bool
+abbrev pub special : ℕ → Bool
 special c = c ∈ "^$\\.*+?()[]{}|"
 
 -- A brace or a `]` begins no simple atom with `u`, nor where a quantifier begins.

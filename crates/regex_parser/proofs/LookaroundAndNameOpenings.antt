@@ -2,17 +2,11 @@
 use Rattle.std.specs.Prelude.{IsTrue}
 use Rattle.std.proofs.Common.{◌≡◌, ℕ, Bool, true, false, List, [], ◌∷◌, nat_eq, true≢false, refl, sym, ap, ap₂, subst, ◌∙◌, ◌↔◌}
 use Rattle.regex_meaning.specs.Tree.{Node, lookaround, loop, capture_group}
-use Rattle.regex_meaning.specs.ReadingStatesAndDigits.{RemainingCodePoints, ParseState, PatternContext, number_of_opened_groups, ◌▸◌, state_with_text_left, with_opened_group}
-use Rattle.regex_meaning.specs.ReadingStatesAndDigits.{begins_with_characters, ◌∈◌}
-use Rattle.regex_meaning.specs.Grammar.{PatternDialect, Disjunction, Term, Assertion, Atom, lookaround_opener, assertion, repeated_assertion, atom, quantified, start}
-use Rattle.regex_meaning.specs.Grammar.{end}
-use Rattle.regex_meaning.specs.Grammar.{boundary, look, leaf}
-use Rattle.regex_meaning.specs.Grammar.{group, named_group, plain_group}
-use Rattle.regex_parser.specs.ParseStack.{PartialDisjunction, empty_disjunction, OpenGroup, OpenGroupKind, captures, plain, looks, IsTerm, once, repeated, ClosesGroup}
-use Rattle.regex_parser.specs.ParseStack.{looked, looked_repeatedly, captured}
-use Rattle.regex_parser.specs.ParseStack.{enclosed, CompletesAllDisjunctions, lookaround_up_to}
-use Rattle.regex_meaning.proofs.DisjunctionReadingLemmas.{IsReadInOneWay, ends_here, behind_word, places_differ, unlike, first, third, rest_of, leaf_begins, name_from, of_look}
-use Rattle.regex_meaning.proofs.DisjunctionReadingLemmas.{look_word, meant}
+use Rattle.regex_meaning.specs.ReadingStatesAndDigits.{RemainingCodePoints, ParseState, PatternContext, number_of_opened_groups, ◌▸◌, state_with_text_left, with_opened_group, ◌∈◌}
+use Rattle.regex_meaning.specs.Grammar.{PatternDialect, Disjunction, Term, Assertion, Atom, lookaround_opener, assertion, repeated_assertion, atom, quantified, start, end, boundary, look, leaf, group, named_group, plain_group}
+use Rattle.regex_parser.specs.ParseStack.{PartialDisjunction, empty_disjunction, OpenGroup, OpenGroupKind, captures, plain, looks, IsTerm, once, repeated, ClosesGroup, looked, looked_repeatedly, captured, enclosed, CompletesAllDisjunctions, lookaround_up_to}
+use Rattle.regex_meaning.proofs.DisjunctionReadingLemmas.{IsReadInOneWay, ends_here, behind_word, places_differ, unlike, first, third, rest_of, leaf_begins, name_from, of_look, look_word, meant}
+use Rattle.regex_meaning.proofs.EscapesAndNamesLemmas.{no_lazy}
 use Rattle.regex_parser.proofs.ParseStackLemmas.{begin}
 use Rattle.regex_parser.proofs.GroupOpeningAndClosing.{next_term, pushed_all, unpushed_all, make_term}
 
@@ -23,9 +17,6 @@ is_plain : OpenGroupKind → Bool
 is_plain plain = true
 is_plain (captures id name) = false
 is_plain (looks x y z) = false
-
-no_question : {q rest : RemainingCodePoints} → begins_with_characters "?" q ≡ false → q ≡ 63 ∷ rest → ⊥
-no_question o e = true≢false (subst (λ x. begins_with_characters "?" x ≡ false) e o)
 
 id_of : OpenGroupKind → ℕ
 id_of (captures id name) = id
@@ -124,7 +115,7 @@ module _ (S : PatternDialect) (one : IsReadInOneWay S) where
 
     in_atom : {s x : ParseState} {n m : Node} → Atom S w l.in_lookbehind p x n → IsTerm (number_of_opened_groups p) n x s m → Found s m
     in_atom (leaf a) k = absurd (true≢false (sym (one.leaf_apart w _ _ _ a) ∙ ap (λ x. leaf_begins x.text) e))
-    in_atom (group f g d close) k = absurd (no_question g (ap (λ x. rest_of x.text) (sym f ∙ e)))
+    in_atom (group f g d close) k = absurd (no_lazy g (ap (λ x. rest_of x.text) (sym f ∙ e)))
     in_atom (named_group f g d close) k = absurd (places_differ third e f refl)
     in_atom (plain_group {r = x} {t = y} {n = c} f d close) k = (x, y, c, subst (λ a. Disjunction S w l.in_lookbehind a x c) (behind_word "(?:" f e) d, close, enclosed refl k)
 
@@ -161,7 +152,7 @@ module _ (S : PatternDialect) (one : IsReadInOneWay S) where
 
     in_named : {s x : ParseState} {n m : Node} → Atom S w l.in_lookbehind p x n → IsTerm (number_of_opened_groups p) n x s m → Found_named s m
     in_named (leaf a) k = absurd (true≢false (sym (one.leaf_apart w _ _ _ a) ∙ ap (λ x. leaf_begins x.text) e))
-    in_named (group f g d close) k = absurd (no_question g (ap (λ x. rest_of x.text) (sym f ∙ e)))
+    in_named (group f g d close) k = absurd (no_lazy g (ap (λ x. rest_of x.text) (sym f ∙ e)))
     in_named (plain_group f d close) k = absurd (places_differ third e f refl)
     in_named {s} {m = m} (named_group {q = q'} {r = x} {t = y} {there = there} {name = other} {n = c} f g d close) k =
         let here : q ≡ q' = behind_word "(?<" e f in
@@ -191,19 +182,19 @@ module _ (S : PatternDialect) (one : IsReadInOneWay S) where
 
   no_other : (negate backwards : Bool) (q : ParseState) {p x : ParseState} {w : PatternContext} {in_lookbehind : Bool} {n : Node} → p ≡ lookaround_opener negate backwards ▸ q → Atom S w in_lookbehind p x n → ⊥
   no_other false false q {w = w} e (leaf a) = true≢false (sym (one.leaf_apart w _ _ _ a) ∙ ap (λ x. leaf_begins x.text) e)
-  no_other false false q e (group f g d close) = no_question g (ap (λ x. rest_of x.text) (sym f ∙ e))
+  no_other false false q e (group f g d close) = no_lazy g (ap (λ x. rest_of x.text) (sym f ∙ e))
   no_other false false q e (plain_group f d close) = places_differ third e f refl
   no_other false false q e (named_group f g d close) = places_differ third e f refl
   no_other true false q {w = w} e (leaf a) = true≢false (sym (one.leaf_apart w _ _ _ a) ∙ ap (λ x. leaf_begins x.text) e)
-  no_other true false q e (group f g d close) = no_question g (ap (λ x. rest_of x.text) (sym f ∙ e))
+  no_other true false q e (group f g d close) = no_lazy g (ap (λ x. rest_of x.text) (sym f ∙ e))
   no_other true false q e (plain_group f d close) = places_differ third e f refl
   no_other true false q e (named_group f g d close) = places_differ third e f refl
   no_other false true q {w = w} e (leaf a) = true≢false (sym (one.leaf_apart w _ _ _ a) ∙ ap (λ x. leaf_begins x.text) e)
-  no_other false true q e (group f g d close) = no_question g (ap (λ x. rest_of x.text) (sym f ∙ e))
+  no_other false true q e (group f g d close) = no_lazy g (ap (λ x. rest_of x.text) (sym f ∙ e))
   no_other false true q e (plain_group f d close) = places_differ third e f refl
   no_other false true q e (named_group {there = there} {name = name} f g d close) = one.no_sign 61 there name _ refl (subst (λ x. S.group_name x there name) (ap (λ x. rest_of (rest_of (rest_of x.text))) (sym f ∙ e)) g)
   no_other true true q {w = w} e (leaf a) = true≢false (sym (one.leaf_apart w _ _ _ a) ∙ ap (λ x. leaf_begins x.text) e)
-  no_other true true q e (group f g d close) = no_question g (ap (λ x. rest_of x.text) (sym f ∙ e))
+  no_other true true q e (group f g d close) = no_lazy g (ap (λ x. rest_of x.text) (sym f ∙ e))
   no_other true true q e (plain_group f d close) = places_differ third e f refl
   no_other true true q e (named_group {there = there} {name = name} f g d close) = one.no_sign 33 there name _ refl (subst (λ x. S.group_name x there name) (ap (λ x. rest_of (rest_of (rest_of x.text))) (sym f ∙ e)) g)
 

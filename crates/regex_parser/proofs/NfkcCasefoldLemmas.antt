@@ -1,7 +1,5 @@
 -- The computed set of Changes_When_NFKC_Casefolded has exactly the specified members.
-use Rattle.std.proofs.Common.{◌≡◌, ◌⊎◌, ℕ, ◌+◌, ◌≤◌, Bool, true, false, not, ◌&&◌, ◌||◌, nat_le, nat_lt, nat_eq, List, [], ◌∷◌, ◌++◌, length, refl, sym, ap, ap₂, subst}
-use Rattle.std.proofs.Common.{◌∙◌, arith}
-use Rattle.std.proofs.Common.{bytes_eq, eqb-true, encode_utf8_all, append-nil, inl, inr}
+use Rattle.std.proofs.Common.{◌≡◌, ◌⊎◌, ℕ, ◌+◌, ◌≤◌, Bool, true, false, not, ◌&&◌, ◌||◌, nat_le, nat_lt, nat_eq, List, [], ◌∷◌, ◌++◌, length, refl, sym, ap, ap₂, subst, ◌∙◌, arith, bytes_eq, eqb-true, encode_utf8_all, append-nil, inl, inr}
 use Rattle.std.specs.Prelude.{if◌then◌else◌, encode_utf8, flat_map}
 use Rattle.std.specs.Int.{is_in_range}
 use Rattle.std.specs.List.{list_all}
@@ -18,8 +16,7 @@ use Rattle.ucd_case.specs.FullFoldingRows.{full_folding_rows}
 use Rattle.ucd_derived.specs.Binary.{is_default_ignorable_code_point}
 use Rattle.ucd_derived.specs.DefaultIgnorableCodePointRanges.{default_ignorable_code_point_ranges}
 use Rattle.ucd_normal.specs.Decomposition.{decomposition, any_mapping, expand, compatibility_decomposition, or_itself}
-use Rattle.ucd_normal.specs.DecompositionRows.{decomposition_rows}
-use Rattle.ucd_normal.specs.DecompositionRows.{Tag}
+use Rattle.ucd_normal.specs.DecompositionRows.{decomposition_rows, Tag}
 use Rattle.ucd_normal.specs.DecompositionRows.Tag.{canonical}
 use Rattle.unicode_normalization.specs.Forms.{Nfkc, nfkc, normalize, decomposed}
 use Rattle.unicode_normalization.specs.Decompose.{decompose}

@@ -1,6 +1,5 @@
 -- The loops that read numbers digit by digit compute the values that the grammar specifies.
-use Rattle.std.proofs.Common.{◌≡◌, ℕ, ◌+◌, ◌-◌, ◌*◌, ◌<◌, ◌≤◌, Bool, true, false, [], ◌∷◌, ◌++◌, length, drop, min, refl, sym, ap, ap₂, subst, ◌∙◌}
-use Rattle.std.proofs.Common.{arith, append_assoc, inl, inr, Some, None, ◌^◌}
+use Rattle.std.proofs.Common.{◌≡◌, ℕ, ◌+◌, ◌-◌, ◌*◌, ◌<◌, ◌≤◌, Bool, true, false, [], ◌∷◌, ◌++◌, length, drop, min, refl, sym, ap, ap₂, subst, ◌∙◌, arith, append_assoc, inl, inr, Some, None, ◌^◌}
 use Prim.Native.String.{String}
 use Rattle.std.specs.Prelude.{codes, nat_eq}
 use Rattle.std.specs.List.{list_all, starts_with}

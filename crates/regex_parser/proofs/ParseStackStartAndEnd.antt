@@ -3,8 +3,7 @@ use Rattle.std.proofs.Common.{◌≡◌, Bool, true, false, List, [], ◌∷◌,
 use Rattle.regex_meaning.specs.Tree.{Node, Flags, goal, cat, end_of_cat}
 use Rattle.regex_meaning.specs.ReadingStatesAndDigits.{RemainingCodePoints, ParseState, PatternContext, ◌▸◌, arm}
 use Rattle.regex_meaning.specs.Grammar.{PatternDialect, Alternative, ParsesBy, pattern_is, AreDistinct, no_terms, terms}
-use Rattle.regex_parser.specs.ParseStack.{PartialDisjunction, empty_disjunction, end_alternative, nest_alternatives, CompletesDisjunction, last_arm, further_arms, OpenGroup}
-use Rattle.regex_parser.specs.ParseStack.{CompletesAllDisjunctions}
+use Rattle.regex_parser.specs.ParseStack.{PartialDisjunction, empty_disjunction, end_alternative, nest_alternatives, CompletesDisjunction, last_arm, further_arms, OpenGroup, CompletesAllDisjunctions}
 use Rattle.regex_meaning.proofs.DisjunctionReadingLemmas.{IsReadInOneWay, closes, no_close}
 use Rattle.regex_parser.proofs.ParseStackLemmas.{begin, no_term, barred, unbarred}
 

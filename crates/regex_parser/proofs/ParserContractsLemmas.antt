@@ -1,6 +1,5 @@
 -- Each function of the parser satisfies its contract in terms of the grammar.
-use Rattle.std.proofs.Common.{◌≡◌, ℕ, ◌+◌, ◌<◌, ◌≤◌, ◌⊎◌, Bool, true, false, List, [], ◌∷◌, ◌++◌, length, true≢false, refl, sym, ap, subst, ◌∙◌}
-use Rattle.std.proofs.Common.{arith, Some, None, Ok, Err, nat_eq}
+use Rattle.std.proofs.Common.{◌≡◌, ℕ, ◌+◌, ◌<◌, ◌≤◌, ◌⊎◌, Bool, true, false, List, [], ◌∷◌, ◌++◌, length, true≢false, refl, sym, ap, subst, ◌∙◌, arith, Some, None, Ok, Err, nat_eq}
 use Rattle.std.specs.Prelude.{Option, Result, String, IsTrue, IfOk, IfErr, IfSome, ◌||◌, ◌-◌, ◌^◌, min, nat_lt, string_bytes}
 use Rattle.std.specs.Option.{option_eq}
 use Rattle.std.specs.Result.{IsErrAnd, result_err}
@@ -17,8 +16,7 @@ use Rattle.std.specs.BTreeMap.{BTreeMap, btree_map_len}
 use Rattle.regex_meaning.proofs.DisjunctionReadingLemmas.{ends_here, first}
 use Rattle.regex_meaning.proofs.GroupOpeningScanLemmas.{Ahead}
 use Rattle.regex_parser.proofs.DialectRequirementLemmas.{IsReadable, readable}
-use Rattle.regex_parser.proofs.ParserInvariantsLemmas.{stands-group, stands-named, stands-plain, stands-look, stands-leave, shape, may_have_quantifier, of_term, of_alone}
-use Rattle.regex_parser.proofs.ParserInvariantsLemmas.{contents_of, wrong-name, group-repeated, not-repeated, stands-begin, still-open, no-opening}
+use Rattle.regex_parser.proofs.ParserInvariantsLemmas.{stands-group, stands-named, stands-plain, stands-look, stands-leave, shape, may_have_quantifier, of_term, of_alone, contents_of, wrong-name, group-repeated, not-repeated, stands-begin, still-open, no-opening}
 use Rattle.regex_parser.proofs.QuantifiedTermLemmas.{ahead_term, stands-atom, atom-refused, stands-assertion, assertion-refused}
 use Rattle.regex_parser.specs.declared.parser_error.ParseStopReason.{ParseStopReason}
 use Rattle.regex_parser.specs.declared.group_openings_and_names.GroupKind.{GroupKind}
@@ -34,10 +32,7 @@ use Rattle.regex_parser.specs.GroupReaderContracts.{AreGroupsCollected, IsOpenin
 use Rattle.regex_parser.specs.GrouplessTermContracts.{IsAtomOrIn, NoTermIn, IsReaderOfSame}
 use Rattle.regex_parser.specs.GroupIdInvariant.{OpenDisjunctionsHaveAllGroups, captures_opened_by_group_kind}
 use Rattle.regex_parser.specs.PartialDisjunctionModel.{disjunction_of}
-use Rattle.regex_parser.specs.ParserContracts.{IsTermWithOptionalQuantifierRead, IsOptionalGroupNameRead, is_named_group, grammar_open_groups_from, open_group_of}
-use Rattle.regex_parser.specs.ParserContracts.{group_kind_of, KnowsGroups, HasNoTreeFor}
-use Rattle.regex_parser.specs.ParserContracts.{group_node_around, HasReadPatternUpTo, AdvancesOrHasNoTree}
-use Rattle.regex_parser.specs.ParserContracts.{IsParseResult}
+use Rattle.regex_parser.specs.ParserContracts.{IsTermWithOptionalQuantifierRead, IsOptionalGroupNameRead, is_named_group, grammar_open_groups_from, open_group_of, group_kind_of, KnowsGroups, HasNoTreeFor, group_node_around, HasReadPatternUpTo, AdvancesOrHasNoTree, IsParseResult}
 use Rattle.regex_parser.specs.CodePointReaderContracts.{IsOptionalQuantifierRead, is_syntax_error}
 use Rattle.regex_pattern_front.specs.AstToSpecTree.{spec_node_of, group_name_bytes, spec_quantifier_of, spec_flags_of}
 

@@ -1,6 +1,5 @@
 -- The parser keeps its invariant as it reads, and a pattern that it refuses has no tree.
-use Rattle.std.proofs.Common.{◌≡◌, ℕ, ◌+◌, ◌<◌, ◌≤◌, ◌⊎◌, inl, inr, Bool, true, false, List, [], ◌∷◌, ◌++◌, length, true≢false, ⊎_elim, nat_eq, refl}
-use Rattle.std.proofs.Common.{sym, ap, subst, ◌∙◌, arith, append_assoc, append-nil, length-append, ◌↔◌, Some, None}
+use Rattle.std.proofs.Common.{◌≡◌, ℕ, ◌+◌, ◌<◌, ◌≤◌, ◌⊎◌, inl, inr, Bool, true, false, List, [], ◌∷◌, ◌++◌, length, true≢false, ⊎_elim, nat_eq, refl, sym, ap, subst, ◌∙◌, arith, append_assoc, append-nil, length-append, ◌↔◌, Some, None}
 use Rattle.std.specs.Prelude.{codes, suc, slice_index_or, Option}
 use Rattle.std.specs.Cmp.Lexicographic.{same_text}
 use Rattle.std.proofs.lemmas.Cmp.{nat_list_eq_equiv}
@@ -9,17 +8,11 @@ use Rattle.std.proofs.lemmas.List.{get_or_append_left}
 use Rattle.std.proofs.Math.Seq.{get_or-append_seam}
 use lib.Pointwise.{pointwise}
 use Rattle.regex_meaning.specs.Tree.{Node, Tree, Flags, Quantifier, goal, cat, end_of_cat, lookaround, loop, capture_group}
-use Rattle.regex_meaning.specs.ReadingStatesAndDigits.{RemainingCodePoints, ParseState, PatternContext, number_of_opened_groups, state_with_text_left, begins_with_characters}
-use Rattle.regex_meaning.specs.ReadingStatesAndDigits.{group_number_of, arm}
+use Rattle.regex_meaning.specs.ReadingStatesAndDigits.{RemainingCodePoints, ParseState, PatternContext, number_of_opened_groups, state_with_text_left, begins_with_characters, group_number_of, arm}
 use Rattle.regex_meaning.specs.EscapesNamesQuantifiers.{BeginsQuantifier, ValidQuantifier}
-use Rattle.regex_meaning.specs.Grammar.{PatternDialect, Disjunction, Term, Assertion, Atom, assertion, repeated_assertion, atom, quantified, start, end, boundary, look}
-use Rattle.regex_meaning.specs.Grammar.{leaf}
-use Rattle.regex_meaning.specs.Grammar.{group, named_group}
-use Rattle.regex_meaning.specs.Grammar.{plain_group, ParsesBy, pattern_is, AreDistinct, lookaround_opener, no_terms}
+use Rattle.regex_meaning.specs.Grammar.{PatternDialect, Disjunction, Term, Assertion, Atom, assertion, repeated_assertion, atom, quantified, start, end, boundary, look, leaf, group, named_group, plain_group, ParsesBy, pattern_is, AreDistinct, lookaround_opener, no_terms}
 use Rattle.regex_meaning.specs.GroupOpeningScanWithoutParsing.{texts_after_parentheses, no_parenthesis}
-use Rattle.regex_parser.specs.ParseStack.{PartialDisjunction, empty_disjunction, push_term, end_alternative, nest_alternatives, CompletesDisjunction, last_arm, OpenGroup}
-use Rattle.regex_parser.specs.ParseStack.{OpenGroupKind, captures, plain, looks, IsTerm}
-use Rattle.regex_parser.specs.ParseStack.{once, repeated, ClosesGroup, looked, looked_repeatedly, captured, enclosed}
+use Rattle.regex_parser.specs.ParseStack.{PartialDisjunction, empty_disjunction, push_term, end_alternative, nest_alternatives, CompletesDisjunction, last_arm, OpenGroup, OpenGroupKind, captures, plain, looks, IsTerm, once, repeated, ClosesGroup, looked, looked_repeatedly, captured, enclosed}
 use Rattle.regex_parser.specs.ParserInvariants.{HasNoTreeIn, spec_pattern_context, parse_state, FindsGroups, CompletesTo, ParsesTo, AreOpenedNamesNumbered, IsParserInvariant}
 use Rattle.regex_parser.specs.ScannedGroups.{ScansGroups, scans_nothing}
 use Rattle.regex_meaning.proofs.EscapesAndNamesLemmas.{one_quantifier}
@@ -33,7 +26,7 @@ use Rattle.regex_parser.proofs.SyntaxErrorLemmas.{unopened, no_term_here}
 use Rattle.regex_parser.proofs.ScannedGroupsLemmas.{scanned-opened}
 use Rattle.regex_parser.proofs.DialectRequirementLemmas.{IsReadable, FoundBehind, found-behind}
 
-either : (a b : ℕ) → (a ≤ b) ⊎ (b < a)
+pub either : (a b : ℕ) → (a ≤ b) ⊎ (b < a)
 either a b = grind arith
 
 none-numbered : (names : List RemainingCodePoints) → AreOpenedNamesNumbered [] names

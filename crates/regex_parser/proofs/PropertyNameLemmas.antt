@@ -1,14 +1,11 @@
 -- The reader finds a property name exactly if the list of names contains it.
-use Rattle.std.proofs.Common.{◌≡◌, ◌⊎◌, ℕ, suc, ◌+◌, ◌-◌, ◌<◌, ◌≤◌, Bool, true, false, ◌&&◌, ◌||◌, List, [], ◌∷◌, ◌++◌, length, take, drop, get_or, refl}
-use Rattle.std.proofs.Common.{sym, ap, ap₂}
-use Rattle.std.proofs.Common.{◌∙◌, arith, length-drop, ◌≢◌, true≢false, inl, inr, nat_eq, Option, None, option_map, slice_index}
+use Rattle.std.proofs.Common.{◌≡◌, ◌⊎◌, ℕ, suc, ◌+◌, ◌-◌, ◌<◌, ◌≤◌, Bool, true, false, ◌&&◌, ◌||◌, List, [], ◌∷◌, ◌++◌, length, take, drop, get_or, refl, sym, ap, ap₂, ◌∙◌, arith, length-drop, ◌≢◌, true≢false, inl, inr, nat_eq, Option, None, option_map, slice_index, Fits, w8, subst, ⊎_elim}
 use Rattle.std.specs.Prelude.{if◌then◌else◌}
 use Rattle.std.specs.List.{list_any, list_all, slice_range}
 use Rattle.std.proofs.lemmas.Bool.{or_cases, and_parts, eq-eqb, ne_eqb}
 use Rattle.std.proofs.lemmas.List.{drop_more, take_more, get_or-drop}
 use Rattle.std.proofs.Math.ListN.{drop_of_length-le}
 use lib.Pointwise.{pointwise, bytes_decides}
-use Rattle.std.proofs.Common.{Fits, w8, subst, ⊎_elim}
 use Rattle.std.proofs.lemmas.Bool.Decides.{nat_tests}
 use Rattle.std.proofs.lemmas.List.Folds.{list_all-append}
 use Rattle.regex_meaning.specs.UnicodeProperties.{in_database}
@@ -51,7 +48,7 @@ words-blank words start end h e =
     ap (λ x. words_from (slice_range words start end) x) (drop_more words end 0 h) ∙ blank-case (slice_range words start end) (slice_index words end) (drop (end + 1) words) e
     ∙ ap (λ x. slice_range words start end ∷ words_from x (drop (end + 1) words)) (sym (slice-none words (end + 1)))
 
-abbrev is_name : List ℕ → List ℕ → Bool
+abbrev pub is_name : List ℕ → List ℕ → Bool
 is_name name word = pointwise nat_eq word name
 
 -- A step of the scan of words keeps whether the list contains the name.

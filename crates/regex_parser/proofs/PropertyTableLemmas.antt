@@ -1,10 +1,9 @@
 -- The tables have exactly the specified property names, each with its set in the database.
-use Rattle.std.proofs.Common.{◌≡◌, ℕ, ◌+◌, ◌*◌, Bool, true, false, not, ◌&&◌, ◌||◌, List, [], ◌∷◌, refl, sym, ap, ap₂, subst, ◌∙◌, true≢false, nat_eq, codes, map, filter}
-use Rattle.std.proofs.Common.{Option, Some, None, option_map, is_some, eq-eqb}
+use Rattle.std.proofs.Common.{◌≡◌, ℕ, ◌+◌, ◌*◌, Bool, true, false, not, ◌&&◌, ◌||◌, List, [], ◌∷◌, refl, sym, ap, ap₂, subst, ◌∙◌, true≢false, nat_eq, codes, map, filter, Option, Some, None, option_map, is_some, eq-eqb}
 use Rattle.std.specs.Prelude.{if◌then◌else◌, bytes_eq}
 use Rattle.std.specs.List.{list_any}
-use Rattle.std.proofs.lemmas.Bool.{and_parts}
-use lib.Pointwise.{pointwise, bytes_decides}
+use Rattle.std.proofs.lemmas.Bool.{and_parts, not-true}
+use lib.Pointwise.{bytes_decides}
 use Prim.Native.String.{String}
 use Rattle.ucd_sets.specs.Loose.{normalize, loosely}
 use Rattle.ucd_sets.specs.Loose as loose
@@ -12,11 +11,10 @@ use Rattle.ucd_sets.specs.Names.{binary_names, category_names, script_names, pro
 use Rattle.ucd_sets.specs.Lookup.{by_name, by_value, value_of, property_named}
 use Rattle.ucd_sets.specs.declared.set.Set.TheVariants as set
 use Rattle.ucd_sets.specs.declared.property.BinaryProperty.{BinaryProperty}
-use Rattle.regex_meaning.specs.UnicodeProperties.{is_word, value_named, binary_property_names, in_database, changes_when_nfkc_casefolded, general_category_named}
-use Rattle.regex_meaning.specs.UnicodeProperties.{binary_property_named, property_with_value}
-use Rattle.regex_meaning.specs.UnicodeProperties.{Property as SpecProperty}
+use Rattle.regex_meaning.specs.UnicodeProperties.{is_word, value_named, binary_property_names, in_database, changes_when_nfkc_casefolded, general_category_named, binary_property_named, property_with_value, Property as SpecProperty}
 use Rattle.regex_parser.specs.PropertyReaderContracts.{words_of, listed_value}
 use Rattle.regex_parser.specs.declared.unicode_properties.TheConstants.{CATEGORY_NAMES, BINARY_NAMES, SCRIPT_NAMES}
+use Rattle.regex_parser.proofs.PropertyNameLemmas.{is_name}
 
 -- ---- Rows whose names stay apart in the form in which the database compares them
 
@@ -38,10 +36,6 @@ all-differ (n ∷ ns) = differs-from n ns && all-differ ns
 
 abbrev numbers : {V : Type 0} → List (String × V) → List ℕ
 numbers rows = map (λ row. loose-number (codes row.0)) rows
-
-not-true : (b : Bool) → not b ≡ true → b ≡ false
-not-true true e = absurd (true≢false (sym e))
-not-true false e = refl
 
 no-value : {V : Type 0} {Q : Type 0} {v : V} → None ≡ Some v → Q
 no-value e = absurd (true≢false (sym (ap is_some e)))
@@ -91,9 +85,6 @@ loose-finds {V} (row ∷ rows) value v d e = go (is_word row.0 value) refl (λ k
         ap choose (apart (bytes_eq (normalize (codes row.0)) (normalize value)) refl h) ∙ k h
 
 -- ---- Lists of words that belong to rows
-
-abbrev is_name : List ℕ → List ℕ → Bool
-is_name name word = pointwise nat_eq word name
 
 -- `kept out rows` gives the rows whose names `out` does not leave out.
 abbrev kept : {V : Type 0} → (out : List ℕ → Bool) → List (String × V) → List (String × V)

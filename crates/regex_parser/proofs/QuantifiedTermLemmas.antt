@@ -11,7 +11,7 @@ use Rattle.regex_meaning.proofs.DisjunctionReadingLemmas.{ends_here, first}
 use Rattle.regex_meaning.proofs.GroupOpeningScanLemmas.{Ahead, past_quantifier}
 use Rattle.regex_parser.proofs.DialectRequirementLemmas.{IsReadable}
 use Rattle.regex_parser.proofs.SyntaxErrorLemmas.{no_term_here, no_quantified, no_repeated}
-use Rattle.regex_parser.proofs.ParserInvariantsLemmas.{refused, stands-term}
+use Rattle.regex_parser.proofs.ParserInvariantsLemmas.{refused, stands-term, either}
 
 -- A simple atom with its quantifier, if it has one, is a term.
 term_of : {S : PatternDialect} {w : PatternContext} {in_lookbehind : Bool} {here mid : RemainingCodePoints} {opened : List RemainingCodePoints} {start : ℕ} {t n : Node} {q : ParseState}
@@ -23,9 +23,6 @@ term_of {S} {w} {in_lookbehind} {here} {mid} {opened} {t = t} a e (repeated {the
 pub ahead_term : {start : ℕ} {t n : Node} {p q : ParseState} → IsTerm start t p q n → Ahead false p.text q.text
 ahead_term (once h) = refl
 ahead_term (repeated k) = past_quantifier false k
-
-either : (a b : ℕ) → (a ≤ b) ⊎ (b < a)
-either a b = grind arith
 
 module _ {S : PatternDialect} (d : IsReadable S) {flags : Flags} {pattern : RemainingCodePoints} {names : List RemainingCodePoints} {old groups : ℕ} {around : List OpenGroup} {level : PartialDisjunction} {here : RemainingCodePoints} (s : IsParserInvariant S flags pattern names old groups around level here) (new : ℕ) (mid : RemainingCodePoints) (t : Node) (ahead : Ahead false here mid) (grows : old ≤ new) (more : ends_here here ≡ false) (none : length names < new → (length names < old) ⊎ NoTermIn S (spec_pattern_context flags names) here) where
   vain : length names < new → (length names < old) ⊎ ((n : Node) → CompletesTo S flags names around level (parse_state here s.opened) n → ⊥)

@@ -1,13 +1,10 @@
 -- The quantifier reader reads the quantifiers that the grammar specifies.
-use Rattle.std.proofs.Common.{◌≡◌, ℕ, ◌-◌, ◌^◌, inl, inr, Bool, true, false, ◌∷◌, true≢false, refl, sym, ap, ap₂, subst, ◌∙◌}
-use Rattle.std.proofs.Common.{Some, None}
+use Rattle.std.proofs.Common.{◌≡◌, ℕ, ◌-◌, ◌^◌, inl, inr, Bool, true, false, ◌∷◌, true≢false, refl, sym, ap, ap₂, subst, ◌∙◌, Some, None}
 use Rattle.std.specs.Prelude.{Option, not}
 use Rattle.regex_meaning.specs.Tree.{Quantifier}
 use Rattle.regex_meaning.specs.WellFormedTrees.{is_min_at_most_max}
 use Rattle.regex_meaning.specs.ReadingStatesAndDigits.{RemainingCodePoints, Digits}
-use Rattle.regex_meaning.specs.EscapesNamesQuantifiers.{saturated_count, QuantifierPrefix, star, plus, question, exactly, at_least, between, BeginsQuantifier}
-use Rattle.regex_meaning.specs.EscapesNamesQuantifiers.{ValidQuantifier}
-use Rattle.regex_meaning.specs.EscapesNamesQuantifiers.{greedy, lazy}
+use Rattle.regex_meaning.specs.EscapesNamesQuantifiers.{saturated_count, QuantifierPrefix, star, plus, question, exactly, at_least, between, BeginsQuantifier, ValidQuantifier, greedy, lazy}
 use Rattle.regex_meaning.proofs.DisjunctionReadingLemmas.{unlike}
 use Rattle.regex_meaning.proofs.EscapesAndNamesLemmas.{behind, firsts, digits_on, one_prefix, no_digit}
 use Rattle.regex_parser.specs.CodePointReaderContracts.{IsEaten, IsNumberRead, IsQuantifierMaximumRead}

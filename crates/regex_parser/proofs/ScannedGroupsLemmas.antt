@@ -1,7 +1,5 @@
 -- The groups that the scan finds are those that open in the pattern, in both dialects.
-use Rattle.std.proofs.Common.{◌≡◌, ◌⊎◌, inl, inr, ℕ, ◌<◌, min, ◌^◌, ◌-◌, Bool, true, false, not, ◌&&◌, ◌||◌, List, [], ◌∷◌, ◌++◌, map, length, codes, true≢false, nat_eq}
-use Rattle.std.proofs.Common.{refl, sym}
-use Rattle.std.proofs.Common.{ap, ap₂, subst, ◌∙◌, eqb-true, arith}
+use Rattle.std.proofs.Common.{◌≡◌, ◌⊎◌, inl, inr, ℕ, ◌<◌, min, ◌^◌, ◌-◌, Bool, true, false, ◌||◌, List, [], ◌∷◌, ◌++◌, map, length, codes, true≢false, nat_eq, refl, sym, ap, ap₂, subst, ◌∙◌, eqb-true, arith}
 use Rattle.std.specs.Prelude.{if◌then◌else◌, String}
 use Rattle.std.specs.List.{flat_map}
 use Rattle.std.specs.BTreeMap.{BTreeMap}
@@ -10,12 +8,11 @@ use Rattle.regex_meaning.specs.ReadingStatesAndDigits.{RemainingCodePoints, begi
 use Rattle.regex_meaning.specs.EscapesNamesQuantifiers.{is_name}
 use Rattle.regex_meaning.specs.Grammar.{PatternDialect, profile, lookaround_opener}
 use Rattle.regex_meaning.specs.GroupNameScan.{group_name_at, name_of_opened_group, scanned_names_per_capturing_group}
-use Rattle.regex_meaning.specs.GroupOpeningScanWithoutParsing.{texts_after_parentheses, OpensGroups, no_parenthesis, opens_plain_group, opens_lookaround, opens_group}
-use Rattle.regex_meaning.specs.GroupOpeningScanWithoutParsing.{opens_named_group}
+use Rattle.regex_meaning.specs.GroupOpeningScanWithoutParsing.{texts_after_parentheses, OpensGroups, no_parenthesis, opens_plain_group, opens_lookaround, opens_group, opens_named_group}
 use Rattle.regex_parser.specs.ScannedGroups.{ScansGroups, NoGroupName, scans_nothing, scans_group, scans_named_group, scans_wrong_name, scans_other}
 use Rattle.regex_parser.specs.GroupReaderContracts.{DoesNotBeginWith, AreCountedAndNumbered, IsPatternScanned, count_of_groups}
 use Rattle.regex_meaning.proofs.DisjunctionReadingLemmas.{IsReadInOneWay, second, rest_of, unlike}
-use Rattle.regex_meaning.proofs.GroupNameScanLemmas.{name-found, none-found}
+use Rattle.regex_meaning.proofs.GroupNameScanLemmas.{name-found, none-found, names-at, unnamed}
 use Rattle.regex_meaning.proofs.ClassAndAtomLemmas.{reads}
 use Rattle.regex_meaning.proofs.EcmaClassAndAtomLemmas.{ecmascript-reads}
 use Rattle.regex_parser.specs.declared.syntax.Syntax.{Syntax}
@@ -108,36 +105,6 @@ module _ (S : PatternDialect) (one : IsReadInOneWay S) where
 
 -- ---- The names by the scan of the profile
 
-choose-names : (t : RemainingCodePoints) (x y z w : Bool) {n m o k : List RemainingCodePoints} (a b c d : List RemainingCodePoints) → n ≡ flat_map name_of_opened_group a → m ≡ flat_map name_of_opened_group b
-    → o ≡ flat_map name_of_opened_group c → k ≡ flat_map name_of_opened_group d
-    → (if x then n else if y then m else if z then o else if w then name_of_opened_group t ++ k else k)
-    ≡ flat_map name_of_opened_group (if x then a else if y then b else if z then c else if w then t ∷ d else d)
-choose-names t true y z w a b c d e f g h = e
-choose-names t false true z w a b c d e f g h = f
-choose-names t false false true w a b c d e f g h = g
-choose-names t false false false true a b c d e f g h = ap (λ x. name_of_opened_group t ++ x) h
-choose-names t false false false false a b c d e f g h = h
-
-scanned-at : (b : Bool) (t : RemainingCodePoints) → scanned_names_per_capturing_group b t ≡ flat_map name_of_opened_group (texts_after_parentheses b t)
-unfolding scanned_names_per_capturing_group texts_after_parentheses
-scanned-at b [] = refl
-scanned-at b (c ∷ []) = by (c ∈ "(" && not b)
-  where
-    by : (x : Bool) → (if x then [] ∷ [] else []) ≡ flat_map name_of_opened_group (if x then [] ∷ [] else [])
-    by true = refl
-    by false = refl
-scanned-at b (c ∷ d ∷ t) =
-    choose-names (d ∷ t) (c ∈ "\\") (c ∈ "[") (c ∈ "]") (c ∈ "(" && not b) (texts_after_parentheses b t) (texts_after_parentheses true (d ∷ t)) (texts_after_parentheses false (d ∷ t)) (texts_after_parentheses b (d ∷ t))
-    (scanned-at b t) (scanned-at true (d ∷ t)) (scanned-at false (d ∷ t)) (scanned-at b (d ∷ t))
-
-unnamed-at : (text : RemainingCodePoints) → begins_with_characters "?" text ≡ false → name_of_opened_group text ≡ [] ∷ []
-unnamed-at [] e = refl
-unnamed-at (c ∷ t) e = by (nat_eq 63 c) refl
-  where
-    by : (x : Bool) → nat_eq 63 c ≡ x → name_of_opened_group (c ∷ t) ≡ [] ∷ []
-    by true f = absurd (true≢false (sym (rw f refl) ∙ e))
-    by false f = rw f refl
-
 named-at : (here : RemainingCodePoints) → begins_with_characters "=" here ≡ false → begins_with_characters "!" here ≡ false → name_of_opened_group (63 ∷ 60 ∷ here) ≡ group_name_at here ∷ []
 named-at here e f = rw (e, f) refl
 
@@ -170,7 +137,7 @@ module _ (S : PatternDialect) (one : IsReadInOneWay S) {A : Type 0} (of : Remain
     -- The names that both scans find are the same as far as `of` tells names apart.
     scanned-as : {texts names : List RemainingCodePoints} → ScansGroups S texts names → map of names ≡ map of (flat_map name_of_opened_group texts)
     scanned-as scans_nothing = refl
-    scanned-as (scans_group {text = text} {texts = texts} {names = names} o h) = joined text texts names ([] ∷ []) ([] ∷ []) (unnamed-at text o) refl (scanned-as h)
+    scanned-as (scans_group {text = text} {texts = texts} {names = names} o h) = joined text texts names ([] ∷ []) ([] ∷ []) (unnamed text o) refl (scanned-as h)
     scanned-as (scans_named_group {text = text} {name = name} {texts = texts} {names = names} here there e g h) =
         joined text texts names (group_name_at here ∷ []) (name ∷ [])
         (ap name_of_opened_group e ∙ named-at here (not-begun 61 here (no-sign-here 61 here refl g)) (not-begun 33 here (no-sign-here 33 here refl g)))
@@ -184,7 +151,7 @@ pub names-counted : (S : PatternDialect) → IsReadInOneWay S → (pattern : Rem
 names-counted S one pattern names h =
     let at = flat_map name_of_opened_group (texts_after_parentheses false pattern) in
     let alike : map same names ≡ map same at = scanned-as S one same (λ here there name g. refl) (λ here none. refl) h in
-    sym (length-map names same) ∙ ap length alike ∙ length-map at same ∙ ap length (sym (scanned-at false pattern))
+    sym (length-map names same) ∙ ap length alike ∙ length-map at same ∙ ap length (sym (names-at false pattern))
   where
     same : RemainingCodePoints → ℕ
     same name = 0
@@ -194,7 +161,7 @@ names-in-profile : (pattern : RemainingCodePoints) (names : List RemainingCodePo
 names-in-profile pattern names h =
     sym (map-id names)
     ∙ scanned-as profile reads (λ x. x) (λ here there name g. sym (name-found here there name g)) (λ here none. sym (none-found here none)) h
-    ∙ map-id (flat_map name_of_opened_group (texts_after_parentheses false pattern)) ∙ sym (scanned-at false pattern)
+    ∙ map-id (flat_map name_of_opened_group (texts_after_parentheses false pattern)) ∙ sym (names-at false pattern)
 
 read-in-one-way : (syntax : Syntax) → IsReadInOneWay (spec_syntax_of syntax)
 read-in-one-way Profile = reads

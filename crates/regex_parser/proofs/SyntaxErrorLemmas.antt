@@ -3,8 +3,7 @@ use Rattle.std.proofs.Common.{◌≡◌, ℕ, Bool, true, false, not, List, [], 
 use Rattle.regex_meaning.specs.Tree.{Node, Quantifier, lookaround}
 use Rattle.regex_meaning.specs.ReadingStatesAndDigits.{RemainingCodePoints, ParseState, PatternContext, ◌▸◌, ◌∈◌}
 use Rattle.regex_meaning.specs.EscapesNamesQuantifiers.{BeginsQuantifier, ValidQuantifier}
-use Rattle.regex_meaning.specs.Grammar.{PatternDialect, Term, Assertion, assertion, repeated_assertion, atom, quantified, start, end}
-use Rattle.regex_meaning.specs.Grammar.{boundary, look, leaf, group, named_group, plain_group}
+use Rattle.regex_meaning.specs.Grammar.{PatternDialect, Term, Assertion, assertion, repeated_assertion, atom, quantified, start, end, boundary, look, leaf, group, named_group, plain_group}
 use Rattle.regex_parser.specs.ParseStack.{PartialDisjunction, OpenGroup, CompletesAllDisjunctions}
 use Rattle.regex_meaning.proofs.DisjunctionReadingLemmas.{IsReadInOneWay, leaf_begins, ends_here, one_assertion, assertion_or_atom, first, unlike}
 use Rattle.regex_meaning.proofs.EscapesAndNamesLemmas.{one_quantifier}

@@ -1,7 +1,6 @@
 -- Contracts of the reader of code points, in terms of the grammar. `here` is the text before what
 -- is read, and `there` the text after it.
-use Rattle.std.specs.Prelude.{◌≡◌, ◌≢◌, IsTrue, ℕ, ◌+◌, ◌-◌, ◌*◌, ◌^◌, ◌⊎◌, ◌≤◌, Bool, true, false, [], ◌∷◌, ◌++◌, codes, min, Option, Some, None}
-use Rattle.std.specs.Prelude.{Result, Ok, Err, if◌then◌else◌}
+use Rattle.std.specs.Prelude.{◌≡◌, ◌≢◌, IsTrue, ℕ, ◌+◌, ◌-◌, ◌*◌, ◌^◌, ◌⊎◌, ◌≤◌, Bool, true, false, [], ◌∷◌, ◌++◌, codes, min, Option, Some, None, Result, Ok, Err, if◌then◌else◌}
 use Rattle.std.specs.Char.{is_digit, digit_value}
 use Rattle.regex_meaning.specs.Text.{is_scalar}
 use Rattle.regex_meaning.specs.Tree as tree
@@ -10,8 +9,7 @@ use Rattle.regex_parser.specs.declared.parser_error.ParseStopReason.TheVariants.
 use Rattle.regex_pattern_front.specs.declared.ir.Quantifier.{Quantifier}
 use Rattle.regex_pattern_front.specs.AstToSpecTree.{spec_quantifier_of}
 use Rattle.regex_meaning.specs.ReadingStatesAndDigits.{RemainingCodePoints, Digits, leading_digits}
-use Rattle.regex_meaning.specs.EscapesNamesQuantifiers.{is_ascii_identifier_start, is_ascii_identifier_part, FixedHexDigits, is_high_surrogate, is_low_surrogate}
-use Rattle.regex_meaning.specs.EscapesNamesQuantifiers.{QuantifierPrefix, BeginsQuantifier, ValidQuantifier}
+use Rattle.regex_meaning.specs.EscapesNamesQuantifiers.{is_ascii_identifier_start, is_ascii_identifier_part, FixedHexDigits, is_high_surrogate, is_low_surrogate, QuantifierPrefix, BeginsQuantifier, ValidQuantifier}
 
 -- The code points of punctuation that readers of patterns name: `\`, `]`, `(`, `)` and `{`.
 abbrev pub backslash : ℕ

@@ -1,7 +1,6 @@
 -- Contracts of the readers of groups and of their names. `here` is the text before what is read,
 -- and `there` the text after it.
-use Rattle.std.specs.Prelude.{◌≡◌, not, ◌&&◌, ◌==◌, if◌then◌else◌, ℕ, ◌-◌, ◌^◌, ◌<◌, nat_lt, min, Bool, true, false, List, [], ◌∷◌, ◌++◌, length, codes}
-use Rattle.std.specs.Prelude.{Option, Some, None, is_some, Result, Ok, Err, String, IsTrue}
+use Rattle.std.specs.Prelude.{◌≡◌, not, ◌&&◌, ◌==◌, if◌then◌else◌, ℕ, ◌-◌, ◌^◌, ◌<◌, nat_lt, min, Bool, true, false, List, [], ◌∷◌, ◌++◌, length, codes, Option, Some, None, is_some, Result, Ok, Err, String, IsTrue}
 use Rattle.std.specs.List.{list_any}
 use Rattle.std.specs.Str.{bytes_eq}
 use Rattle.std.specs.BTreeMap.{BTreeMap, get_by_text, btree_map_len}
@@ -9,7 +8,7 @@ use Rattle.regex_meaning.specs.Tree.{Flags}
 use Rattle.regex_meaning.specs.ReadingStatesAndDigits.{RemainingCodePoints, group_number_of}
 use Rattle.regex_meaning.specs.EscapesNamesQuantifiers.{is_name}
 use Rattle.regex_meaning.specs.Grammar.{PatternDialect, lookaround_opener}
-use Rattle.regex_meaning.specs.GroupOpeningScanWithoutParsing.{texts_after_parentheses}
+use Rattle.regex_meaning.specs.GroupOpeningScanWithoutParsing.{texts_after_parentheses, in_class_after}
 use Rattle.regex_parser.specs.ParserInvariants.{AreWithinGroupLimit}
 use Rattle.regex_parser.specs.ScannedGroups.{ScansGroups}
 use Rattle.regex_parser.specs.declared.parser_error.ParseStopReason.{ParseStopReason}
@@ -56,10 +55,6 @@ takes_quantifier s flags Named = true
 takes_quantifier s flags Plain = true
 
 -- ---- The scan for names
-
--- Whether a class is open after the code point.
-abbrev pub in_class_after : (in_class : Bool) → ℕ → Bool
-in_class_after in_class c = if c == 91 then true else if c == 93 then false else in_class
 
 -- The text after the code point, if it is a parenthesis outside classes.
 abbrev pub text_after_open_parenthesis : (in_class : Bool) → ℕ → (rest : RemainingCodePoints) → List RemainingCodePoints

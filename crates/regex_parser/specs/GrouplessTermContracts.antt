@@ -1,7 +1,6 @@
 -- Contracts of the readers of terms without groups. `here` is the text before what is read, and
 -- `there` the text after it.
-use Rattle.std.specs.Prelude.{◌≡◌, ◌==◌, ◌||◌, ℕ, ◌<◌, ◌≤◌, ◌^◌, ◌⊎◌, Bool, true, false, List, ◌∷◌, ◌++◌, length, codes, Option, Some, None, Result}
-use Rattle.std.specs.Prelude.{Ok, Err, String, IsTrue, if◌then◌else◌}
+use Rattle.std.specs.Prelude.{◌≡◌, ◌==◌, ◌||◌, ℕ, ◌<◌, ◌≤◌, ◌^◌, ◌⊎◌, Bool, true, false, List, ◌∷◌, ◌++◌, length, codes, Option, Some, None, Result, Ok, Err, String, IsTrue, if◌then◌else◌}
 use Rattle.std.specs.Int.{is_in_range}
 use Rattle.std.specs.BTreeMap.{BTreeMap}
 use Rattle.regex_meaning.specs.Tree as tree

@@ -121,7 +121,8 @@ pub(crate) fn add_canonical_variants(
     set: &CodePointSet,
     unicode: bool,
 ) -> Result<(), AllocError>
-    ensures { OnOk result (AddsMatchingCharacters unicode (in_intervals set.now) intervals.old.items intervals.new.items) }
+    ensures { OnOk result (AddsMatchingCharacters unicode (in_intervals set.now) intervals.old.items
+        intervals.new.items) }
 {
     if begins_most_pairs(set) {
         add_nonmembers_that_match(intervals, set, unicode)
@@ -146,7 +147,8 @@ fn add_nonmembers_that_match(
     set: &CodePointSet,
     unicode: bool,
 ) -> Result<(), AllocError>
-    ensures { OnOk result (AddsMatchingCharacters unicode (in_intervals set.now) intervals.old.items intervals.new.items) }
+    ensures { OnOk result (AddsMatchingCharacters unicode (in_intervals set.now) intervals.old.items
+        intervals.new.items) }
 {
     let outside = set.inverted()?;
     for gap in outside.intervals() {
@@ -195,7 +197,8 @@ fn add_variants_of_members(
     set: &CodePointSet,
     unicode: bool,
 ) -> Result<(), AllocError>
-    ensures { OnOk result (AddsMatchingCharacters unicode (in_intervals set.now) intervals.old.items intervals.new.items) }
+    ensures { OnOk result (AddsMatchingCharacters unicode (in_intervals set.now) intervals.old.items
+        intervals.new.items) }
 {
     for interval in set.intervals() {
         add_variants_of_interval(intervals, *interval, unicode)?;

@@ -2,16 +2,13 @@
 
 ghost use Rattle.std.specs.Prelude.{◌≡◌, ◌≢◌, ◌≤◌, ◌∷◌, ◌++◌, [], Bool, false, ℕ, length, map, option_map, IfOk, OnOk};
 ghost use Rattle.regex_meaning.specs.Outcomes.{in_intervals};
-ghost use Rattle.regex_meaning.specs.CharacterClasses.{class as class_of, single_code_point_interval, CharacterClass, ClassAtom, IsSetOf, class_member_contains};
+ghost use Rattle.regex_meaning.specs.CharacterClasses.{class, single_code_point_interval, CharacterClass, ClassAtom, IsSetOf, class_member_contains};
 ghost use Rattle.std.specs.List.{list_any};
 ghost use Rattle.regex_pattern_front.specs.Intervals.{interval_of};
 ghost use Rattle.regex_pattern_front.specs.AstToSpecTree.{class_as_spec, spec_flags_of};
 ghost use Rattle.regex_parser.specs.CodePointReaderContracts.{IsReadAndErrorMeansUnreadable, IsReadOrSyntaxError, class_end};
-ghost use Rattle.regex_parser.specs.ClassReaderContracts.{uninverted_digit_word_or_space_set, class_member_of_character_class_escape, class_member_of_atom};
-ghost use Rattle.regex_parser.specs.ClassReaderContracts.{class_escape_of_letter};
-ghost use Rattle.regex_parser.specs.ClassReaderContracts.{is_in_any_interval, IsCaseClosureOfTest, AddsMembers, IsRangeEndRead};
-ghost use Rattle.regex_parser.specs.ClassReaderContracts.{IsClassMemberRead, AreClassRangesRead, FailsExactlyOnSetOperation, AreRangeEndsIfBothCharacters};
-ghost use Rattle.regex_parser.specs.ClassReaderContracts.{begins_nested_class_or_operation, some_case_variant_passes, letter_case_variants_if_any_passes};
+ghost use Rattle.regex_parser.specs.ClassReaderContracts.{uninverted_digit_word_or_space_set, class_member_of_character_class_escape, class_member_of_atom, class_escape_of_letter, is_in_any_interval, IsCaseClosureOfTest, AddsMembers, IsRangeEndRead};
+ghost use Rattle.regex_parser.specs.ClassReaderContracts.{IsClassMemberRead, AreClassRangesRead, FailsExactlyOnSetOperation, AreRangeEndsIfBothCharacters, begins_nested_class_or_operation, some_case_variant_passes, letter_case_variants_if_any_passes};
 
 use crate::code_point_reader::PatternReader;
 use crate::diagnosis::Cause;
@@ -132,7 +129,7 @@ impl DigitWordOrSpaceEscape {
         flags: Flags,
     ) -> Result<BracketContents, AllocError>
         ensures set { IfOk result (λ b. IsSetOf (spec_flags_of flags)
-            (class_of (uninverted_digit_word_or_space_set self.base) false ∷ []) b.cps) }
+            (class (uninverted_digit_word_or_space_set self.base) false ∷ []) b.cps) }
         ensures invert { IfOk result (λ b. b.invert ≡ self.invert) }
     {
         Ok(BracketContents {

@@ -4,12 +4,8 @@ ghost use Rattle.std.specs.Prelude.{◌≡◌, ◌<◌, ◌≤◌, ◌∷◌, �
 ghost use Rattle.std.specs.Option.{ForSome};
 ghost use Rattle.regex_meaning.specs.WellFormedTrees.{is_min_at_most_max};
 ghost use Rattle.regex_meaning.specs.EscapesNamesQuantifiers.{BeginsQuantifier};
-ghost use Rattle.regex_parser.specs.CodePointReaderContracts.{IsUnescapedRead, IsCodePointReadIfAny, first_char_if_any, IsEaten, IsDigitRead, IsNumberRead, IsHexRead, open_brace};
-ghost use Rattle.regex_parser.specs.CodePointReaderContracts.{AreQuantifierCountsRead};
-ghost use Rattle.regex_parser.specs.CodePointReaderContracts.{IsQuantifierMaximumRead, IsOptionalBracesQuantifierRead};
-ghost use Rattle.regex_parser.specs.CodePointReaderContracts.{IsOptionalQuantifierPrefixRead};
-ghost use Rattle.regex_parser.specs.CodePointReaderContracts.{IsQuantifierRead};
-ghost use Rattle.regex_parser.specs.CodePointReaderContracts.{is_syntax_error};
+ghost use Rattle.regex_parser.specs.CodePointReaderContracts.{IsUnescapedRead, IsCodePointReadIfAny, first_char_if_any, IsEaten, IsDigitRead, IsNumberRead, IsHexRead, open_brace, AreQuantifierCountsRead, IsQuantifierMaximumRead, IsOptionalBracesQuantifierRead, IsOptionalQuantifierPrefixRead};
+ghost use Rattle.regex_parser.specs.CodePointReaderContracts.{IsQuantifierRead, is_syntax_error};
 
 use crate::diagnosis::Cause;
 use crate::parser_error::ParseStopReason;
@@ -147,7 +143,7 @@ impl PatternReader<'_> {
 
     /// Reads `{n}`, `{n,}` or `{n,m}` and returns the two counts, or `None` if no such braces begin
     /// here.
-    fn braces(&mut self) -> Option<(usize, Option<usize>)>
+    fn read_counts_in_braces(&mut self) -> Option<(usize, Option<usize>)>
         ensures moves { length self.new.rest.now ≤ length self.old.rest.now }
         ensures text { IsOptionalBracesQuantifierRead self.old.rest.now result self.new.rest.now }
     {
@@ -215,7 +211,7 @@ impl PatternReader<'_> {
         } else if self.eat('?') {
             Some((0, Some(1)))
         } else {
-            self.braces()
+            self.read_counts_in_braces()
         }
     }
 

@@ -222,12 +222,12 @@ impl PatternLinePartForDiagnosis<'_> {
         match self {
             PatternLinePartForDiagnosis::CodePoints(points) => {
                 for c in points {
-                    write!(f, "{}", shown(*c))?;
+                    write!(f, "{}", char_shown_for_code_point(*c))?;
                 }
             }
             PatternLinePartForDiagnosis::Text(text) => {
                 for c in text.chars() {
-                    write!(f, "{}", shown(u32::from(c)))?;
+                    write!(f, "{}", char_shown_for_code_point(u32::from(c)))?;
                 }
             }
         }
@@ -236,7 +236,7 @@ impl PatternLinePartForDiagnosis<'_> {
 }
 
 // Returns the character that shows a code point in one column.
-fn shown(c: u32) -> char {
+fn char_shown_for_code_point(c: u32) -> char {
     match char::from_u32(c) {
         Some('\0'..='\x1F' | '\x7F') => ' ',
         Some(c) => c,

@@ -2,13 +2,11 @@
 
 ghost use Rattle.std.specs.Prelude.{◌≡◌, ◌≢◌, ◌≤◌, ◌∷◌, ◌&&◌, [], ℕ, not, length, IfOk, OnOk};
 ghost use Rattle.regex_meaning.specs.Outcomes.{in_intervals};
-ghost use Rattle.regex_meaning.specs.EcmaClasses.{CharacterClass, ClassAtom, ClassEscape as SpecClassEscape, character, class as class_of, IsSetOf, is_in_invertible_set};
+ghost use Rattle.regex_meaning.specs.EcmaClasses.{CharacterClass, ClassAtom, ClassEscape as SpecClassEscape, character, class, IsSetOf, is_in_invertible_set};
 ghost use Rattle.regex_pattern_front.specs.AstToSpecTree.{class_as_spec, spec_flags_of};
 ghost use Rattle.regex_parser.specs.CodePointReaderContracts.{IsReadOrSyntaxError, class_end};
 ghost use Rattle.regex_parser.specs.ClassReaderContracts.{is_in_any_interval};
-ghost use Rattle.regex_parser.specs.EcmaClassContracts.{member_of_atom, set_of_letter, AreEcmaRangesRead, IsEcmaMemberRead, IsEcmaRangeEndRead};
-ghost use Rattle.regex_parser.specs.EcmaClassContracts.{IsClassControlRead, AddsEcmaMembers, IsCanonicalClosure, IsPropertyLetterRead, IsRangeOrCause};
-ghost use Rattle.regex_parser.specs.EcmaClassContracts.{IsNoRangeOrUnicodeError, IsSimpleClassEscapeRead};
+ghost use Rattle.regex_parser.specs.EcmaClassContracts.{member_of_atom, set_of_letter, AreEcmaRangesRead, IsEcmaMemberRead, IsEcmaRangeEndRead, IsClassControlRead, AddsEcmaMembers, IsCanonicalClosure, IsPropertyLetterRead, IsRangeOrCause, IsNoRangeOrUnicodeError, IsSimpleClassEscapeRead};
 ghost use Rattle.regex_meaning.specs.ReadingStatesAndDigits.{begins_with_characters};
 
 use crate::case_variants::add_canonical_variants;
@@ -310,7 +308,7 @@ pub(crate) fn class_of_letter_escape(
     flags: Flags,
 ) -> Result<BracketContents, AllocError>
     ensures set { IfOk result (λ b. IsSetOf (spec_flags_of flags)
-        (class_of (set_of_letter (spec_flags_of flags) escape.base) ∷ []) b.cps) }
+        (class (set_of_letter (spec_flags_of flags) escape.base) ∷ []) b.cps) }
     ensures invert { IfOk result (λ b. b.invert ≡ escape.invert) }
     ensures members { IfOk result (λ b. (c : ℕ) → in_intervals b.cps c ≡ set_of_letter (spec_flags_of flags)
         escape.base c) }

@@ -3,15 +3,14 @@
 ghost use Rattle.std.specs.Prelude.{◌≡◌, ℕ, ◌<◌, ◌≤◌, ◌∷◌, max, List, [], false, true, length, IfOk, IfErr, IfSome, IsTrue};
 ghost use Rattle.std.specs.BTreeMap.{get_by_text};
 ghost use Rattle.regex_meaning.specs.Tree.{back_ref, by_canonical_case};
-ghost use Rattle.regex_meaning.specs.{ReadingStatesAndDigits.{RemainingCodePoints}, EcmaClasses.{IsSetOf, class as class_of, is_in_invertible_set}};
+ghost use Rattle.regex_meaning.specs.{ReadingStatesAndDigits.{RemainingCodePoints}, EcmaClasses.{IsSetOf, class, is_in_invertible_set}};
 ghost use Rattle.regex_meaning.specs.UnicodeProperties.{has_property};
 ghost use Rattle.regex_pattern_front.specs.AstToSpecTree.{spec_node_of, spec_flags_of};
 ghost use Rattle.regex_pattern_front.specs.SubtreeListInvariants.{IsWellFormedGrouplessSubtree};
 ghost use Rattle.regex_parser.specs.CodePointReaderContracts.{is_syntax_error, backslash};
 ghost use Rattle.regex_parser.specs.PropertyReaderContracts.{spec_property_of};
 ghost use Rattle.regex_parser.specs.GrouplessTermContracts.{pattern_context, is_paren_or_bar, IsReaderOfSame};
-ghost use Rattle.regex_parser.specs.EcmaTermContracts.{AreGroupsKnown, IsEcmaTermRead, IsAtomEscapeRead, IsEcmaCharacterNode, IsClassEscapeRead};
-ghost use Rattle.regex_parser.specs.EcmaTermContracts.{IsEcmaReferenceRead, IsGroupNumberRead, IsNoReferenceOrUnicodeError, IsEcmaNameNumberRead, is_nonzero_digit};
+ghost use Rattle.regex_parser.specs.EcmaTermContracts.{AreGroupsKnown, IsEcmaTermRead, IsAtomEscapeRead, IsEcmaCharacterNode, IsClassEscapeRead, IsEcmaReferenceRead, IsGroupNumberRead, IsNoReferenceOrUnicodeError, IsEcmaNameNumberRead, is_nonzero_digit};
 
 use crate::case_variants::case_variants;
 use crate::character_class_parser::DigitWordOrSpaceEscape;
@@ -329,7 +328,7 @@ fn property_contents(
 ) -> Result<BracketContents, AllocError>
     ensures invert { IfOk result (λ b. b.invert ≡ false) }
     ensures set { IfOk result (λ b. IsSetOf (spec_flags_of flags)
-        (class_of (is_in_invertible_set (has_property (spec_property_of property), invert)) ∷ []) b.cps) }
+        (class (is_in_invertible_set (has_property (spec_property_of property), invert)) ∷ []) b.cps) }
 {
     let set = property.set(alloc, invert)?;
     let intervals = set.intervals().to_vec(alloc)?;

@@ -2,18 +2,14 @@
 
 ghost use Rattle.std.specs.Prelude.{◌≡◌, ℕ, ◌<◌, ◌≤◌, max, length, IfOk, IfErr, IfSome, IsTrue, List, ◌∷◌, true, false};
 ghost use Rattle.std.specs.BTreeMap.{get_by_text};
-ghost use Rattle.regex_meaning.specs.Tree.{bracket as bracket_of, back_ref, by_case};
+ghost use Rattle.regex_meaning.specs.Tree.{bracket as spec_bracket, back_ref, by_case};
 ghost use Rattle.regex_meaning.specs.{ReadingStatesAndDigits.{RemainingCodePoints}, Grammar.{character_node}};
 ghost use Rattle.regex_pattern_front.specs.AstToSpecTree.{spec_node_of, spec_flags_of, class_as_spec};
 ghost use Rattle.regex_pattern_front.specs.SubtreeListInvariants.{IsWellFormedGrouplessSubtree};
 ghost use Rattle.regex_parser.specs.CodePointReaderContracts.{is_syntax_error, backslash};
-ghost use Rattle.regex_parser.specs.GrouplessTermContracts.{pattern_context, NamesAreNumberedWithinGroupLimit, TextBetweenIsGrouplessTerm};
-ghost use Rattle.regex_parser.specs.GrouplessTermContracts.{IsGrouplessTermReadIfPresent, IsAtomReadIfPresent};
-ghost use Rattle.regex_parser.specs.GrouplessTermContracts.{TextBetweenOpensNoGroup, AnchorOrDotReadIfPresent, RefusesCodePointThatIsNoTerm, is_paren_or_bar};
-ghost use Rattle.regex_parser.specs.GrouplessTermContracts.{is_star_plus_or_question, is_brace_or_closing_bracket, begins_backreference, anchor_sign};
-ghost use Rattle.regex_parser.specs.GrouplessTermContracts.{boundary_letter, IsReferencedGroupNumberRead, IsReferencedNameNumberRead};
+ghost use Rattle.regex_parser.specs.GrouplessTermContracts.{pattern_context, NamesAreNumberedWithinGroupLimit, TextBetweenIsGrouplessTerm, IsGrouplessTermReadIfPresent, IsAtomReadIfPresent, TextBetweenOpensNoGroup, AnchorOrDotReadIfPresent, RefusesCodePointThatIsNoTerm, is_paren_or_bar};
+ghost use Rattle.regex_parser.specs.GrouplessTermContracts.{is_star_plus_or_question, is_brace_or_closing_bracket, begins_backreference, anchor_sign, boundary_letter, IsReferencedGroupNumberRead, IsReferencedNameNumberRead, IsReaderOfSame, IsTermReadIn};
 ghost use Rattle.regex_parser.specs.EcmaTermContracts.{IsEcmaAnchorOrDotIfAny, IsEcmaAtomOr};
-ghost use Rattle.regex_parser.specs.GrouplessTermContracts.{IsReaderOfSame, IsTermReadIn};
 ghost use Rattle.regex_parser.specs.SyntaxDialects.{spec_syntax_of, AreGroupsKnownIn};
 ghost use Rattle.regex_parser.specs.GrouplessTermContracts.{IsNumberUnlessMissingOrZero, IsDecimalReadIfItFitsU32};
 
@@ -110,7 +106,8 @@ impl GrouplessTermReader<'_> {
 
     // Returns the term of `^`, `$` or `.`, or `None` for any other code point.
     pub(crate) fn sign(&self, c: u32) -> Option<GrouplessTerm>
-        ensures leaf { IfSome result (λ l. (greatest : ℕ) → IsWellFormedGrouplessSubtree greatest (spec_node_of l.node)) }
+        ensures leaf { IfSome result (λ l. (greatest : ℕ) → IsWellFormedGrouplessSubtree greatest
+            (spec_node_of l.node)) }
         ensures text { (groups : List RemainingCodePoints) (there : RemainingCodePoints)
             → AnchorOrDotReadIfPresent (pattern_context self.now.flags groups) c there result }
         ensures ecma { (groups : List RemainingCodePoints) (there : RemainingCodePoints)
@@ -338,7 +335,7 @@ pub(crate) fn atom(node: Node) -> GrouplessTerm
 pub(crate) fn bracket(contents: BracketContents) -> GrouplessTerm
     ensures leaf { (greatest : ℕ) → IsWellFormedGrouplessSubtree greatest (spec_node_of result.node) }
     ensures atom { result.is_atom ≡ true }
-    ensures node { spec_node_of result.node ≡ bracket_of (class_as_spec contents) }
+    ensures node { spec_node_of result.node ≡ spec_bracket (class_as_spec contents) }
 {
     atom(Node::Bracket(contents))
 }

@@ -36,14 +36,14 @@ fn is_changed_code_point(alloc: Global, c: u32) -> Result<bool, AllocError>
     ensures { IfOk result (λ changed. changed ≡ not (is_nfkc_casefolded c)) }
 {
     match char::from_u32(c) {
-        Some(character) => is_changed(alloc, character),
+        Some(character) => is_changed_by_nfkc_casefold(alloc, character),
         None => Ok(false),
     }
 }
 
 // Checks whether the character changes if default-ignorable characters are removed, the case is
 // folded, and the result is normalized to NFKC.
-fn is_changed(alloc: Global, c: char) -> Result<bool, AllocError>
+fn is_changed_by_nfkc_casefold(alloc: Global, c: char) -> Result<bool, AllocError>
     ensures { IfOk result (λ changed. changed ≡ not (is_nfkc_casefolded c)) }
 {
     if is_default_ignorable_code_point(c) {

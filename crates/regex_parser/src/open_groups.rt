@@ -60,8 +60,10 @@ impl PartialDisjunction {
 
     /// Adds a term to the current alternative.
     pub(crate) fn push(&mut self, term: Node) -> Result<(), AllocError>
-        ensures parts { OnOk result (nodes_read_in_disjunction self.new ≡ nodes_read_in_disjunction self.old ++ term ∷ []) }
-        ensures level { OnOk result (disjunction_of self.new ≡ push_term (spec_node_of term) (disjunction_of self.old)) }
+        ensures parts { OnOk result (nodes_read_in_disjunction self.new ≡ nodes_read_in_disjunction self.old ++ term ∷
+            []) }
+        ensures level { OnOk result (disjunction_of self.new ≡ push_term (spec_node_of term)
+            (disjunction_of self.old)) }
     {
         self.terms.push(term)?;
         Ok(())
@@ -69,7 +71,8 @@ impl PartialDisjunction {
 
     /// Ends the current alternative.
     pub(crate) fn end_alternative(&mut self) -> Result<(), AllocError>
-        ensures parts { OnOk result (KeepsSubtreeInvariant (nodes_read_in_disjunction self.old) (nodes_read_in_disjunction self.new)) }
+        ensures parts { OnOk result (KeepsSubtreeInvariant (nodes_read_in_disjunction self.old)
+            (nodes_read_in_disjunction self.new)) }
         ensures ended { OnOk result (self.new.terms.items ≡ []) }
         ensures level { OnOk result (disjunction_of self.new ≡ end_alternative (disjunction_of self.old)) }
     {
@@ -81,7 +84,8 @@ impl PartialDisjunction {
 
     /// Returns the node of the disjunction: its alternatives, nested to the right.
     pub(crate) fn into_alternation_node(mut self) -> Result<Node, AllocError>
-        ensures parts { IfOk result (λ n. SoundSubtreesMakeSoundNode (nodes_read_in_disjunction self) (spec_node_of n)) }
+        ensures parts { IfOk result (λ n. SoundSubtreesMakeSoundNode (nodes_read_in_disjunction self)
+            (spec_node_of n)) }
         ensures node { let l = disjunction_of self in IfOk result (λ n. spec_node_of n ≡ nest_alternatives l.arms
             (arm l.in_lookbehind l.terms)) }
     {

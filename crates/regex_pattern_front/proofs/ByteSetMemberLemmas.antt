@@ -1,10 +1,8 @@
 -- The set of the bytes that pass a test has exactly those members, also after a byte is added.
-use Rattle.std.proofs.Common.{◌≡◌, ℕ, zero, suc, ◌+◌, ◌/◌, ◌%◌, ◌*◌, ◌^◌, ◌<◌, ◌≤◌, Bool, true, false, ◌&&◌, ◌||◌, List, [], ◌∷◌, filter, refl, sym}
-use Rattle.std.proofs.Common.{ap, ◌∙◌, arith, length, get_or, set, inl, inr}
+use Rattle.std.proofs.Common.{◌≡◌, ℕ, zero, suc, ◌+◌, ◌/◌, ◌%◌, ◌*◌, ◌^◌, ◌<◌, ◌≤◌, Bool, true, false, ◌&&◌, ◌||◌, List, [], ◌∷◌, filter, refl, sym, ap, ◌∙◌, arith, length, get_or, set, inl, inr, get_or-set_same, get_or-set_other, bit_and, bit_or, eqb, not, replicate}
 use Rattle.std.specs.Prelude.{if◌then◌else◌, nat_eq, nat_lt, ◌==◌}
 use Rattle.std.specs.Int.{bit_at}
 use mathlib.Core.Logic.{◌⊎◌}
-use Rattle.std.proofs.Common.{get_or-set_same, get_or-set_other, bit_and, bit_or, eqb, not, replicate}
 use Rattle.std.proofs.lemmas.Bool.{cases_eq, cases_lt, ne_eqb, eq-eqb, eqb-true, lt-ltb, le-ltb, and_right}
 use Rattle.std.proofs.lemmas.Nat.Bits.{shr_and_one, bit_at-lt}
 use Rattle.std.proofs.Math.Bool.{or_comm}

@@ -1,7 +1,5 @@
 -- Each case that the code of `canonicalize` distinguishes has the specified value.
-use Rattle.std.proofs.Common.{◌≡◌, ℕ, ◌+◌, ◌-◌, ◌≤◌, ◌<◌, Bool, true, false, ◌&&◌, ◌||◌, ◌==◌, nat_le, nat_lt, List, [], ◌∷◌, ◌++◌, Option, None, Some, slice_index_or}
-use Rattle.std.proofs.Common.{refl, sym, ap, ap₂, ◌∙◌, arith, eqb-true}
-use Rattle.std.proofs.Common.{inl, inr, ◌⊎◌}
+use Rattle.std.proofs.Common.{◌≡◌, ℕ, ◌+◌, ◌-◌, ◌≤◌, ◌<◌, Bool, true, false, ◌&&◌, ◌||◌, ◌==◌, nat_le, nat_lt, List, [], ◌∷◌, ◌++◌, Option, None, Some, slice_index_or, refl, sym, ap, ap₂, ◌∙◌, arith, eqb-true, inl, inr, ◌⊎◌}
 use Rattle.std.specs.Prelude.{if◌then◌else◌}
 use Rattle.std.specs.List.{list_all}
 use Rattle.std.specs.Char.{OutOfScalarRange}
@@ -11,8 +9,7 @@ use Rattle.std.proofs.lemmas.Bool.{and_parts, leb-true, ltb-true, lt-ltb, or_cas
 use Rattle.ucd_table.specs.Rows.{value_in}
 use Rattle.ucd_case.specs.CaseFolding.{simple_folding, simple_fold}
 use Rattle.ucd_case.specs.SimpleFoldingRows.{simple_folding_rows}
-use Rattle.regex_meaning.specs.Text.{fold_code_point}
-use Rattle.regex_meaning.specs.Text.{nonascii_folds_to_ascii_word_char}
+use Rattle.regex_meaning.specs.Text.{fold_code_point, nonascii_folds_to_ascii_word_char}
 use Rattle.regex_meaning.proofs.CaseLawLemmas.{profile-folds}
 use Rattle.regex_meaning.specs.Canonical.{uppercase_or_itself, canonicalize}
 

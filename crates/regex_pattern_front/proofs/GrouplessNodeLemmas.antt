@@ -8,8 +8,7 @@ use Rattle.regex_meaning.proofs.PatternTreeLemmas.{leaf-reference}
 use Rattle.regex_pattern_front.specs.AstToSpecTree.{spec_node_of}
 use Rattle.regex_pattern_front.specs.SubtreeListInvariants.{IsSoundSubtreeWithGroupIds, AreSoundSubtrees, IsWellFormedGrouplessSubtree}
 use Rattle.regex_pattern_front.specs.declared.ir.AnchorType.{AnchorType}
-use Rattle.regex_pattern_front.specs.declared.ir.Node.TheVariants.{Empty, Char, CharSet, Bracket, MatchAny, MatchAnyExceptLineTerminator, Anchor}
-use Rattle.regex_pattern_front.specs.declared.ir.Node.TheVariants.{WordBoundary, BackRef}
+use Rattle.regex_pattern_front.specs.declared.ir.Node.TheVariants.{Empty, Char, CharSet, Bracket, MatchAny, MatchAnyExceptLineTerminator, Anchor, WordBoundary, BackRef}
 use Rattle.regex_pattern_front.specs.declared.types.BracketContents.{BracketContents}
 use Rattle.regex_pattern_front.proofs.SubtreeListLemmas.{part-leaf}
 

@@ -51,8 +51,8 @@ pop_last_child-less xs ys x e =
     (omega (arith, weight-more ys x, ap (λ zs. tree_size (spec_cat_of_children zs)) e)) (omega arith)
 
 -- If the left alternative becomes current and the rest takes its place, the measure decreases.
-pub linked-less : (a b link : ℕ) → drop_measure (a + (link + b + 1)) a < drop_measure (a + b + 1 + link) (a + b + 1)
-linked-less a b link =
+pub next_node_and_linked_rest-less : (a b link : ℕ) → drop_measure (a + (link + b + 1)) a < drop_measure (a + b + 1 + link) (a + b + 1)
+next_node_and_linked_rest-less a b link =
     let same : a + (link + b + 1) ≡ a + b + 1 + link = omega arith in
     rw same (nearer (a + b + 1 + link) a (a + b + 1) (omega arith))
 
@@ -69,19 +69,19 @@ emptied-less row node =
     (omega (arith, some-weight (spec_cat_of_children row))) (omega arith)
 
 -- If the first node of a row becomes current and the rest takes its place, the measure decreases.
-pub linked-row-less : (first : Node) (xs : List Node) (link : Node)
+pub next_node_and_linked_rest-row-less : (first : Node) (xs : List Node) (link : Node)
     → drop_measure (node_size first + tree_size (spec_cat_of_children (link ∷ xs))) (node_size first) < drop_measure_of_size_and_rest (tree_size (spec_cat_of_children (first ∷ xs))) (Some link)
 unfolding tree_size
-linked-row-less first xs link =
+next_node_and_linked_rest-row-less first xs link =
     let a = node_size first in
     let b = tree_size (spec_cat_of_children xs) in
     let k = node_size link in
-    linked-less a b k
+    next_node_and_linked_rest-less a b k
 
-pub linked-first-less : (row : List Node) (first link : Node) → 0 < length row → first ≡ get_or row 0 first
+pub next_node_and_linked_rest-first-less : (row : List Node) (first link : Node) → 0 < length row → first ≡ get_or row 0 first
     → drop_measure (node_size first + tree_size (spec_cat_of_children (slice_set row 0 link))) (node_size first) < drop_measure_of_size_and_rest (tree_size (spec_cat_of_children row)) (Some link)
-linked-first-less [] first link some is = absurd (omega (arith, some))
-linked-first-less (x ∷ xs) first link some is = rw is (linked-row-less x xs link)
+next_node_and_linked_rest-first-less [] first link some is = absurd (omega (arith, some))
+next_node_and_linked_rest-first-less (x ∷ xs) first link some is = rw is (next_node_and_linked_rest-row-less x xs link)
 
 pub no-nodes : (row : List Node) → length row ≡ 0 → row ≡ []
 no-nodes [] none = refl

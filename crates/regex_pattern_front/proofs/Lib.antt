@@ -1,4 +1,3 @@
-pub mod BoolLemmas
 pub mod BitmapLemmas
 pub mod ByteSetMemberLemmas
 pub mod ByteSetAdditionLoop

@@ -1,6 +1,5 @@
 -- Subtrees keep their invariant when the parser combines several of them into one node.
-use Rattle.std.proofs.Common.{◌≡◌, ℕ, suc, ◌+◌, ◌≤◌, Bool, true, List, [], ◌∷◌, ◌++◌, length, sum_by, refl, sym, ap, ◌∙◌, arith, length-append}
-use Rattle.std.proofs.Common.{append_assoc, get_or, Option, Some, None}
+use Rattle.std.proofs.Common.{◌≡◌, ℕ, suc, ◌+◌, ◌≤◌, Bool, true, List, [], ◌∷◌, ◌++◌, length, sum_by, refl, sym, ap, ◌∙◌, arith, length-append, append_assoc, get_or, Option, Some, None}
 use Rattle.std.specs.Prelude.{IsTrue, nat_eq}
 use Rattle.std.specs.List.{All}
 use Rattle.std.specs.Option.{ForSome}
@@ -9,16 +8,13 @@ use Rattle.std.proofs.lemmas.Bool.{le-leb, and_from}
 use Rattle.std.proofs.lemmas.List.Sums.{sum_by-append}
 use Rattle.std.proofs.lemmas.List.Sorted.{sum_by-IsPermutation, All-permutation}
 use Rattle.std.proofs.lemmas.List.Elements.{All-cons, All-append}
-use Rattle.regex_pattern_front.proofs.BoolLemmas.{and_from}
 use Rattle.regex_meaning.specs.Tree as tree
-use Rattle.regex_meaning.specs.Tree.{group_ids, every_node_passes, empty, goal, char, char_set, byte_set, byte_sequence, cat, end_of_cat, alt, bracket}
-use Rattle.regex_meaning.specs.Tree.{string_set, match_any, match_any_except_line_terminator, anchor, word_boundary, capture_group, back_ref}
+use Rattle.regex_meaning.specs.Tree.{group_ids, every_node_passes, empty, goal, char, char_set, byte_set, byte_sequence, cat, end_of_cat, alt, bracket, string_set, match_any, match_any_except_line_terminator, anchor, word_boundary, capture_group, back_ref}
 use Rattle.regex_meaning.specs.Tree.{lookaround, loop, loop_1_char_body, Lookaround, Quantifier}
 use Rattle.regex_meaning.specs.WellFormedTrees.{number_of_goal_nodes, is_min_at_most_max}
 use Rattle.regex_pattern_front.specs.declared.ir.Node.{Node}
 use Rattle.regex_pattern_front.specs.AstToSpecTree.{spec_node_of, spec_cat_of_children}
-use Rattle.regex_pattern_front.specs.SubtreeListInvariants.{is_well_formed_in_pattern, occurrences_of_id, IsSoundSubtreeWithGroupIds, AreSoundSubtrees, CombinesGroupsAndGoalsOfNodes}
-use Rattle.regex_pattern_front.specs.SubtreeListInvariants.{KeepsSubtreeInvariant}
+use Rattle.regex_pattern_front.specs.SubtreeListInvariants.{is_well_formed_in_pattern, occurrences_of_id, IsSoundSubtreeWithGroupIds, AreSoundSubtrees, CombinesGroupsAndGoalsOfNodes, KeepsSubtreeInvariant}
 use Rattle.regex_meaning.proofs.SubtreeInvariantsLemmas.{every-more, within-none, within-join, sum_by-cons, count_by-append}
 pub use Rattle.regex_meaning.proofs.SubtreeInvariantsLemmas.{part-leaf, part-group, part-lookaround, part-loop, whole, whole-plain, whole-reads_none}
 
@@ -137,10 +133,6 @@ pub made-cat : (xs : List Node) → CombinesGroupsAndGoalsOfNodes xs (spec_cat_o
 made-cat xs = record { goals = cat-goals xs; count = cat-count xs; ids = λ id. cat-ids id xs; sound = λ greatest all. cat-sound greatest xs all }
 
 -- ---- Empty lists and counts
-
-pub empty-list : {A : Type 0} (xs : List A) → length xs ≡ 0 → xs ≡ []
-empty-list [] h = refl
-empty-list (x ∷ xs) h = absurd (omega arith)
 
 -- If the counts of a quantifier are in order, they are in order in the tree.
 pub order-from : (min : ℕ) (max : Option ℕ) (greedy : Bool) → ForSome max (λ m. min ≤ m) → is_min_at_most_max (record { min = min; max = max; greedy = greedy }) ≡ true

@@ -1,7 +1,6 @@
 -- The optimized tree, which has loops over one character.
 use Rattle.std.specs.Prelude.{◌≡◌, ℕ, zero, suc, Bool, true, false, IsTrue, if◌then◌else◌}
-use Rattle.regex_meaning.specs.Tree.{Node, group_ids, char, char_set, byte_set, cat, alt, bracket, match_any, match_any_except_line_terminator}
-use Rattle.regex_meaning.specs.Tree.{capture_group, lookaround, loop, loop_1_char_body}
+use Rattle.regex_meaning.specs.Tree.{Node, group_ids, char, char_set, byte_set, cat, alt, bracket, match_any, match_any_except_line_terminator, capture_group, lookaround, loop, loop_1_char_body}
 use Rattle.regex_meaning.specs.Text.{Text, Direction}
 use Rattle.regex_meaning.specs.Outcomes.{Groups, outcomes}
 use Rattle.regex_meaning.specs.WellFormedTrees.{is_well_formed}

@@ -2,8 +2,7 @@
 
 ghost use Rattle.std.specs.Prelude.{◌≡◌, ◌<◌, ◌≤◌, ◌||◌, ℕ, Bool, Some, IfOk, [], ◌∷◌, ◌++◌, slice_get, encode_utf8, if◌then◌else◌, ◌==◌};
 ghost use Rattle.regex_meaning.specs.NumberListHelpers.{contains};
-ghost use Rattle.regex_meaning.specs.Text.{fold_code_point, expand_code_point, code_points_with_fold, nonascii_with_fold, nonascii_folds_to_ascii_word_char};
-ghost use Rattle.regex_meaning.specs.Text.{to_ascii_lowercase, to_ascii_uppercase};
+ghost use Rattle.regex_meaning.specs.Text.{fold_code_point, expand_code_point, code_points_with_fold, nonascii_with_fold, nonascii_folds_to_ascii_word_char, to_ascii_lowercase, to_ascii_uppercase};
 ghost use Rattle.regex_meaning.specs.StartPredicate.{bytes_that_pass, chars_with_first_byte, intersects};
 ghost use Rattle.regex_pattern_front.specs.ByteSetMembers.{member_bytes_of_byte_bitmap};
 ghost use Rattle.regex_pattern_front.specs.Intervals.{interval_of, optional_interval_as_list};

@@ -1,8 +1,7 @@
 //! The pattern tree.
 
 ghost use Rattle.std.specs.Prelude.{◌≡◌, ◌+◌, Some, None};
-ghost use Rattle.regex_pattern_front.specs.IterativeDropMeasure.{DecreasesDropMeasure, tree_size, node_size, drop_measure_of_size_and_rest};
-ghost use Rattle.regex_pattern_front.specs.IterativeDropMeasure.{drop_measure_of_node_and_rest};
+ghost use Rattle.regex_pattern_front.specs.IterativeDropMeasure.{DecreasesDropMeasure, tree_size, node_size, drop_measure_of_size_and_rest, drop_measure_of_node_and_rest};
 ghost use Rattle.regex_pattern_front.specs.AstToSpecTree.{spec_cat_of_children};
 ghost use Rattle.regex_pattern_front.specs.declared.ir.Node.{Node};
 
@@ -236,17 +235,19 @@ fn continue_drop_with_rest(rest: Option<Node>) -> NextNodeAndRestToDrop
 // Separates the last node of a list or, if there is a rest, the first one, and puts the rest in its
 // position, so that the rest is reached last.
 fn separate_last_child(children: Vec<Node>, rest: Option<Node>) -> NextNodeAndRestToDrop
-    ensures { DecreasesDropMeasure result (drop_measure_of_size_and_rest (tree_size (spec_cat_of_children children.items)) rest) }
+    ensures { DecreasesDropMeasure result (drop_measure_of_size_and_rest
+        (tree_size (spec_cat_of_children children.items)) rest) }
 {
     match rest {
         None => pop_last_child(children),
-        Some(link) => linked(children, link),
+        Some(link) => next_node_and_linked_rest(children, link),
     }
 }
 
 // Separates the last child. The other children are the rest.
 fn pop_last_child(mut children: Vec<Node>) -> NextNodeAndRestToDrop
-    ensures { DecreasesDropMeasure result (drop_measure_of_size_and_rest (tree_size (spec_cat_of_children children.items)) None) }
+    ensures { DecreasesDropMeasure result (drop_measure_of_size_and_rest
+        (tree_size (spec_cat_of_children children.items)) None) }
 {
     let Some(node) = children.pop() else {
         return NextNodeAndRestToDrop::Row(children, None);
@@ -258,9 +259,9 @@ fn pop_last_child(mut children: Vec<Node>) -> NextNodeAndRestToDrop
 }
 
 // Separates the first child, and puts the rest in its position.
-fn linked(mut children: Vec<Node>, link: Node) -> NextNodeAndRestToDrop
-    ensures { DecreasesDropMeasure result (drop_measure_of_size_and_rest (tree_size (spec_cat_of_children children.items))
-        (Some link)) }
+fn next_node_and_linked_rest(mut children: Vec<Node>, link: Node) -> NextNodeAndRestToDrop
+    ensures { DecreasesDropMeasure result (drop_measure_of_size_and_rest
+        (tree_size (spec_cat_of_children children.items)) (Some link)) }
 {
     if children.is_empty() {
         return NextNodeAndRestToDrop::Row(children, Some(link));

@@ -3,9 +3,7 @@
 ghost use Rattle.std.specs.Prelude.{◌≡◌};
 ghost use Rattle.regex_pattern_front.specs.AstToSpecTree.{spec_cat_of_children, spec_node_of};
 ghost use Rattle.regex_pattern_front.specs.declared.ir.Node.TheVariants.{Alt};
-ghost use Rattle.regex_pattern_front.specs.OptimizedTrees.{reads_one_character, optimized, loop_turned_into_char_loop, rest_of_alternatives};
-ghost use Rattle.regex_pattern_front.specs.OptimizedTrees.{first_alternative_prepended_to_chain, alternatives_with_links_unreversed};
-ghost use Rattle.regex_pattern_front.specs.OptimizedTrees.{OptimizedIsWellFormed, OptimizedHasSameOutcomes, OptimizedHasSameAnswers};
+ghost use Rattle.regex_pattern_front.specs.OptimizedTrees.{reads_one_character, optimized, loop_turned_into_char_loop, rest_of_alternatives, first_alternative_prepended_to_chain, alternatives_with_links_unreversed, OptimizedIsWellFormed, OptimizedHasSameOutcomes, OptimizedHasSameAnswers};
 ghost use Rattle.regex_pattern_front.specs.OptimizedTrees.{OptimizedHasSameGroups, OptimizedHasSameNames};
 ghost use Rattle.regex_meaning.specs.Tree.{alt};
 
@@ -61,7 +59,8 @@ fn optimize_all(nodes: &mut Vec<Node>)
 #[cycle(optimize)]
 #[inline(never)]
 fn optimize_nested_alternatives(first: &mut Node, rest: &mut Node)
-    ensures { alt (spec_node_of first.new) (spec_node_of rest.new) ≡ optimized (alt (spec_node_of first.old) (spec_node_of rest.old)) }
+    ensures { alt (spec_node_of first.new) (spec_node_of rest.new) ≡ optimized
+        (alt (spec_node_of first.old) (spec_node_of rest.old)) }
 {
     optimize_node(first);
     let mut turned = 0;
@@ -79,8 +78,8 @@ fn optimize_nested_alternatives(first: &mut Node, rest: &mut Node)
 
 // Restores `turned` reversed alternatives, and puts them before those that follow them.
 fn restore_alternatives(done: &mut Node, rest: &mut Node, mut turned: usize)
-    ensures { alt (spec_node_of done.new) (spec_node_of rest.new) ≡ alternatives_with_links_unreversed turned (spec_node_of done.old)
-        (spec_node_of rest.old) }
+    ensures { alt (spec_node_of done.new) (spec_node_of rest.new) ≡ alternatives_with_links_unreversed turned
+        (spec_node_of done.old) (spec_node_of rest.old) }
 {
     while turned > 0 {
         move_alternative(done, rest);
@@ -92,7 +91,8 @@ fn restore_alternatives(done: &mut Node, rest: &mut Node, mut turned: usize)
 #[inline(never)]
 fn move_alternative(from: &mut Node, to: &mut Node)
     ensures from { spec_node_of from.new ≡ rest_of_alternatives (spec_node_of from.old) }
-    ensures to { spec_node_of to.new ≡ first_alternative_prepended_to_chain (spec_node_of from.old) (spec_node_of to.old) }
+    ensures to { spec_node_of to.new ≡ first_alternative_prepended_to_chain (spec_node_of from.old)
+        (spec_node_of to.old) }
     ensures part { (left right : _) → from.old ≡ Alt left right → from.new ≡ right.value }
 {
     if let Node::Alt(_, right) = from {

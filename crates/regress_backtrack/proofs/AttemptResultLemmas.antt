@@ -1,6 +1,5 @@
 -- An attempt finds the match of highest priority at its offset and takes the steps of that search.
-use Rattle.std.proofs.Common.{◌≡◌, ◌≤◌, ℕ, zero, suc, ◌+◌, ◌-◌, false, Option, Some, None, refl, sym, ◌∙◌, ap, subst, arith, map, replicate, take}
-use Rattle.std.proofs.Common.{drop, ◌++◌, ◌∷◌, [], inl, inr}
+use Rattle.std.proofs.Common.{◌≡◌, ◌≤◌, ℕ, zero, suc, ◌+◌, ◌-◌, false, Option, Some, None, refl, sym, ◌∙◌, ap, subst, arith, map, replicate, take, drop, ◌++◌, ◌∷◌, [], inl, inr}
 use Rattle.std.proofs.lemmas.Bool.{le-leb, lt-leb}
 use Rattle.std.specs.Prelude.{IsTrue, ◌⊎◌, true, Bool, option_map, option_and_then, IsErrAnd, Result, Ok, Err}
 use Rattle.std.specs.Option.{is_some, option_map_or}
@@ -14,19 +13,18 @@ use Rattle.regex_meaning.specs.Outcomes.{Groups}
 use Rattle.regex_meaning.specs.OutcomesWithStepTicks.{items_at, ticks_to_first}
 use Rattle.regex_meaning.specs.CompilationRelation.{Program}
 use Rattle.regress_machine.specs.Machine.{Found, running, search}
-use Rattle.regress_machine.specs.SearchFindsFirstOutcomeAtPlace.{state_before_first_insn, end_of, first_outcome_among_ticks, end_in_offsets, TreeProgramCanSearchText, sufficient_turns_at}
+use Rattle.regress_machine.specs.SearchFindsFirstOutcomeAtPlace.{state_before_first_insn, end_and_groups_of_state, first_outcome_among_ticks, end_in_offsets, TreeProgramCanSearchText, sufficient_turns_at}
 use Rattle.regress_machine.proofs.MachineSearchLemmas.{search_more}
 use Rattle.regress_machine.proofs.TreeCodeOutcomes.{searches-find}
 use Rattle.regress_search.specs.AttemptsAndStarts.{match_end_and_groups_at, end_with_groups, ticks_of_attempt_at}
-use Rattle.regress_search.specs.SearchEffects.{SpendsNeedOrReachesLimit, AllocFailureCostsAStep, TellsIfStepLimitReached}
-use Rattle.regress_search.specs.SearchEffects.{cause_of_error}
+use Rattle.regress_search.specs.SearchEffects.{SpendsNeedOrReachesLimit, AllocFailureCostsAStep, TellsIfStepLimitReached, cause_of_error}
 use Rattle.regress_search.specs.declared.exec.SearchError.{SearchError}
 use Rattle.regress_search.specs.declared.exec.SearchError.TheVariants.{Memory, StepLimit}
 use Rattle.regress_backtrack.specs.declared.state.GroupOrLoopState.{GroupOrLoopState}
 use Rattle.regress_backtrack.specs.State.{StateModel, current_thread_state_of, machine_state_with_slots, initial_slot, initial_slots, range_of_group_slot, loop_data_in_slot}
 use Rattle.regress_search.specs.TreePlanAndText.{SearchInput, program_of}
 use Rattle.regress_backtrack.specs.SearchProgress.{fuel_up_to_place, fuel_for_whole_text, found_from_state, HasSearched, NeedStepsAtLeast}
-use Rattle.regress_backtrack.specs.StepsTakenFromBudget.{Budget, AreStepsTakenFromBudget, AreStepsRefused, HasStopped, step_limit}
+use Rattle.regress_backtrack.specs.BudgetAccounting.{Budget, IsTakenFromBudget, IsRefusedByBudget, HasStopped, step_limit}
 use Rattle.regress_backtrack.proofs.StepBudgetLemmas.{taken-none}
 
 -- ---- The initial state
@@ -67,7 +65,7 @@ turns-below tree text place most le = turns-on tree text place (most - place) mo
 pub record Begins (w : SearchInput) (at : ℕ) : Type 0 where
   pub found : Found
   pub searches : found_from_state w true (state_before_first_insn (program_of w) at) ≡ Some found
-  pub end : option_map end_of found.end ≡ match_end_and_groups_at w.tree w.text at
+  pub end : option_map end_and_groups_of_state found.end ≡ match_end_and_groups_at w.tree w.text at
   pub steps : found.steps ≡ ticks_of_attempt_at w.tree w.text at
 
 pub begins : (w : SearchInput) (at : ℕ) → TreeProgramCanSearchText (program_of w) w.tree w.text → IsBoundary w.text at → Begins w at
@@ -92,9 +90,9 @@ pub attempt-ends : (w : SearchInput) (at from : ℕ) (h h' : StateModel) (left l
     → HasSearched w true counts (current_thread_state_of h 0 from) h h' left left' end → option_map (λ e. (e, (current_thread_state_of h' 0 0).groups)) end ≡ match_end_and_groups_at w.tree w.text at
 attempt-ends w at from h h' left left' counts end b first ran =
     let over = ran.over b.found (ap (found_from_state w true) first ∙ b.searches) in
-    by end ran.ip ∙ ap (option_map end_of) over.ends_so ∙ b.end
+    by end ran.ip ∙ ap (option_map end_and_groups_of_state) over.ends_so ∙ b.end
   where
-    by : (end : Option ℕ) (ip : ℕ) → option_map (λ e. (e, (current_thread_state_of h' 0 0).groups)) end ≡ option_map end_of (option_map (λ at. current_thread_state_of h' ip at) end)
+    by : (end : Option ℕ) (ip : ℕ) → option_map (λ e. (e, (current_thread_state_of h' 0 0).groups)) end ≡ option_map end_and_groups_of_state (option_map (λ at. current_thread_state_of h' ip at) end)
     by None ip = refl
     by (Some e) ip = refl
 
@@ -105,7 +103,7 @@ found-with offset (Some e) groups = refl
 
 -- ---- Steps
 
-spends-found : {X : Type 0} (counts : Bool) (need spent : ℕ) (left left' : Budget) (x : X) → (IsTrue counts → spent ≡ need) → AreStepsTakenFromBudget counts spent left left'
+spends-found : {X : Type 0} (counts : Bool) (need spent : ℕ) (left left' : Budget) (x : X) → (IsTrue counts → spent ≡ need) → IsTakenFromBudget counts spent left left'
     → SpendsNeedOrReachesLimit need (step_limit counts left) (Ok x) (step_limit counts left')
 spends-found false need spent left left' x all taken = (refl, refl)
 spends-found true need spent left left' x all taken =
@@ -115,7 +113,7 @@ spends-found true need spent left left' x all taken =
     (le-leb need left.left (omega (arith, same, counted)), ap Some rest)
 
 -- If memory runs out, the steps spent are at most the needed ones.
-spends-taken : (X : Type 0) (counts : Bool) (need steps : ℕ) (left left' : Budget) → AreStepsTakenFromBudget counts steps left left' → steps ≤ need
+spends-taken : (X : Type 0) (counts : Bool) (need steps : ℕ) (left left' : Budget) → IsTakenFromBudget counts steps left left' → steps ≤ need
     → SpendsNeedOrReachesLimit {X = X} need (step_limit counts left) (Err Memory) (step_limit counts left')
 spends-taken X false need steps left left' taken few = (tt, tt)
 spends-taken X true need steps left left' taken few =
@@ -129,7 +127,7 @@ spends-none X counts need left left' same =
     subst (λ left'. SpendsNeedOrReachesLimit {X = X} need (step_limit counts left) (Err Memory) (step_limit counts left')) (sym same)
     (spends-taken X counts need 0 left left (taken-none counts left) (omega arith))
 
-spends-limit : (X : Type 0) (counts : Bool) (need steps : ℕ) (left left' : Budget) → AreStepsRefused counts steps left left' → steps ≤ need
+spends-limit : (X : Type 0) (counts : Bool) (need steps : ℕ) (left left' : Budget) → IsRefusedByBudget counts steps left left' → steps ≤ need
     → SpendsNeedOrReachesLimit {X = X} need (step_limit counts left) (Err StepLimit) (step_limit counts left')
 spends-limit X false need steps left left' refused more = let no : false ≡ true = refused.counted in cc
 spends-limit X true need steps left left' refused more =
@@ -140,12 +138,12 @@ spends-stopped : (X : Type 0) (counts : Bool) (Needs : ℕ → Type 0) (need : �
     → SpendsNeedOrReachesLimit {X = X} need (step_limit counts left) (Err (cause_of_error left'.out)) (step_limit counts left')
 spends-stopped X counts Needs need left left' least fresh s = by s.stopped_so
   where
-    by : AreStepsTakenFromBudget counts s.steps left left' ⊎ AreStepsRefused counts s.steps left left' → SpendsNeedOrReachesLimit {X = X} need (step_limit counts left) (Err (cause_of_error left'.out)) (step_limit counts left')
+    by : IsTakenFromBudget counts s.steps left left' ⊎ IsRefusedByBudget counts s.steps left left' → SpendsNeedOrReachesLimit {X = X} need (step_limit counts left) (Err (cause_of_error left'.out)) (step_limit counts left')
     by (inl t) =
         subst (λ out. SpendsNeedOrReachesLimit {X = X} need (step_limit counts left) (Err (cause_of_error out)) (step_limit counts left')) (sym (t.same ∙ fresh))
         (spends-taken X counts need s.steps left left' t (least s.steps s.needs))
     by (inr r) =
-        subst (λ out. SpendsNeedOrReachesLimit {X = X} need (step_limit counts left) (Err (cause_of_error out)) (step_limit counts left')) (sym r.steps_were_refused)
+        subst (λ out. SpendsNeedOrReachesLimit {X = X} need (step_limit counts left) (Err (cause_of_error out)) (step_limit counts left')) (sym r.was_refused)
         (spends-limit X counts need s.steps left left' r (least s.steps s.needs))
 
 -- An attempt that runs out of memory takes at least one step.
@@ -154,12 +152,12 @@ pub stopped-takes : (X : Type 0) (counts : Bool) (Begun : Type 0) (Needs : ℕ �
 stopped-takes X false Begun Needs left left' fresh s = tt
 stopped-takes X true Begun Needs left left' fresh s = by s.stopped_so
   where
-    by : AreStepsTakenFromBudget true s.steps left left' ⊎ AreStepsRefused true s.steps left left' → AllocFailureCostsAStep {X = X} Begun (Some left.left) (Err (cause_of_error left'.out)) (Some left'.left)
+    by : IsTakenFromBudget true s.steps left left' ⊎ IsRefusedByBudget true s.steps left left' → AllocFailureCostsAStep {X = X} Begun (Some left.left) (Err (cause_of_error left'.out)) (Some left'.left)
     by (inl t) =
         let counted = t.counted refl in
         let some = s.no_fewer in
         subst (λ out. AllocFailureCostsAStep {X = X} Begun (Some left.left) (Err (cause_of_error out)) (Some left'.left)) (sym (t.same ∙ fresh)) (λ begun. omega (arith, counted, some))
-    by (inr r) = subst (λ out. AllocFailureCostsAStep {X = X} Begun (Some left.left) (Err (cause_of_error out)) (Some left'.left)) (sym r.steps_were_refused) tt
+    by (inr r) = subst (λ out. AllocFailureCostsAStep {X = X} Begun (Some left.left) (Err (cause_of_error out)) (Some left'.left)) (sym r.was_refused) tt
 
 -- If the attempt has not begun, nothing is claimed about its steps.
 pub takes-none : (X Begun : Type 0) (before after : Option ℕ) (r : Result X SearchError) → (Begun → ⊥) → AllocFailureCostsAStep Begun before r after

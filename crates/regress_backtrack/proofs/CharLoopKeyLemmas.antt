@@ -1,10 +1,9 @@
 -- The key of a state at a char loop's body decides what the rest of the loop finds.
-use Rattle.std.proofs.Common.{◌≡◌, ◌≤◌, ◌<◌, ℕ, ◌+◌, ◌-◌, Bool, true, false, List, [], ◌∷◌, map, Some, None, refl, ap, sym, ◌∙◌, subst, arith}
-use Rattle.std.proofs.Common.{if◌then◌else◌}
+use Rattle.std.proofs.Common.{◌≡◌, ◌≤◌, ◌<◌, ℕ, ◌+◌, ◌-◌, Bool, true, false, List, [], ◌∷◌, map, Some, None, refl, ap, sym, ◌∙◌, subst, arith, if◌then◌else◌}
 use Rattle.std.specs.Prelude.{◌==◌, ◌^◌, IfSome, Option}
-use Rattle.std.proofs.lemmas.Bool.{eqb-false, ne_eqb, true_from_ne_false, true≢false}
+use Rattle.std.proofs.lemmas.Bool.{true_from_ne_false, true≢false}
 use Rattle.regex_meaning.specs.NumberListHelpers.{numbers_from}
-use Rattle.regex_meaning.specs.Text.{Text, Direction, rightwards, leftwards, last_place, moved}
+use Rattle.regex_meaning.specs.Text.{Text, Direction, last_place, moved}
 use Rattle.regex_meaning.specs.CodeUnitOffsets.{HasRisingPlaceOffsets, offset, units}
 use Rattle.regex_meaning.specs.CompilationRelation.{Program}
 use Rattle.regex_meaning.proofs.EachElementLemmas.{Each, Each-map, Each-reverse}
@@ -24,7 +23,7 @@ use Rattle.regress_memo.specs.UnboundedCharLoopMemoKeys.{char_loop_greediness_at
 use Rattle.regress_memo.specs.CharLoopExitThreadLists.{passing}
 use Rattle.regress_memo.specs.MemoSearch.{Key, KeyStandsFor}
 use Rattle.regress_memo.specs.ThreadPotentials.{is_one_of}
-use Rattle.regress_memo.proofs.LivenessLemmas.{moves-on}
+use Rattle.regress_memo.proofs.LivenessLemmas.{moves-on, passed-on, still-not-here}
 use Rattle.regress_memo.proofs.CharLoopKeyLemmas.{runs-have-keys}
 use Rattle.regress_memo.proofs.CharLoopExitLemmas.{passing-left}
 use Rattle.regress_memo.specs.declared.analysis_result.MemoAnalysis.{MemoAnalysis}
@@ -40,19 +39,9 @@ use Rattle.regress_backtrack.specs.declared.position_and_result.ThreadPos.{Threa
 use Rattle.regress_backtrack.specs.declared.failure_memo.RecordKey.{RecordKey as Stored}
 use Rattle.regress_backtrack.specs.State.{StateModel, current_thread_state_of}
 use Rattle.regress_backtrack.specs.FailuresInMemoTable.{scheme_of}
-use Rattle.regress_backtrack.specs.FailureMemo.{MemoScheme, AreFailuresSound, IsLoopRestKey, threads_of_loop_rest, memo_key_as_spec}
+use Rattle.regress_backtrack.specs.FailureMemo.{MemoScheme, AreFailuresSound, IsLoopRestKey, threads_of_loop_rest, record_key_as_spec}
 use Rattle.regress_backtrack.specs.MemoizedCharLoops.{DecidesLoopRest}
 use Rattle.regress_backtrack.proofs.ThreadKeyLemmas.{agrees-itself, heads}
-
--- ---- Offsets that are passed
-
-passed-on : (d : Direction) (e p q : ℕ) → IsNotAheadInDirection d e p → IsNotAheadInDirection d p q → IsNotAheadInDirection d e q
-passed-on rightwards e p q a b = omega (arith, a, b)
-passed-on leftwards e p q a b = omega (arith, a, b)
-
-still-apart : (d : Direction) (e p q : ℕ) → IsNotAheadInDirection d e p → IsNotAheadInDirection d p q → (e == p) ≡ false → (e == q) ≡ false
-still-apart rightwards e p q a b n = ne_eqb e q (λ same. eqb-false e p n (omega (arith, a, b, same)))
-still-apart leftwards e p q a b n = ne_eqb e q (λ same. eqb-false e p n (omega (arith, a, b, same)))
 
 -- ---- Rows of sound states
 
@@ -82,7 +71,7 @@ module _ (t : MemoAnalysis) (text : Text) (is : HasRisingPlaceOffsets text) (d :
         let passed : IsNotAheadInDirection d x.entry (offset text place) = subst (λ p. IsNotAheadInDirection d x.entry p) here y.passed in
         record {
           passed = passed-on d x.entry (offset text place) (at-place n).pos passed m.passed;
-          moved = λ asked. still-apart d x.entry (offset text place) (at-place n).pos passed m.passed (subst (λ p. (x.entry == p) ≡ false) here (y.moved asked));
+          moved = λ asked. still-not-here d x.entry (offset text place) (at-place n).pos passed m.passed (subst (λ p. (x.entry == p) ≡ false) here (y.moved asked));
           all = y.all;
           few = y.few;
         };
@@ -190,6 +179,6 @@ module _ (w : SearchInput) (is : HasRisingPlaceOffsets w.text) (t : MemoAnalysis
 
 -- A key stored in the memo decides what the rest of the loop finds.
 pub stored-rest : (w : SearchInput) (t : MemoScheme) (forward : Bool) (from : ThreadPos) (h : StateModel) (key : Key) (o : Option Stored)
-    → IfSome o (λ k. memo_key_as_spec k ≡ key) → DecidesLoopRest w t forward from key h → IfSome o (λ k. DecidesLoopRest w t forward from (memo_key_as_spec k) h)
+    → IfSome o (λ k. record_key_as_spec k ≡ key) → DecidesLoopRest w t forward from key h → IfSome o (λ k. DecidesLoopRest w t forward from (record_key_as_spec k) h)
 stored-rest w t forward from h key None same of = tt
 stored-rest w t forward from h key (Some k) same of = subst (λ j. DecidesLoopRest w t forward from j h) (sym same) of

@@ -8,8 +8,7 @@ use Rattle.regress_machine.proofs.InsnsNotStuck.{by-only}
 use Rattle.regress_machine.specs.ThreadSimulation.{Simulates}
 use Rattle.regress_machine.proofs.ThreadSimulationLemmas.{simulates-goes}
 use Rattle.regress_backtrack.specs.declared.state.ChoicePoint.{ChoicePoint}
-use Rattle.regress_backtrack.specs.State.{StateModel, current_thread_state_of, ChangesStateUndoably, with_group_open, state_with_group_unset, with_group_range}
-use Rattle.regress_backtrack.specs.State.{with_choice_point_list}
+use Rattle.regress_backtrack.specs.State.{StateModel, current_thread_state_of, ChangesStateUndoably, with_group_open, state_with_group_unset, with_group_range, with_choice_point_list}
 use Rattle.regress_backtrack.specs.PendingThreads.{ResumePoint, pending_thread}
 use Rattle.regress_backtrack.specs.StateTransitions.{SearchModel, TakesThreadTransition}
 use Rattle.regress_backtrack.proofs.StateTransitionLemmas.{unchanged, changed, only-choice_point_pushed}

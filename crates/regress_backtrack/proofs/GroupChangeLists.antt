@@ -1,11 +1,11 @@
 -- A list of changes to groups has the same effect if it is applied twice.
-use Rattle.std.proofs.Common.{◌≡◌, ℕ, zero, suc, List, [], ◌∷◌, length, Option, Some, None, refl, ap, ◌∙◌, sym, subst, arith}
-use Rattle.std.proofs.Common.{slice_get, slice_set}
+use Rattle.std.proofs.Common.{◌≡◌, ℕ, zero, suc, List, [], ◌∷◌, length, Option, Some, None, refl, ap, ◌∙◌, sym, subst, arith, slice_get, slice_set}
 use Rattle.std.specs.Prelude.{option_map}
 use Rattle.std.proofs.lemmas.List.{length-set}
 use Rattle.regex_meaning.specs.Text.{Direction}
 use Rattle.regex_meaning.specs.Outcomes.{Groups}
 use Rattle.regress_machine.specs.Machine.{range_swapped_if_leftwards}
+use Rattle.regress_machine.proofs.UnchangedGroupsAndLoops.{slice_get-set_other}
 
 -- These are the groups of a state and their starts.
 pub record Slots : Type 0 where
@@ -76,13 +76,6 @@ set-here [] i x = refl
 set-here (y ∷ xs) zero x = refl
 set-here (y ∷ xs) (suc i) x = set-here xs i x
 
-set-there : {X : Type 0} (xs : List X) (i j : ℕ) (x : X) → (j ≡ i → ⊥) → slice_get (slice_set xs i x) j ≡ slice_get xs j
-set-there [] i j x n = refl
-set-there (y ∷ xs) zero zero x n = absurd (n refl)
-set-there (y ∷ xs) zero (suc j) x n = refl
-set-there (y ∷ xs) (suc i) zero x n = refl
-set-there (y ∷ xs) (suc i) (suc j) x n = set-there xs i j x (λ e. n (ap suc e))
-
 pub by-slots : {X : Type 0} (xs ys : List X) → length xs ≡ length ys → ((i : ℕ) → slice_get xs i ≡ slice_get ys i) → xs ≡ ys
 by-slots [] [] l h = refl
 by-slots [] (y ∷ ys) l h = absurd (omega (arith, l))
@@ -140,7 +133,7 @@ module _ (id : ℕ) where
   }
   note-wiped i ns (other n) h = record {
     start = start-elsewhere (wiped i) ns (λ J. refl) h.start;
-    group = group-elsewhere (wiped i) ns (λ J. refl) (λ J. set-there J.groups i id None n) h.group;
+    group = group-elsewhere (wiped i) ns (λ J. refl) (λ J. slice_get-set_other J.groups i id None n) h.group;
   }
 
   note-begun : (i at : ℕ) (ns : List Note) → Same i id → OnSlot ns → OnSlot (begun i at ∷ ns)
@@ -149,8 +142,8 @@ module _ (id : ℕ) where
     group = group_put (λ o. None) (λ J. subst (λ i. slice_get (slice_set (applied ns J).groups i None) id ≡ put None (group_in (applied ns J))) (sym e) (set-here (applied ns J).groups id None) ∙ put-group ns None h.group J);
   }
   note-begun i at ns (other n) h = record {
-    start = start-elsewhere (begun i at) ns (λ J. set-there J.starts i id at n) h.start;
-    group = group-elsewhere (begun i at) ns (λ J. set-there J.starts i id at n) (λ J. set-there J.groups i id None n) h.group;
+    start = start-elsewhere (begun i at) ns (λ J. slice_get-set_other J.starts i id at n) h.start;
+    group = group-elsewhere (begun i at) ns (λ J. slice_get-set_other J.starts i id at n) (λ J. slice_get-set_other J.groups i id None n) h.group;
   }
 
   note-closed : (d : Direction) (i at : ℕ) (ns : List Note) → Same i id → OnSlot ns → OnSlot (closed d i at ∷ ns)
@@ -163,7 +156,7 @@ module _ (id : ℕ) where
   }
   note-closed d i at ns (other n) h = record {
     start = start-elsewhere (closed d i at) ns (λ J. refl) h.start;
-    group = group-elsewhere (closed d i at) ns (λ J. refl) (λ J. set-there J.groups i id (option_map (range_to d at) (slice_get J.starts i)) n) h.group;
+    group = group-elsewhere (closed d i at) ns (λ J. refl) (λ J. slice_get-set_other J.groups i id (option_map (range_to d at) (slice_get J.starts i)) n) h.group;
   }
 
   on-slot : (ns : List Note) → OnSlot ns

@@ -11,8 +11,7 @@ use Rattle.regress_input.proofs.BoundaryPositions.{boundary_inside}
 use Rattle.regress_machine.specs.SearchFindsFirstOutcomeAtPlace.{TreeProgramCanSearchText}
 use Rattle.regress_machine.specs.FirstSetTables.{HasUnitsForTables}
 use Rattle.regress_program.specs.declared.leap.Leap.{Leap}
-use Rattle.regress_program.specs.Leaps.{leap_to_goal, IsLeapRightForProgram}
-use Rattle.regress_program.specs.Leaps.{HasBarrierBetween}
+use Rattle.regress_program.specs.Leaps.{leap_to_goal, IsLeapRightForProgram, HasBarrierBetween}
 use Rattle.regress_program.specs.TableKeysOfUnits.{is_16_bit_encoding}
 use Rattle.regress_program.proofs.LeapCertificatesLemmas.{starts-cut-off, starts-without}
 use Rattle.regress_search.specs.AttemptsAndStarts.{NextStartSkipsNoMatch, NoMatchAt, NoMatchStartsBetween}

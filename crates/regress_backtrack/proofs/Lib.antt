@@ -9,6 +9,7 @@ pub mod PlannedTreeBrackets
 pub mod CandidateStartLemmas
 pub mod UndoLogLemmas
 pub mod LogicalSlotLemmas
+mod LogCompactionLemmas
 mod SlotChangeLemmas
 pub mod StateTransitionLemmas
 pub mod GroupAndBranchTransitions

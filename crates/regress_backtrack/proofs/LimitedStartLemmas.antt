@@ -1,6 +1,5 @@
 -- If steps are counted, the search tries the starts that the start predicate accepts, and skips no match.
-use Rattle.std.proofs.Common.{◌≡◌, ℕ, zero, suc, ◌+◌, ◌-◌, ◌<◌, ◌≤◌, List, [], ◌∷◌, Option, Some, None, Bool, true, false, refl, ap, sym, ◌∙◌, subst}
-use Rattle.std.proofs.Common.{arith, inl, inr, drop, slice_get}
+use Rattle.std.proofs.Common.{◌≡◌, ℕ, zero, suc, ◌+◌, ◌-◌, ◌<◌, ◌≤◌, List, [], ◌∷◌, Option, Some, None, Bool, true, false, refl, ap, sym, ◌∙◌, subst, arith, inl, inr, drop, slice_get}
 use Rattle.std.proofs.lemmas.Bool.{cases_lt, le-leb}
 use Rattle.std.specs.Prelude.{if◌then◌else◌, nat_eq, filter, option_map, option_and_then, unwrap_or, IfSome, IsTrue, encode_utf8_all}
 use Rattle.std.specs.List.{list_all, starts_with}
@@ -8,8 +7,7 @@ use Rattle.regex_meaning.specs.NumberListHelpers.{contains, numbers_from}
 use Rattle.regex_meaning.specs.Tree.{Tree}
 use Rattle.regex_meaning.specs.Text.{Text, rightwards, last_place, is_scalar}
 use Rattle.regex_meaning.specs.CodeUnitOffsets.{HasRisingPlaceOffsets, IsBoundary, offset, read, units}
-use Rattle.regex_meaning.specs.StartPredicate.{StartPredicate, start_arbitrary, start_byte_set, start_byte_sequence, start_anchored, start_predicate}
-use Rattle.regex_meaning.specs.StartPredicate.{may_start, first_byte_is_one_of, utf8_bytes_of_text_from_place}
+use Rattle.regex_meaning.specs.StartPredicate.{StartPredicate, start_arbitrary, start_byte_set, start_byte_sequence, start_anchored, start_predicate, may_start, first_byte_is_one_of, utf8_bytes_of_text_from_place}
 use Rattle.regex_meaning.specs.OutcomesWithStepTicks.{tried_places}
 use Rattle.regex_meaning.specs.CodeUnits.{Encoding, utf8, utf16, ucs2, is_character_in_encoding}
 use Rattle.regex_meaning.specs.WellFormedTrees.{is_well_formed}
@@ -19,22 +17,16 @@ use Rattle.regress_machine.specs.TextsForBytePrograms.{HasUtf8CharactersAndOffse
 use Rattle.regress_machine.proofs.AdjacentCharacterBytes.{bytes_near-side, offset-inside}
 use Rattle.regress_program.specs.StartPredicates.{is_anchored_predicate}
 use Rattle.regress_program.proofs.StartPredicatesLemmas.{anchored-predicate}
-use Rattle.regress_search.specs.AttemptsAndStarts.{NextStartSkipsNoMatch, NoMatchAt, NoMatchStartsBetween, offset_of_first_place, first_filtered_start}
-use Rattle.regress_search.specs.AttemptsAndStarts.{next_filtered_start}
-use Rattle.regress_search.specs.AttemptsAndStarts.{filtered_start_after}
-use Rattle.regress_search.proofs.SkippedStartLemmas.{untried}
+use Rattle.regress_search.specs.AttemptsAndStarts.{NextStartSkipsNoMatch, NoMatchAt, offset_of_first_place, first_filtered_start, next_filtered_start, filtered_start_after}
+use Rattle.regress_search.proofs.SkippedStartLemmas.{untried, with-tried}
 use Rattle.regress_search.proofs.FirstMatchLemmas.{read-inside, read-end}
 use Rattle.regress_search.proofs.StartPredicateLemmas.{ruled-out, anchored-behind, one-on}
 use Rattle.regress_search.proofs.TextReadLemmas.{literal-read}
 use Rattle.regress_machine.specs.Machine.{State, go_if, occurs_beside_offset}
+use Rattle.regress_machine.proofs.FirstUnitsOfCharacters.{slice_get-drop}
 use Rattle.regress_backtrack.specs.LimitedStarts.{admits_start, IsFirstTriedStart, IsTriedStartAfterFailure}
 
 -- ---- The text at a place
-
-get-first : (n : ℕ) (xs : List ℕ) → slice_get xs n ≡ slice_get (drop n xs) 0
-get-first zero xs = refl
-get-first (suc n) [] = refl
-get-first (suc n) (x ∷ xs) = get-first n xs
 
 -- The byte at the prefix, if there is one, is in the set.
 abbrev pub is_member : (members : List ℕ) → Option ℕ → Bool
@@ -68,7 +60,7 @@ module _ (text : Text) (is : HasRisingPlaceOffsets text) (reads : HasUtf8Charact
 
   pub begins-there : (members : List ℕ) (at : ℕ) → IsBoundary text at → is_member members (slice_get (encode_utf8_all text.characters) at) ≡ first_byte_is_one_of members (utf8_bytes_of_text_from_place text (place text at))
   begins-there members at on =
-      ap (is_member members) (get-first at (encode_utf8_all text.characters) ∙ ap (λ (l : List ℕ). slice_get l 0) (bytes-there at on))
+      ap (is_member members) (slice_get-drop at (encode_utf8_all text.characters) ∙ ap (λ (l : List ℕ). slice_get l 0) (bytes-there at on))
       ∙ sym (begins-first members (utf8_bytes_of_text_from_place text (place text at)))
 
   pub sequence-there : (bytes : List ℕ) (at : ℕ) (found : Bool) (to : ℕ) → IsBoundary text at → end_if_matched found to ≡ past_numbers_if_next (encode_utf8_all text.characters) bytes rightwards at
@@ -226,15 +218,9 @@ module _ (tree : Tree) (text : Text) (is : HasRisingPlaceOffsets text) where
     ],
   )
 
-  none-with : (at to : ℕ) → NoMatchAt tree text at → NoMatchStartsBetween tree text (at + 1) to → NoMatchStartsBetween tree text at to
-  none-with at to vain none = λ x boundary le less. elim (cases_lt at x) [
-    | inl past ↦ none x boundary (omega (arith, past)) less
-    | inr within ↦ let same : at ≡ x = omega (arith, within, le) in subst (NoMatchAt tree text) same vain
-  ]
-
   with-vain : (at : ℕ) (next : Option ℕ) → NoMatchAt tree text at → NextStartSkipsNoMatch tree text (at + 1) next → NextStartSkipsNoMatch tree text at next
-  with-vain at None vain none = none-with at (units text + 1) vain none
-  with-vain at (Some to) vain n = (n.0, (let l = n.1 in omega (arith, l)), none-with at to vain n.2)
+  with-vain at None vain none = with-tried tree text is at (units text + 1) vain none
+  with-vain at (Some to) vain n = (n.0, (let l = n.1 in omega (arith, l)), with-tried tree text is at to vain n.2)
 
   module _ (well_formed : IsTrue (is_well_formed tree.root)) (scalars : IsTrue (list_all is_scalar text.characters)) where
     not-let : (s : StartPredicate) → start_predicate tree ≡ s → (p : ℕ) → admits_start s text p ≡ false → IsTrue (may_start (start_predicate tree) text p) → ⊥

@@ -1,26 +1,23 @@
 -- A search sees the slots that were set since it began, and logs each slot once after a choice point.
-use Rattle.std.proofs.Common.{◌≡◌, ℕ, zero, suc, ◌+◌, ◌-◌, ◌<◌, ◌≤◌, Bool, false, true, true≢false, List, [], ◌∷◌, ◌++◌, length, length-append}
-use Rattle.std.proofs.Common.{length-set, map, take, drop, replicate, slice_get, slice_set, Some, lt-ltb, refl, ap, ap₂, sym, ◌∙◌, subst, arith}
+use Rattle.std.proofs.Common.{◌≡◌, ℕ, zero, suc, ◌+◌, ◌-◌, ◌<◌, ◌≤◌, Bool, false, true, true≢false, List, [], ◌∷◌, ◌++◌, length, length-append, length-set, map, take, drop, replicate, slice_get, slice_set, Some, lt-ltb, refl, ap, ap₂, sym, ◌∙◌, subst, arith}
 use mathlib.Core.Logic.{◌⊎◌, inl, inr}
 use Rattle.std.proofs.lemmas.Bool.{cases_lt, eq-eqb, eqb-true, ne_eqb}
-use Rattle.std.proofs.lemmas.List.{take_more, take_more_set, length-map, map-append, drop-map, drop_all, drop-append-le, length-take-le, set_comm}
-use Rattle.std.proofs.lemmas.List.{get_or-set_other}
+use Rattle.std.proofs.lemmas.List.{take_more, take_more_set, length-map, map-append, drop-map, drop_all, drop-append-le, length-take-le, set_comm, get_or-set_other}
 use Rattle.std.proofs.lemmas.List.Elements.{All-set}
 use Rattle.std.proofs.lemmas.List.Folds.{list_all-append}
 use Rattle.std.proofs.Math.Seq.{take-append_seam, drop-append_seam, take-length, drop-length, map-set_same}
 use Rattle.std.specs.Prelude.{◌&&◌, ◌==◌, IsTrue, nat_lt, slice_index_or, if◌then◌else◌}
 use Rattle.std.specs.List.{All}
 use Rattle.regress_machine.proofs.GroupAndAssertionOutcomes.{map-set}
+use Rattle.regress_machine.proofs.ForcedIterationLemmas.{set-twice}
 use Rattle.regress_backtrack.specs.declared.state.GroupOrLoopState.{GroupOrLoopState}
 use Rattle.regress_backtrack.specs.declared.state.UndoEntry.{UndoEntry}
 use Rattle.regress_backtrack.specs.declared.state.ChoicePoint.{ChoicePoint}
-use Rattle.regress_backtrack.specs.State.{StateModel, undo_entry_logged_for_slot, undone, slot_placeholder, initial_slot, IsSlotUnsetAndUnlogged, SlotsAreUnsetAndUnlogged, AreSlotsUnset}
-use Rattle.regress_backtrack.specs.State.{AreLoggedInOrder}
-use Rattle.regress_backtrack.specs.State.{log_len_at_choice_point, logical_slot_value}
+use Rattle.regress_backtrack.specs.State.{StateModel, undo_entry_logged_for_slot, undone, slot_placeholder, initial_slot, IsSlotUnsetAndUnlogged, SlotsAreUnsetAndUnlogged, AreSlotsUnset, AreLoggedInOrder, log_len_at_choice_point, logical_slot_value}
 use Rattle.regress_backtrack.specs.State.{logical_undo_entry, are_slot_numbers_below, IsStateInvariant, initial_state, SetsSlotUndoably, ChangesFromNumberAreUndone}
 use Rattle.regress_backtrack.specs.UndoLog.{IsLoggedOnce}
 use Rattle.regress_backtrack.specs.UndoLog.IsLoggedOnce.{once, already}
-use Rattle.regress_backtrack.proofs.UndoLogLemmas.{since-last, undone-last, set-twice, set-behind, behind-longer, behind-still}
+use Rattle.regress_backtrack.proofs.UndoLogLemmas.{since-last, undone-last, set-back, set-behind, behind-longer, behind-still}
 
 pub take-replicate : {X : Type 0} (n m : ℕ) (x : X) → take n (replicate (n + m) x) ≡ replicate n x
 take-replicate zero m x = refl
@@ -155,7 +152,7 @@ noted-more slots changes i v old old_is last noted n most = by (cases_lt (length
     by (inr few) =
         subst (All (λ s. s.noted ≤ n))
         (sym (ap (undone (slice_set slots i v)) (drop-append-le n changes (c ∷ []) few) ∙ undone-last (slice_set slots i v) (drop n changes) c
-        ∙ ap (λ s. undone s (drop n changes)) (ap (slice_set (slice_set slots i v) i) old_is ∙ set-twice slots i v old)))
+        ∙ ap (λ s. undone s (drop n changes)) (ap (slice_set (slice_set slots i v) i) old_is ∙ set-back slots i v old)))
         (noted n few)
 
 noted-fewer : (slots : List GroupOrLoopState) (changes : List UndoEntry) (c : UndoEntry) → AreLoggedInOrder slots (changes ++ c ∷ []) → AreLoggedInOrder (slice_set slots c.slot c.old) changes
@@ -165,18 +162,13 @@ noted-fewer slots changes c noted n most =
 
 -- ---- A slot that was logged already
 
-set-again : {X : Type 0} (xs : List X) (i : ℕ) (v w : X) → slice_set (slice_set xs i v) i w ≡ slice_set xs i w
-set-again [] i v w = refl
-set-again (x ∷ xs) zero v w = refl
-set-again (x ∷ xs) (suc i) v w = ap (λ l. x ∷ l) (set-again xs i v w)
-
 -- The changes set the slot again, or none of them does.
-abbrev Covers : List GroupOrLoopState → List UndoEntry → (i : ℕ) → GroupOrLoopState → Type 0
+abbrev pub Covers : List GroupOrLoopState → List UndoEntry → (i : ℕ) → GroupOrLoopState → Type 0
 Covers slots changes i v =
     (undone (slice_set slots i v) changes ≡ undone slots changes)
     ⊎ (((d : GroupOrLoopState) → slice_index_or (undone slots changes) i d ≡ slice_index_or slots i d) × (undone (slice_set slots i v) changes ≡ slice_set (undone slots changes) i v))
 
-covers : (slots : List GroupOrLoopState) (changes : List UndoEntry) (i : ℕ) (v : GroupOrLoopState) → Covers slots changes i v
+pub covers : (slots : List GroupOrLoopState) (changes : List UndoEntry) (i : ℕ) (v : GroupOrLoopState) → Covers slots changes i v
 covers slots [] i v = inr (λ d. refl, refl)
 covers slots (c ∷ changes) i v = by (covers slots changes i v)
   where
@@ -184,7 +176,7 @@ covers slots (c ∷ changes) i v = by (covers slots changes i v)
         → (b : Bool) → (c.slot == i) ≡ b → Covers slots (c ∷ changes) i v
     other same is true e =
         let at : c.slot ≡ i = eqb-true c.slot i e in
-        inl (ap (λ l. slice_set l c.slot c.old) is ∙ ap (λ k. slice_set (slice_set (undone slots changes) k v) c.slot c.old) (sym at) ∙ set-again (undone slots changes) c.slot v c.old)
+        inl (ap (λ l. slice_set l c.slot c.old) is ∙ ap (λ k. slice_set (slice_set (undone slots changes) k v) c.slot c.old) (sym at) ∙ set-twice (undone slots changes) c.slot v c.old)
     other same is false e =
         let apart : i ≡ c.slot → ⊥ = λ at. absurd (true≢false (sym (eq-eqb c.slot i (sym at)) ∙ e)) in
         inr (
@@ -251,7 +243,7 @@ module _ (groups : ℕ) (slots : List GroupOrLoopState) (log_len free : ℕ) (lo
 
     -- The old value of the slot is logged after the earlier changes.
     back : undone now (so_far ++ change i old ∷ []) ≡ undone slots so_far
-    back = undone-last now so_far (change i old) ∙ ap (λ s. undone s so_far) (ap (slice_set now i) old_is ∙ set-twice slots i put old)
+    back = undone-last now so_far (change i old) ∙ ap (λ s. undone s so_far) (ap (slice_set now i) old_is ∙ set-back slots i put old)
 
     once-there : n ≤ log_len + 1 → take log_len' log' ≡ so_far ++ change i old ∷ [] → IsStateInvariant groups now log_len' free' log' choice_point_len choice_points
     once-there last are =

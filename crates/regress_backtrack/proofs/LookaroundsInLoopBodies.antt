@@ -1,19 +1,15 @@
 -- The search of a lookaround in a plain loop body is the same from any groups and in any iteration.
-use Rattle.std.proofs.Common.{◌≡◌, ◌<◌, ◌≤◌, ℕ, zero, suc, ◌+◌, ◌-◌, List, [], ◌∷◌, ◌++◌, map, Option, Some, None, Bool, true, false, refl, ap}
-use Rattle.std.proofs.Common.{◌∙◌, sym, subst, arith, slice_get}
+use Rattle.std.proofs.Common.{◌≡◌, ◌<◌, ◌≤◌, ℕ, zero, suc, ◌+◌, ◌-◌, List, [], ◌∷◌, ◌++◌, map, Option, Some, None, Bool, true, false, refl, ap, ◌∙◌, sym, subst, arith, slice_get}
 use Rattle.std.specs.Prelude.{option_map}
 use Rattle.regex_meaning.specs.Laws.{Each}
 use Rattle.regex_meaning.specs.Text.{Text, Direction}
 use Rattle.regex_meaning.specs.CodeUnitOffsets.{HasRisingPlaceOffsets}
 use Rattle.regex_meaning.specs.CompilationRelation.{Program}
-use Rattle.regress_machine.specs.Machine.{State, Thread, Next, goes, scans, ends, asks, stuck, Found, with_steps, after_lookaround, after_lookaround_search}
-use Rattle.regress_machine.specs.Machine.{search_after_effect, act, search}
+use Rattle.regress_machine.specs.Machine.{State, Thread, Next, goes, scans, ends, asks, stuck, Found, with_steps, after_lookaround, after_lookaround_search, search_after_effect, act, search}
 use Rattle.regress_memo.specs.Liveness.{ReadsAsBytes}
 use Rattle.regress_backtrack.specs.RepeatableLoopBodies.{MayContinue, AllStayInContents, IsClosedForwardBody}
 use Rattle.regress_backtrack.proofs.GroupChangeLists.{Slots, Note}
-use Rattle.regress_backtrack.proofs.LoopBodySteps.{Spot, runs, waits, spot_ip, spot_pos, spot_notes, state_at}
-use Rattle.regress_backtrack.proofs.LoopBodySteps.{thread_at, Quiet, Always, Reached, Turned, sticks, ended, moves}
-use Rattle.regress_backtrack.proofs.LoopBodySteps.{scanned, asked, turned-at}
+use Rattle.regress_backtrack.proofs.LoopBodySteps.{Spot, runs, waits, spot_ip, spot_pos, spot_notes, state_at, thread_at, Quiet, Always, Reached, Turned, sticks, ended, moves, scanned, asked, turned-at}
 
 pub map-joined : (f : Spot → Thread) (S T : List Spot) → map f (S ++ T) ≡ map f S ++ map f T
 map-joined f [] T = refl

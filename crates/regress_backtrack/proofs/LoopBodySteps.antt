@@ -1,12 +1,12 @@
 -- A step at an instruction of a plain loop body is the same from any groups and in any iteration.
-use Rattle.std.proofs.Common.{◌≡◌, ◌<◌, ◌≤◌, ℕ, zero, suc, ◌+◌, ◌-◌, List, [], ◌∷◌, map, length, min, Option, Some, None, Bool, true, false, ◌&&◌, refl, ap}
-use Rattle.std.proofs.Common.{◌∙◌, sym, subst, arith, slice_get, slice_set, take, drop, length-take, length-drop}
+use Rattle.std.proofs.Common.{◌≡◌, ◌<◌, ◌≤◌, ℕ, zero, suc, ◌+◌, ◌-◌, List, [], ◌∷◌, map, length, min, Option, Some, None, Bool, true, false, ◌&&◌, refl, ap, ◌∙◌, sym, subst, arith, slice_get, slice_set, take, drop, length-take, length-drop}
 use Rattle.std.specs.Prelude.{◌⊎◌, IsSome, if◌then◌else◌, reverse, nat_eq, nat_lt, option_map, encode_utf8_all}
 use Rattle.std.specs.List.{prefix_len}
 use Rattle.std.proofs.lemmas.Bool.{cases_lt}
 use Rattle.std.proofs.lemmas.List.{length-reverse}
 use Rattle.std.proofs.lemmas.List.Sums.{prefix_len-le-length}
 use mathlib.Core.Logic.{inl, inr}
+use Rattle.std.proofs.lemmas.Option.{slice_get_past}
 use Rattle.regex_meaning.specs.Laws.{Each}
 use Rattle.regex_meaning.proofs.EachElementLemmas.{Each-map, Each-reverse}
 use Rattle.regex_meaning.specs.NumberListHelpers.{numbers_from}
@@ -14,10 +14,8 @@ use Rattle.regex_meaning.specs.Text.{Text, Direction, rightwards, leftwards, nex
 use Rattle.regex_meaning.specs.CodeUnitOffsets.{HasRisingPlaceOffsets, offset, units, place_at}
 use Rattle.regex_meaning.specs.Outcomes.{is_some_and}
 use Rattle.regex_meaning.specs.OutcomesWithStepTicks.{nearest_first}
-use Rattle.regex_meaning.specs.CompilationRelation.{Program, Insn, Goal, JustFail, Char, CharSet, ByteSet, ByteSeq, AsciiBracket, Bracket, MatchAny}
-use Rattle.regex_meaning.specs.CompilationRelation.{MatchAnyExceptLineTerminator, StartOfLine, EndOfLine, WordBoundary, WordBoundaryUnicodeICase, Alt, Jump}
+use Rattle.regex_meaning.specs.CompilationRelation.{Program, Insn, Goal, JustFail, Char, CharSet, ByteSet, ByteSeq, AsciiBracket, Bracket, MatchAny, MatchAnyExceptLineTerminator, StartOfLine, EndOfLine, WordBoundary, WordBoundaryUnicodeICase, Alt, Jump, Lookahead, Lookbehind}
 use Rattle.regex_meaning.specs.CompilationRelation.{EnterLoop, LoopAgain, ResetCaptureGroup, Loop1CharBody, BeginCaptureGroup, EndCaptureGroup, BackRef}
-use Rattle.regex_meaning.specs.CompilationRelation.{Lookahead, Lookbehind}
 use Rattle.regex_meaning.proofs.CodeUnitOffsetsLemmas.{offset-place_at}
 use Rattle.regress_machine.specs.Machine.{State, Thread, running, waiting, Next, goes, scans, ends, asks, stuck, with_some, only_if, go, go_if, test_of, next_insn_at_place}
 use Rattle.regress_machine.specs.TextsForBytePrograms.{HasUtf8CharactersAndOffsets}
@@ -99,11 +97,6 @@ some-within : {X : Type 0} (xs : List X) (i : ℕ) → i < length xs → IsSome 
 some-within [] i less = absurd (omega (arith, less))
 some-within (x ∷ xs) zero less = refl
 some-within (x ∷ xs) (suc i) less = some-within xs i (omega (arith, less))
-
-none-past : {X : Type 0} (xs : List X) (i : ℕ) → length xs ≤ i → slice_get xs i ≡ None
-none-past [] i le = refl
-none-past (x ∷ xs) zero le = absurd (omega (arith, le))
-none-past (x ∷ xs) (suc i) le = none-past xs i (omega (arith, le))
 
 closes-with : (d : Direction) (pos : ℕ) (o : Option ℕ) (F : Option (ℕ × ℕ) → State) → IsSome o → with_some o (λ start. go (F (Some (range_to d pos start)))) ≡ go (F (option_map (range_to d pos) o))
 closes-with d pos None F some = cc
@@ -328,7 +321,7 @@ module _ (changes : Bool) (program : Program) (text : Text) (is : HasRisingPlace
               (some-within (applied notes J).starts g (let many = (as-many notes J (slots_of x) h).starts in omega (arith, less, many)))) (one-reached (closed d g pos))
           by_start e (inr le) =
               sticks (λ k J h. turn k J h ∙ ap (λ c. only_if c (closing k J)) e
-              ∙ ap (λ o. with_some o (λ start. go (with_group k J (Some (range_to d pos start))))) (none-past (applied notes J).starts g (let many = (as-many notes J (slots_of x) h).starts in omega (arith, le, many))))
+              ∙ ap (λ o. with_some o (λ start. go (with_group k J (Some (range_to d pos start))))) (slice_get_past (applied notes J).starts g (let many = (as-many notes J (slots_of x) h).starts in omega (arith, le, many))))
 
           by : (c : Bool) → nat_lt g (length x.groups) ≡ c → Turn
           by true e = by_start e (cases_lt g (length x.starts))

@@ -1,16 +1,13 @@
 -- A change of one slot changes one group or one loop of the state and nothing else.
-use Rattle.std.proofs.Common.{◌≡◌, ℕ, zero, suc, ◌+◌, ◌-◌, ◌<◌, ◌≤◌, Bool, false, List, [], ◌∷◌, ◌++◌, length, length-append, map, take, drop}
-use Rattle.std.proofs.Common.{replicate, get_or, slice_set, slice_get, Option, Some, refl, ap, sym, ◌∙◌, arith}
+use Rattle.std.proofs.Common.{◌≡◌, ℕ, zero, suc, ◌+◌, ◌-◌, ◌<◌, ◌≤◌, Bool, false, List, [], ◌∷◌, ◌++◌, length, length-append, map, take, drop, replicate, get_or, slice_set, slice_get, Option, Some, refl, ap, sym, ◌∙◌, arith}
 use mathlib.Core.Logic.{◌⊎◌, inl, inr}
 use Rattle.std.proofs.lemmas.Bool.{cases_lt, lt-ltb, le-ltb}
-use Rattle.std.proofs.lemmas.List.{take-set-le, drop-set-lt, drop-set-add, get_or-take, length-replicate, get_or-replicate, get_or_append_left}
-use Rattle.std.proofs.lemmas.List.{get_or-append_right, take_more, take_more_set}
+use Rattle.std.proofs.lemmas.List.{take-set-le, drop-set-lt, drop-set-add, get_or-take, length-replicate, get_or-replicate, get_or_append_left, get_or-append_right, take_more, take_more_set}
 use Rattle.std.proofs.Math.Seq.{take-set-lt}
 use Rattle.std.specs.Prelude.{Result, Ok, Err, OnOk, option_map}
-use Rattle.regress_machine.specs.Machine.{State}
+use Rattle.regress_machine.specs.Machine.{State, LoopData}
 use Rattle.regress_machine.proofs.GroupAndAssertionOutcomes.{map-set}
 use Rattle.regex_meaning.specs.Outcomes.{Groups}
-use Rattle.regress_machine.specs.Machine.{LoopData}
 use Rattle.regress_backtrack.specs.declared.state.GroupOrLoopState.{GroupOrLoopState}
 use Rattle.regress_backtrack.specs.State.{StateModel, range_of_group_slot, loop_data_in_slot, machine_state_with_slots, current_thread_state_of, SetsSlotUndoably, ChangesStateUndoably}
 

@@ -1,6 +1,5 @@
 -- The memo key of a state is a key of its thread, and the memo knows exactly the recorded keys.
-use Rattle.std.proofs.Common.{◌≡◌, ℕ, Bool, true, false, [], ◌∷◌, ◌&&◌, Option, Some, None, refl, ap, sym, ◌∙◌, subst, slice_get, if◌then◌else◌}
-use Rattle.std.proofs.Common.{zero, suc, ◌-◌, List, arith}
+use Rattle.std.proofs.Common.{◌≡◌, ℕ, Bool, true, false, [], ◌∷◌, ◌&&◌, Option, Some, None, refl, ap, sym, ◌∙◌, subst, slice_get, if◌then◌else◌, zero, suc, ◌-◌, List, arith}
 use Rattle.std.specs.Prelude.{◌⊎◌, IsTrue, is_some, IfSome, not}
 use mathlib.Core.Logic.{inl, inr}
 use mathlib.Core.Bool.{beq}
@@ -19,8 +18,7 @@ use Rattle.regress_memo.specs.MemoSearch.{Key}
 use Rattle.regress_memo.specs.declared.analysis_result.MemoAnalysis.{MemoAnalysis}
 use Rattle.regress_memo.specs.AnalysisAsPotentials.{insn_analysis_of, analysis_as_liveness, insn_direction, memo_bit_index_of_key}
 use Rattle.regress_program.specs.declared.ops.Op.{Op}
-use Rattle.regress_program.specs.declared.ops.Op.TheVariants.{Goal, Fail, UnitChar, Char, Bytes, One, LineStart, LineEnd, WordEdge, Goto, Either, Enter}
-use Rattle.regress_program.specs.declared.ops.Op.TheVariants.{LoopEnd, OpenGroup, CloseGroup, ResetGroup, MatchBackref, Look}
+use Rattle.regress_program.specs.declared.ops.Op.TheVariants.{Goal, Fail, UnitChar, Char, Bytes, One, LineStart, LineEnd, WordEdge, Goto, Either, Enter, LoopEnd, OpenGroup, CloseGroup, ResetGroup, MatchBackref, Look}
 use Rattle.regress_program.specs.declared.plan.Plan.{Plan}
 use Rattle.regress_program.specs.Plans.{reads_class_char, op_as_char_loop, IsOpOf}
 use Rattle.regress_memo.specs.BitSet.{is_set}
@@ -31,7 +29,7 @@ use Rattle.regress_memo.proofs.MemoContentsLemmas.{same-is, same-itself, bit-the
 use Rattle.regress_memo.specs.CheckedAnalysis.{IsRecordableMemoKey}
 use Rattle.regress_search.specs.TreePlanAndText.{SearchInput, program_of}
 use Rattle.regress_backtrack.specs.declared.failure_memo.RecordKey.{RecordKey as Stored}
-use Rattle.regress_backtrack.specs.FailureMemo.{KeyStandsForThreadsInDirection, memo_key_as_spec}
+use Rattle.regress_backtrack.specs.FailureMemo.{KeyStandsForThreadsInDirection, record_key_as_spec}
 use Rattle.regress_backtrack.specs.FailuresInMemoTable.{scheme_of}
 
 -- A sound state agrees with itself if no group is compared.
@@ -165,13 +163,9 @@ module _ (m : MemoView) (k : Key) where
 
 -- A key stored in the memo stands for the threads of the equal key.
 pub stored-key : (w : SearchInput) (t : MemoAnalysis) (forward : Bool) (ts : List Thread) (key : Key) (o : Option Stored)
-    → IfSome o (λ k. memo_key_as_spec k ≡ key) → KeyStandsForThreadsInDirection w (scheme_of t) forward key ts → IfSome o (λ k. KeyStandsForThreadsInDirection w (scheme_of t) forward (memo_key_as_spec k) ts)
+    → IfSome o (λ k. record_key_as_spec k ≡ key) → KeyStandsForThreadsInDirection w (scheme_of t) forward key ts → IfSome o (λ k. KeyStandsForThreadsInDirection w (scheme_of t) forward (record_key_as_spec k) ts)
 stored-key w t forward ts key None same of = tt
 stored-key w t forward ts key (Some k) same of = subst (λ j. KeyStandsForThreadsInDirection w (scheme_of t) forward j ts) (sym same) of
-
-pub not-false : (b : Bool) → not b ≡ false → b ≡ true
-not-false true e = refl
-not-false false e = cc
 
 pub same-way : (a b : Bool) → not (beq a b) ≡ false → a ≡ b
 same-way true true e = refl

@@ -7,7 +7,7 @@ use Rattle.regress_search.specs.SearchEffects.{SpendsNeedOrReachesLimit, AllocFa
 use Rattle.regress_search.specs.declared.exec.SearchError.{SearchError}
 use Rattle.regress_backtrack.specs.State.{StateModel, current_thread_state_of}
 use Rattle.regress_search.specs.TreePlanAndText.{SearchInput}
-use Rattle.regress_backtrack.specs.StepsTakenFromBudget.{Budget, step_limit}
+use Rattle.regress_backtrack.specs.BudgetAccounting.{Budget, step_limit}
 
 -- The end is that of the first outcome at the offset, and the state holds the groups of this
 -- outcome. `None` if there is no outcome.

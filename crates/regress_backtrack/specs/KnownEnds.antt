@@ -9,7 +9,7 @@ use Rattle.regress_search.specs.CharLoopExits.{IsClassTest}
 use Rattle.regress_search.specs.TreePlanAndText.{SearchInput, program_of}
 use Rattle.regress_backtrack.specs.declared.position_and_result.ThreadPos.{ThreadPos}
 use Rattle.regress_backtrack.specs.declared.failure_memo.RecordKey.{RecordKey as Stored}
-use Rattle.regress_backtrack.specs.FailureMemo.{MemoScheme, KeyFindsEnd, memo_key_as_spec}
+use Rattle.regress_backtrack.specs.FailureMemo.{MemoScheme, KeyFindsEnd, record_key_as_spec}
 use Rattle.regress_backtrack.specs.State.{StateModel, current_thread_state_of}
 use Rattle.regress_backtrack.specs.ChoicePoints.{resume_points_of_choice_point}
 use Rattle.regress_backtrack.specs.PendingThreads.{pending_above}
@@ -44,14 +44,14 @@ module _ (w : SearchInput) (t : MemoScheme) (forward : Bool) where
   -- The thread at this position finds an end, and so does each thread of the key.
   abbrev pub ThreadHasKnownEnd : (here : ThreadPos) → StateModel → Stored → Type 0
   ThreadHasKnownEnd here h key = ThreadFindsEnd w forward here h
-      × KeyFindsEnd (program_of w) w.text t (memo_key_as_spec key)
+      × KeyFindsEnd (program_of w) w.text t (record_key_as_spec key)
 
   -- The thread at this position and those that are pending above the base find an end, and so do
   -- those above each record. Each thread of the key finds an end.
   pub record IsKnownEnd (base : StackAndLogBase) (here : ThreadPos) (h : StateModel) (key : Stored) : Type 0 where
     pub found : FindsEndAbove w forward base.choice_points here h
     pub above_records : FindsEndAboveRecords w forward base.choice_points here h
-    pub key_finds : KeyFindsEnd (program_of w) w.text t (memo_key_as_spec key)
+    pub key_finds : KeyFindsEnd (program_of w) w.text t (record_key_as_spec key)
 
 -- The last choice point, which is above the base, holds exits of a lazy char loop in a search to the
 -- right, and nothing has changed since it was pushed.

@@ -2,8 +2,7 @@ pub mod ProgramsAndPlans
 pub mod State
 pub mod UndoLog
 pub mod PendingThreads
-pub mod StepsTakenFromBudget
-pub mod WorkPaidFromBudget
+pub mod BudgetAccounting
 pub mod StateTransitions
 pub mod ChoicePoints
 pub mod OpExecution

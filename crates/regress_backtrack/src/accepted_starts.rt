@@ -6,7 +6,7 @@ ghost use Rattle.std.specs.List.{starts_with};
 ghost use Rattle.regex_meaning.specs.{CodeUnitOffsets.{IsBoundary}, StartPredicate.{first_byte_is_one_of, utf8_bytes_of_text_from_place}};
 ghost use Rattle.regress_input.specs.CharAndByteReadsFromOffset.{place};
 ghost use Rattle.regress_program.specs.InsnsAsSpec.{start_predicate_as_spec};
-ghost use Rattle.regress_backtrack.specs.LimitedStarts.{admits_start as lets, IsFirstTriedStart, IsTriedStartAfterFailure};
+ghost use Rattle.regress_backtrack.specs.LimitedStarts.{admits_start as spec_admits_start, IsFirstTriedStart, IsTriedStartAfterFailure};
 
 use regex_pattern_front::bytesearch::ByteSet;
 use regress_input::cursor::Forward;
@@ -54,7 +54,7 @@ fn admits_start<Input: InputIndexer>(
     requires at { IsBoundary (Input.text input.now) (Input.Position.offset at) }
     requires bytes { IsTrue Input.Units.ARE_BYTES }
     ensures { let text = Input.text input.now in
-        result ≡ lets (start_predicate_as_spec start.now) text (place text (Input.Position.offset at)) }
+        result ≡ spec_admits_start (start_predicate_as_spec start.now) text (place text (Input.Position.offset at)) }
 {
     match start {
         StartPredicate::Arbitrary | StartPredicate::StartAnchored => true,
@@ -99,7 +99,8 @@ pub(crate) fn next_start_to_try<Input: InputIndexer>(
     requires at { IsBoundary (Input.text input.now) (Input.Position.offset tried) }
     requires bytes { IsTrue Input.Units.ARE_BYTES }
     ensures { let at = Input.Position.offset in
-        IsTriedStartAfterFailure (start_predicate_as_spec start.now) (Input.text input.now) (at tried) (option_map at result) }
+        IsTriedStartAfterFailure (start_predicate_as_spec start.now) (Input.text input.now) (at tried)
+        (option_map at result) }
 {
     if start.is_anchored() {
         return None;

@@ -66,8 +66,8 @@ pub struct BacktrackExecutor<'r, Input: InputIndexer> {
         (scheme_of_optional_memo (λ memo. scheme_of memo.value.memo_analysis) with_memo.progress.memo)
         (failures_of_optional_memo (λ memo. has_success memo.value) with_memo.progress.memo) } by { Prim.hlevel props },
     // No match begins between the two offsets of the last leap.
-    ghost no_match_in_last_leap: { NoMatchBeforeRememberedLeap (executed_tree_of search.program) (Input.text search.searched.input)
-        leap } by { Prim.hlevel props },
+    ghost no_match_in_last_leap: { NoMatchBeforeRememberedLeap (executed_tree_of search.program)
+        (Input.text search.searched.input) leap } by { Prim.hlevel props },
     // Only groups are opened before the leading char loop.
     ghost opened: { OnlyOpensGroups search.program.plan leading_loop.opens } by { Prim.hlevel props },
 }
@@ -169,7 +169,8 @@ fn next_candidate_past_leap<W: SearchContext>(
 ) -> Option<PositionOf<W>>
     requires at { IsBoundary (W.searching context.now).text (W.Input.Position.offset from) }
     requires executable { let w = W.searching context.now in TreeProgramCanSearchText (program_of w) w.tree w.text }
-    requires no_match_in_last_leap { let w = W.searching context.now in NoMatchBeforeRememberedLeap w.tree w.text leap.now }
+    requires no_match_in_last_leap { let w = W.searching context.now in NoMatchBeforeRememberedLeap w.tree w.text
+        leap.now }
     ensures { let w = W.searching context.now in let at = W.Input.Position.offset in
         NextStartSkipsNoMatch w.tree w.text (at from) (option_map at result) }
 {
@@ -189,7 +190,8 @@ fn next_candidate_by_remembered_leap<W: SearchContext>(
 ) -> Option<PositionOf<W>>
     requires at { IsBoundary (W.searching context.now).text (W.Input.Position.offset from) }
     requires executable { let w = W.searching context.now in TreeProgramCanSearchText (program_of w) w.tree w.text }
-    requires no_match_in_last_leap { let w = W.searching context.now in NoMatchBeforeRememberedLeap w.tree w.text leap.now }
+    requires no_match_in_last_leap { let w = W.searching context.now in NoMatchBeforeRememberedLeap w.tree w.text
+        leap.now }
     ensures { let w = W.searching context.now in let at = W.Input.Position.offset in
         NextStartSkipsNoMatch w.tree w.text (at from) (option_map at result) }
 {

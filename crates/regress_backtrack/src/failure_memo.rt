@@ -3,11 +3,10 @@
 
 ghost use Rattle.std.specs.Prelude.{◌≡◌, ◌≤◌, ◌⊎◌, ◌∷◌, [], Bool, true, false, IfSome};
 ghost use Rattle.regex_meaning.specs.CodeUnitOffsets.{units};
-ghost use Rattle.regress_memo.specs.MemoSearch.{Key as KeyOf};
+ghost use Rattle.regress_memo.specs.MemoSearch.{Key};
 ghost use Rattle.regress_machine.specs.Machine.{running};
 ghost use Rattle.regress_backtrack.specs.{State.{current_thread_state_of}, MemoizedCharLoops.{DecidesLoopRest}};
-ghost use Rattle.regress_backtrack.specs.FailureMemo.{MemoScheme, AreFailuresSound, KeyStandsForThreadsInDirection, memo_key_as_spec, scheme_recording_nothing};
-ghost use Rattle.regress_backtrack.specs.FailureMemo.{ContentsKeepState};
+ghost use Rattle.regress_backtrack.specs.FailureMemo.{MemoScheme, AreFailuresSound, KeyStandsForThreadsInDirection, record_key_as_spec, scheme_recording_nothing, ContentsKeepState};
 
 use crate::position_and_result::DirectedThreadPos;
 use crate::state::BacktrackState;
@@ -33,12 +32,12 @@ pub trait FailureMemo {
 
     ghost terms: { Self → MemoScheme };
 
-    ghost failed: { Self → KeyOf → Bool };
+    ghost failed: { Self → Key → Bool };
 
-    ghost succeeded: { Self → KeyOf → Bool };
+    ghost succeeded: { Self → Key → Bool };
 
     // The memo has a place for the key.
-    ghost has_key: { Self → KeyOf → Type 0 };
+    ghost has_key: { Self → Key → Type 0 };
 
     /// Returns the key of a thread, if it has one.
     fn key_at<W: SearchContext>(
@@ -49,8 +48,9 @@ pub trait FailureMemo {
     ) -> Option<RecordKey>
         requires sound { AreFailuresSound (W.searching context.now) (terms self.now) (failed self.now) }
         requires inside { thread.here.at ≤ units (W.searching context.now).text }
-        ensures { IfSome result (λ k. KeyStandsForThreadsInDirection (W.searching context.now) (terms self.now) thread.forward
-            (memo_key_as_spec k) (running (current_thread_state_of memory.now thread.here.ip thread.here.at) ∷ [])) };
+        ensures { IfSome result (λ k. KeyStandsForThreadsInDirection (W.searching context.now) (terms self.now)
+            thread.forward
+            (record_key_as_spec k) (running (current_thread_state_of memory.now thread.here.ip thread.here.at) ∷ [])) };
 
     /// Returns the key of the rest of a char loop without a maximum, from an offset on. Returns
     /// `None` if it has no key.
@@ -62,7 +62,7 @@ pub trait FailureMemo {
     ) -> Option<RecordKey>
         requires sound { AreFailuresSound (W.searching context.now) (terms self.now) (failed self.now) }
         ensures { IfSome result (λ k. DecidesLoopRest (W.searching context.now) (terms self.now) run.forward run.here
-            (memo_key_as_spec k) memory.now) };
+            (record_key_as_spec k) memory.now) };
 
     /// Checks whether a search from an instruction is known to change neither groups nor loop data.
     fn keeps_state<W: SearchContext>(&self, context: &W, ip: usize, memory: &BacktrackState) -> bool
@@ -71,27 +71,27 @@ pub trait FailureMemo {
 
     /// Checks whether a key is known to fail.
     fn is_known_to_fail(&self, key: RecordKey) -> bool
-        ensures { result ≡ failed self.now (memo_key_as_spec key) };
+        ensures { result ≡ failed self.now (record_key_as_spec key) };
 
     /// Checks whether a key is known to find an end.
     fn is_known_to_find_end(&self, key: RecordKey) -> bool
-        ensures { result ≡ succeeded self.now (memo_key_as_spec key) };
+        ensures { result ≡ succeeded self.now (record_key_as_spec key) };
 
     /// Records that a key finds an end, if the memo has the key and records ends.
     fn record_key_found_end(&mut self, key: RecordKey)
         ensures terms { terms self.new ≡ terms self.old }
-        ensures failed { (k : KeyOf) → failed self.new k ≡ failed self.old k }
-        ensures succeeded { (k : KeyOf) → succeeded self.new k ≡ true → (succeeded self.old k ≡ true) ⊎
-            (k ≡ memo_key_as_spec key) };
+        ensures failed { (k : Key) → failed self.new k ≡ failed self.old k }
+        ensures succeeded { (k : Key) → succeeded self.new k ≡ true → (succeeded self.old k ≡ true) ⊎
+            (k ≡ record_key_as_spec key) };
 
     /// Records that a key has failed, if the memo has the key.
     fn record_key_failed(&mut self, key: RecordKey)
         ensures terms { terms self.new ≡ terms self.old }
-        ensures succeeded { (k : KeyOf) → succeeded self.new k ≡ succeeded self.old k }
-        ensures failed { (k : KeyOf) → failed self.new k ≡ true → (failed self.old k ≡ true) ⊎
-            (k ≡ memo_key_as_spec key) }
-        ensures recorded { has_key self.old (memo_key_as_spec key) → failed self.new (memo_key_as_spec key) ≡ true }
-        ensures kept { (k : KeyOf) → failed self.old k ≡ true → failed self.new k ≡ true };
+        ensures succeeded { (k : Key) → succeeded self.new k ≡ succeeded self.old k }
+        ensures failed { (k : Key) → failed self.new k ≡ true → (failed self.old k ≡ true) ⊎
+            (k ≡ record_key_as_spec key) }
+        ensures recorded { has_key self.old (record_key_as_spec key) → failed self.new (record_key_as_spec key) ≡ true }
+        ensures kept { (k : Key) → failed self.old k ≡ true → failed self.new k ≡ true };
 }
 
 /// The step counter of a search, and its failure memo.

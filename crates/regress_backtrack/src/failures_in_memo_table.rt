@@ -3,12 +3,12 @@
 ghost use Rattle.std.specs.Prelude.{◌≡◌, ℕ, true, false, None, is_some, IfOk, IfSome, map};
 ghost use Rattle.regress_memo.specs.{LoopDataKeyCodes.{HasSlotsOfProgram}, UnboundedCharLoopMemoKeys.{char_loop_greediness_at, insn_before}};
 ghost use Rattle.regress_memo.specs.CheckedAnalysis.{IsRecordableMemoKey};
-ghost use Rattle.regress_memo.specs.MemoContents.{has_failure, has_success, memo_key_as_spec as key_known};
+ghost use Rattle.regress_memo.specs.MemoContents.{has_failure, has_success, memo_key_as_spec};
 ghost use Rattle.regress_program.specs.{InsnsAsSpec.{insn_as_spec_insn}, Plans.{op_as_char_loop}};
 ghost use Rattle.regress_search.specs.TreePlanAndText.{program_of};
 ghost use Rattle.regress_backtrack.specs.{State.{current_thread_state_of}, FailuresInMemoTable.{scheme_of, IsMemoRight}};
 ghost use Rattle.regress_backtrack.specs.FailuresInMemoTable.{keeps_state_from as spec_keeps_state_from};
-ghost use Rattle.regress_backtrack.specs.FailureMemo.{memo_key_as_spec, scheme_of_optional_memo, failures_of_optional_memo, has_key_in_optional_memo};
+ghost use Rattle.regress_backtrack.specs.FailureMemo.{record_key_as_spec, scheme_of_optional_memo, failures_of_optional_memo, has_key_in_optional_memo};
 
 use crate::failure_memo::{FailureMemo, RecordKey, StepsAndMemo};
 use crate::position_and_result::DirectedThreadPos;
@@ -189,7 +189,7 @@ impl FailureMemo for MemoTable {
 // Converts a key of the memo table to the form that choice points hold.
 #[inline(always)]
 fn record_key_of(key: Known) -> Option<RecordKey>
-    ensures { IfSome result (λ k. memo_key_as_spec k ≡ key_known key) }
+    ensures { IfSome result (λ k. record_key_as_spec k ≡ memo_key_as_spec key) }
 {
     match u32::try_from(key.ip) {
         Ok(ip) => Some(RecordKey {
@@ -204,7 +204,7 @@ fn record_key_of(key: Known) -> Option<RecordKey>
 // Converts a key of a choice point to a key of the memo table.
 #[inline(always)]
 fn memo_key_of(key: RecordKey) -> Known
-    ensures { key_known result ≡ memo_key_as_spec key }
+    ensures { memo_key_as_spec result ≡ record_key_as_spec key }
 {
     Known {
         ip: key.ip as usize,

@@ -56,7 +56,7 @@ impl LeapMemory {
 
     // Checks whether a leap precedes an attempt at an offset.
     #[inline(always)]
-    fn is_due(&self, at: usize) -> bool {
+    fn is_leap_due(&self, at: usize) -> bool {
         at >= self.due
     }
 
@@ -110,7 +110,7 @@ pub(crate) fn make_leap_if_due<W: SearchContext>(
     ensures sound { let w = W.searching context.now in NoMatchBeforeRememberedLeap w.tree w.text memory.old
         → NoMatchBeforeRememberedLeap w.tree w.text memory.new }
 {
-    if !memory.is_due(at) {
+    if !memory.is_leap_due(at) {
         return false;
     }
     make_leap_after_first_attempt(context, memory, at)
@@ -152,7 +152,8 @@ fn make_leap_and_store_it<W: SearchContext>(
 ) -> bool
     requires at { IsBoundary (W.searching context.now).text at }
     requires executable { let w = W.searching context.now in TreeProgramCanSearchText (program_of w) w.tree w.text }
-    requires leap { let w = W.searching context.now in IsLeapRightForProgram (is_16_bit_encoding w.encoding) (program_of w) leap.now }
+    requires leap { let w = W.searching context.now in IsLeapRightForProgram (is_16_bit_encoding w.encoding)
+        (program_of w) leap.now }
     ensures none { let w = W.searching context.now in result ≡ true → NoMatchAt w.tree w.text at }
     ensures sound { let w = W.searching context.now in NoMatchBeforeRememberedLeap w.tree w.text memory.new }
 {

@@ -1,12 +1,10 @@
 //! The state of a search: slots, an undo log of their former values, and choice points.
 
-ghost use Rattle.std.specs.Prelude.{◌≡◌, ◌≢◌, ◌<◌, ◌≤◌, ◌+◌, ◌-◌, ◌^◌, ◌++◌, ℕ, [], ◌∷◌, length, take, map, slice_get, slice_set, Some, true, false, OnOk, OnErr, IfOk};
-ghost use Rattle.regress_backtrack.specs.State.{StateModel, undone, IsStateInvariant, initial_slot as first_slot_at, logical_slot_value, logical_undo_entry};
-ghost use Rattle.regress_backtrack.specs.State.{SlotsAreUnsetAndUnlogged, undo_entry_logged_for_slot};
-ghost use Rattle.regress_backtrack.specs.State.{log_len_at_choice_point as noted_since, initial_state, current_thread_state_of, loop_data_in_slot, with_choice_point_list};
-ghost use Rattle.regress_backtrack.specs.State.{ChangesFromNumberAreUndone, SetsSlotUndoably, ChangesStateUndoably, with_group_open};
-ghost use Rattle.regress_backtrack.specs.State.{state_with_group_unset, with_group_range, with_loop_iteration};
-ghost use Rattle.regress_backtrack.specs.UndoLog.{HasLogRoomOrIsLogged, IsLoggedOnce};
+ghost use Rattle.std.specs.Prelude.{◌≡◌, ◌≢◌, ◌<◌, ◌≤◌, ◌+◌, ◌-◌, ◌^◌, ◌++◌, ℕ, [], ◌∷◌, length, take, drop, map, slice_get, slice_set, Some, true, false, IsTrue, OnOk, OnErr, IfOk};
+ghost use Rattle.regress_backtrack.specs.State.{StateModel, undone, IsStateInvariant, initial_slot as spec_initial_slot, logical_slot_value, logical_undo_entry, SlotsAreUnsetAndUnlogged, undo_entry_logged_for_slot, are_slot_numbers_below, ChangesFromNumberAreUndone, LogIsCompacted, SetsSlotUndoably, ChangesStateUndoably, with_group_open};
+ghost use Rattle.regress_backtrack.specs.State.{log_len_at_choice_point as spec_log_len_at_choice_point, initial_state, current_thread_state_of, loop_data_in_slot, with_choice_point_list, state_with_group_unset, with_group_range, with_loop_iteration};
+ghost use Rattle.regress_backtrack.specs.UndoLog.{HasLogRoomOrIsLogged, IsLoggedOnce, ChangesAreCompacted};
+ghost use Rattle.std.specs.List.{All};
 
 use crate::lookaround_frames::LookaroundFrame;
 use std::alloc::{AllocError, Global};
@@ -134,7 +132,7 @@ const MAX_VEC_GROWTH: usize = 4096;
 // Makes a vector longer.
 #[cold]
 #[inline(never)]
-fn grow<T: Copy + Drop>(row: &mut Vec<T>, value: T) -> Result<(), AllocError>
+fn extend_with_copies<T: Copy + Drop>(row: &mut Vec<T>, value: T) -> Result<(), AllocError>
     ensures longer { OnOk result (length row.old.items < length row.new.items) }
     ensures kept { OnOk result (take (length row.old.items) row.new.items ≡ row.old.items) }
     ensures refused { OnErr result (row.new.items ≡ row.old.items) }
@@ -152,7 +150,7 @@ fn grow<T: Copy + Drop>(row: &mut Vec<T>, value: T) -> Result<(), AllocError>
 // none.
 #[inline(always)]
 fn log_len_at_choice_point(choice_points: &[ChoicePoint]) -> usize
-    ensures { result ≡ noted_since choice_points.now }
+    ensures { result ≡ spec_log_len_at_choice_point choice_points.now }
 {
     if choice_points.len() == 0 {
         0
@@ -176,7 +174,8 @@ fn reserve(
 ) -> Result<bool, AllocError>
     requires used { used ≤ length log.old.items }
     requires free { free.old ≤ length log.old.items }
-    ensures room { IfOk result (HasLogRoomOrIsLogged used (noted_since choice_points.now) noted log.new.items) }
+    ensures room { IfOk result (HasLogRoomOrIsLogged used (spec_log_len_at_choice_point choice_points.now) noted
+        log.new.items) }
     ensures kept { take used log.new.items ≡ take used log.old.items }
     ensures used { used ≤ length log.new.items }
     ensures free { free.new ≤ length log.new.items }
@@ -224,7 +223,7 @@ fn grow_log_if_full(log: &mut Vec<UndoEntry>, used: usize) -> Result<(), AllocEr
     if used < log.len() {
         return Ok(());
     }
-    grow(log, UNDO_ENTRY_PLACEHOLDER)
+    extend_with_copies(log, UNDO_ENTRY_PLACEHOLDER)
 }
 
 #[inline(always)]
@@ -252,7 +251,7 @@ fn log_change(
     requires free { free.old ≤ length log.old.items }
     requires slot { slot < length slots.now }
     ensures noted { IfOk result (IsLoggedOnce (undo_entry_logged_for_slot slots.now slot)
-        (noted_since choice_points.now) log_len.old log.old.items log_len.new log.new.items) }
+        (spec_log_len_at_choice_point choice_points.now) log_len.old log.old.items log_len.new log.new.items) }
     ensures refused { OnErr result ((log_len.new ≡ log_len.old)
         × (take log_len.old log.new.items ≡ take log_len.old log.old.items)) }
     ensures log_len { log_len.new ≤ length log.new.items }
@@ -282,13 +281,13 @@ fn set_slot_count(slots: &mut Vec<GroupOrLoopState>, count: usize) -> Result<(),
     if slots.len() == count {
         return Ok(());
     }
-    make(slots, count)
+    change_slot_count(slots, count)
 }
 
 // Changes the number of slots to `count`, which is another number than before.
 #[cold]
 #[inline(never)]
-fn make(slots: &mut Vec<GroupOrLoopState>, count: usize) -> Result<(), AllocError>
+fn change_slot_count(slots: &mut Vec<GroupOrLoopState>, count: usize) -> Result<(), AllocError>
     ensures made { OnOk result (length slots.new.items ≡ count) }
     ensures fresh { SlotsAreUnsetAndUnlogged slots.old.items → SlotsAreUnsetAndUnlogged slots.new.items }
     ensures refused { OnErr result (slots.new.items ≡ slots.old.items) }
@@ -304,7 +303,7 @@ fn make(slots: &mut Vec<GroupOrLoopState>, count: usize) -> Result<(), AllocErro
 // Returns the initial value of a slot, in a search from an offset.
 #[inline(always)]
 fn initial_slot(at: usize) -> GroupOrLoopState
-    ensures { result ≡ first_slot_at at }
+    ensures { result ≡ spec_initial_slot at }
 {
     GroupOrLoopState {
         at,
@@ -322,6 +321,37 @@ fn reset_all_slots(slots: &mut Vec<GroupOrLoopState>)
     for id in 0..slots.len() {
         slots[id] = SLOT_PLACEHOLDER;
     }
+}
+
+// Drops changes after the first `from` whose slots were logged after the first `from` before.
+// Returns the number of changes that are left, and gives their slots the numbers from before them.
+#[inline(always)]
+fn compact_changes(
+    log: &mut Vec<UndoEntry>,
+    log_len: usize,
+    slots: &mut Vec<GroupOrLoopState>,
+    from: usize,
+) -> usize
+    requires from { from ≤ log_len }
+    requires log_len { log_len ≤ length log.old.items }
+    requires slots { IsTrue (are_slot_numbers_below (length slots.old.items) (take log_len log.old.items)) }
+    requires noted { All (λ s. s.noted ≤ from) (undone slots.old.items (drop from (take log_len log.old.items))) }
+    ensures shorter { result ≤ log_len }
+    ensures log { length log.new.items ≡ length log.old.items }
+    ensures compacted { ChangesAreCompacted from slots.old.items (take log_len log.old.items) slots.new.items
+        (take result log.new.items) }
+{
+    let mut kept = from;
+    for index in from..log_len {
+        let change = log[index];
+        // Otherwise, an earlier change of the slot is kept.
+        if change.old.noted as usize <= from {
+            log[kept] = change;
+            slots[change.slot].noted = change.old.noted;
+            kept += 1;
+        }
+    }
+    kept
 }
 
 impl BacktrackState {
@@ -443,6 +473,28 @@ impl BacktrackState {
         self.slots[change.slot] = change.old;
     }
 
+    /// If the undo log is long, shortens it to its first `from` changes and the oldest later change
+    /// of each slot. Undoing it to number `from` or less has the same effect as before.
+    #[inline(always)]
+    pub fn compact_log(&mut self, from: usize)
+        requires { from ≤ length self.old.log }
+        ensures { LogIsCompacted from self.old self.new }
+    {
+        if self.log_len() > UNCHECKED_ENTRIES {
+            self.compact_long_log(from);
+        }
+    }
+
+    // Shortens the undo log. The function is not inlined, since most logs are short.
+    #[cold]
+    #[inline(never)]
+    fn compact_long_log(&mut self, from: usize)
+        requires { from ≤ length self.old.log }
+        ensures { LogIsCompacted from self.old self.new }
+    {
+        self.log_len = compact_changes(&mut self.log, self.log_len, &mut self.slots, from);
+    }
+
     // ---- Choice points
 
     /// Returns the number of choice points.
@@ -461,7 +513,7 @@ impl BacktrackState {
         ensures refused { OnErr result (self.new ≡ self.old) }
     {
         if self.choice_point_len >= self.choice_points.len() {
-            grow(&mut self.choice_points, CHOICE_POINT_PLACEHOLDER)?;
+            extend_with_copies(&mut self.choice_points, CHOICE_POINT_PLACEHOLDER)?;
         }
         self.choice_points[self.choice_point_len] = mark;
         self.choice_point_len += 1;

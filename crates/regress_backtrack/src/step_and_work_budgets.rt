@@ -1,9 +1,8 @@
 //! Budgets of a search: how many steps it may take, and how much work it may do.
 
 ghost use Rattle.std.specs.Prelude.{◌≡◌, ◌<◌, ◌+◌, ◌⊎◌, ℕ, Bool, true, false, OnOk, OnErr, IsTrue, refl};
-ghost use Rattle.std.proofs.Common.{sym};
-ghost use Rattle.regress_backtrack.specs.StepsTakenFromBudget.{Budget, AreStepsTakenFromBudget, AreStepsRefused};
-ghost use Rattle.regress_backtrack.specs.WorkPaidFromBudget.{IsPaid, IsShort};
+ghost use Rattle.std.proofs.Common.{sym, true≢false};
+ghost use Rattle.regress_backtrack.specs.BudgetAccounting.{Budget, IsTakenFromBudget, IsRefusedByBudget};
 
 use std::alloc::AllocError;
 
@@ -48,28 +47,29 @@ pub trait StepCounter: Copy {
 
     /// Pays for units of work. If fewer are left, returns `Err`, and no work is left.
     fn pay(&mut self, units: usize) -> Result<(), SearchStoppedWithoutResult>
-        ensures paid { OnOk result (IsPaid PAYS units (work self.old) (work self.new)) }
-        ensures short { OnErr result (IsShort PAYS units (work self.old) (work self.new)) }
+        ensures paid { OnOk result (IsTakenFromBudget PAYS units (work self.old) (work self.new)) }
+        ensures short { OnErr result (IsRefusedByBudget PAYS units (work self.old) (work self.new)) }
         ensures steps { budget self.new ≡ budget self.old };
 
     /// Takes a number of steps. If fewer are left, returns `Err`, and no steps are left.
     fn take(&mut self, steps: usize) -> Result<(), SearchStoppedWithoutResult>
         ensures work { work self.new ≡ work self.old }
-        ensures taken { OnOk result (AreStepsTakenFromBudget COUNTS steps (budget self.old) (budget self.new)) }
-        ensures refused { OnErr result (AreStepsRefused COUNTS steps (budget self.old) (budget self.new)) };
+        ensures taken { OnOk result (IsTakenFromBudget COUNTS steps (budget self.old) (budget self.new)) }
+        ensures refused { OnErr result (IsRefusedByBudget COUNTS steps (budget self.old) (budget self.new)) };
 
-    /// Charges one backtrack: takes one step, pays one unit of work, and does some work. Returns
-    /// `Err` if too much work was done, or if no step or no work is left.
+    /// Charges one backtrack: takes one step, pays one unit of work (`PAYS`), and counts towards
+    /// the work after which failures are memoized. Returns `Err` if too much work was done, or if
+    /// no step or no work is left.
     fn backtrack(&mut self) -> Result<(), SearchStoppedWithoutResult>
-        ensures taken { OnOk result (AreStepsTakenFromBudget COUNTS 1 (budget self.old) (budget self.new)) }
-        ensures stopped { OnErr result (AreStepsTakenFromBudget COUNTS 1 (budget self.old) (budget self.new)
-            ⊎ AreStepsRefused COUNTS 1 (budget self.old) (budget self.new)) }
-        ensures paid { OnOk result (IsPaid PAYS 1 (work self.old) (work self.new)) }
-        ensures short { OnErr result (IsTrue PAYS → IsShort PAYS 1 (work self.old) (work self.new)) };
+        ensures taken { OnOk result (IsTakenFromBudget COUNTS 1 (budget self.old) (budget self.new)) }
+        ensures stopped { OnErr result (IsTakenFromBudget COUNTS 1 (budget self.old) (budget self.new)
+            ⊎ IsRefusedByBudget COUNTS 1 (budget self.old) (budget self.new)) }
+        ensures paid { OnOk result (IsTakenFromBudget PAYS 1 (work self.old) (work self.new)) }
+        ensures short { OnErr result (IsTrue PAYS → IsRefusedByBudget PAYS 1 (work self.old) (work self.new)) };
 
-    /// Charges units that one operation read, or choice points that were dropped at once. Only a
-    /// large number counts as work.
-    fn charge_bulk_work(&mut self, units: usize)
+    /// Notes units that one operation read, or choice points that were dropped at once. Only a
+    /// large number counts, towards the work after which failures are memoized. No work is paid.
+    fn note_bulk_work(&mut self, units: usize)
         ensures budget { budget self.new ≡ budget self.old }
         ensures work { work self.new ≡ work self.old };
 
@@ -82,6 +82,9 @@ pub trait StepCounter: Copy {
         ensures { result ≡ (budget self.now).out };
 
     ghost uncounted: { PAYS ≡ true → COUNTS ≡ false };
+
+    // If work is not paid, its budget is always the same.
+    ghost unpaid: { PAYS ≡ false → (one another : Self) → work one ≡ work another };
 }
 
 // The smallest number of units that counts as work. Reading fewer takes little more time than
@@ -170,7 +173,7 @@ impl<const BOUND: bool> StepCounter for WorkCounterWithoutStepLimit<BOUND> {
     }
 
     #[inline(always)]
-    fn charge_bulk_work(&mut self, units: usize) {
+    fn note_bulk_work(&mut self, units: usize) {
         if BOUND && units >= MIN_UNITS_COUNTED_AS_WORK {
             self.work = self.work.wrapping_sub(units as u64);
         }
@@ -190,6 +193,8 @@ impl<const BOUND: bool> StepCounter for WorkCounterWithoutStepLimit<BOUND> {
     }
 
     ghost uncounted = { λ pays. refl };
+
+    ghost unpaid = { λ free one another. refl };
 }
 
 /// A counter that limits steps: how many are left, and whether any were refused.
@@ -242,7 +247,7 @@ impl StepCounter for LimitedStepCounter {
     }
 
     #[inline(always)]
-    fn charge_bulk_work(&mut self, _units: usize) {}
+    fn note_bulk_work(&mut self, _units: usize) {}
 
     #[inline(always)]
     fn stop_if_too_much_work(&self) -> Result<(), SearchStoppedWithoutResult> {
@@ -255,6 +260,8 @@ impl StepCounter for LimitedStepCounter {
     }
 
     ghost uncounted = { λ pays. sym pays };
+
+    ghost unpaid = { λ free one another. refl };
 }
 
 /// A counter without a step limit, with a budget from which work is paid.
@@ -309,7 +316,7 @@ impl StepCounter for WorkBudget {
     }
 
     #[inline(always)]
-    fn charge_bulk_work(&mut self, _units: usize) {}
+    fn note_bulk_work(&mut self, _units: usize) {}
 
     #[inline(always)]
     fn stop_if_too_much_work(&self) -> Result<(), SearchStoppedWithoutResult> {
@@ -322,4 +329,6 @@ impl StepCounter for WorkBudget {
     }
 
     ghost uncounted = { λ pays. refl };
+
+    ghost unpaid = { λ free one another. absurd (true≢false free) };
 }

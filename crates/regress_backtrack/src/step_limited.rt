@@ -27,7 +27,8 @@ pub struct LimitedExecutor<'r, 't> {
     start: &'r StartPredicate,
     // The steps that are left, and whether the last attempt was refused any.
     steps: LimitedStepCounter,
-    ghost start_predicate_is_of_tree: { start_predicate (tree_of executor.search.program.regex) ≡ start_predicate_as_spec start.now },
+    ghost start_predicate_is_of_tree: { start_predicate (tree_of executor.search.program.regex) ≡
+        start_predicate_as_spec start.now },
 }
 
 impl<'r, 't> LimitedExecutor<'r, 't> {

@@ -11,7 +11,7 @@ use Rattle.regress_input.proofs.BoundaryPositions.{boundary_inside}
 use Rattle.regress_search.specs.AttemptsAndStarts.{match_end_and_groups_at, steps_for_attempt, search_from}
 use Rattle.regress_search.proofs.AttemptSearchLemmas.{begins}
 use Rattle.regex_meaning.specs.CompilationRelation.{Program}
-use Rattle.regress_machine.specs.SearchFindsFirstOutcomeAtPlace.{state_before_first_insn, end_of, TreeProgramCanSearchText}
+use Rattle.regress_machine.specs.SearchFindsFirstOutcomeAtPlace.{state_before_first_insn, end_and_groups_of_state, TreeProgramCanSearchText}
 use Rattle.regress_machine.specs.InsnEffects.{end_of_search}
 use Rattle.regress_machine.specs.Machine as machine
 use Rattle.regress_machine.specs.Machine.{running, ends, Found, search}
@@ -34,12 +34,11 @@ use Rattle.regress_pikevm.specs.InsnEffects.{end_and_groups}
 use Rattle.regress_pikevm.proofs.ExecutorTurnLemmas.{map-end}
 use Rattle.regress_pikevm.specs.declared.pikevm.states.State.{State}
 use Rattle.regress_bounded.specs.WorkBoundForAllMatches.{AnalysisBoundsProgram, work_per_unit}
-use Rattle.regress_bounded.specs.BoundedState.{AnalysisBoundsSearch, IsSoundMemo, IsMemoRight, BoundedAttempt, BoundedAttemptBegins, AttemptHasState}
+use Rattle.regress_bounded.specs.BoundedState.{AnalysisBoundsSearch, IsSoundMemo, IsMemoRight, BoundedAttempt, BoundedAttemptBegins, AttemptHasState, HasAttemptState, AbortedBecauseWorkIsSpent, AttemptEndsAt, AttemptResultIs, entry_of_current_thread}
 use Rattle.regress_bounded.specs.CostsOfSearchEvents.{Costs, nothing_yet, then_happens}
 use Rattle.regress_bounded.specs.CostsOfAttempts.{AttemptCosts, EventsOfAttempt, HasFinished, IsListOfFailures, failures_of, is_end, no_entry}
 use Rattle.regress_bounded.specs.declared.pending_stack.StackEntry.{StackEntry}
 use Rattle.regress_search.specs.CostsOfSearches.{CostsMoreThanLeft, Failures, TakesExactCost}
-use Rattle.regress_bounded.specs.BoundedState.{HasAttemptState, AbortedBecauseWorkIsSpent, AttemptEndsAt, AttemptResultIs, entry_of_current_thread}
 use Rattle.regress_bounded.specs.WorkOfCharLoopsAndAttempts.{HasMadeAttempts, AttemptsHaveKnownKeys, AttemptIsUnderWay}
 use Rattle.regress_pikevm.specs.States.{machine_state_of}
 use Rattle.regress_bounded.specs.WorkOfSuccessiveAttempts.{Walked, AttemptsLeaveEnoughWork as AreWalked}
@@ -248,7 +247,7 @@ module _ {P : Type 0} (offset : P → ℕ) {tree : Tree} {text : Text} (can : Tr
         ∥∥₁_elim knows (Prim.hlevel props) (λ right.
         let x = first right in
         let e = runs-found offset (compiled tree) text x.begin new end (runs x.begin x.begins) in
-        map-end offset end ∙ ap (option_map end_of) (sym e ∙ sym (ap end_of_search x.found)) ∙ (begins tree text at can on).end)
+        map-end offset end ∙ ap (option_map end_and_groups_of_state) (sym e ∙ sym (ap end_of_search x.found)) ∙ (begins tree text at can on).end)
 
     -- An attempt that stops for lack of work leaves no work.
     pub none-left : (e : AttemptAbortReason) → IsMemoRight (compiled tree) text old.memo → ByRuns (Err e) → e ≡ Work → new.left ≡ 0

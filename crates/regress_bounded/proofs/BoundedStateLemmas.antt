@@ -16,7 +16,7 @@ use Rattle.regress_memo.proofs.MemoSearchLemmas.{work-is-bounded, reached-fail}
 use Rattle.regress_memo.specs.declared.analysis_result.MemoAnalysis.{MemoAnalysis}
 use Rattle.regress_memo.specs.WorkBound.{initial_threads}
 use Rattle.regress_memo.specs.AnalysisAsPotentials.{analysis_as_liveness, recorded, potentials_of, key_cost_of}
-use Rattle.regress_memo.specs.CheckedAnalysis.{IsRecordableMemoKey, Serves}
+use Rattle.regress_memo.specs.CheckedAnalysis.{IsRecordableMemoKey, IsMemoPlanForText}
 use Rattle.regress_memo.proofs.CheckedAnalysisLemmas.{ledgers-serve}
 use Rattle.regress_memo.specs.Laws.{analysis_keys, KeyFails}
 use Rattle.regress_memo.specs.MemoContents.{memo_key_as_spec, has_failure, RecordsFailure}
@@ -30,8 +30,7 @@ use Rattle.regress_bounded.specs.declared.pending_stack.StackEntry.TheVariants.{
 use Rattle.regress_pikevm.specs.declared.pikevm.states.State.{State}
 use Rattle.std.proofs.Math.Logic.{∥∥₁_map, ∥∥₁_elim}
 use Rattle.std.proofs.Props.{props}
-use Rattle.regress_bounded.specs.BoundedState.{AnalysisBoundsSearch, IsSoundMemo, IsMemoRight, HasAttemptState, BoundedAttempt}
-use Rattle.regress_bounded.specs.BoundedState.{IsRecordOf, StackEntryStandsFor, StackStandsFor, IsStackOfEntriesFromTop, AttemptHasState}
+use Rattle.regress_bounded.specs.BoundedState.{AnalysisBoundsSearch, IsSoundMemo, IsMemoRight, HasAttemptState, BoundedAttempt, IsRecordOf, StackEntryStandsFor, StackStandsFor, IsStackOfEntriesFromTop, AttemptHasState}
 use Rattle.regress_bounded.specs.BoundedState.{TakesOneEvent, NextEventExceedsWorkLeft, MayBeNextSearchEvent, entry_of_current_thread}
 use Rattle.regress_bounded.specs.CostsOfSearchEvents.{Costs, IsSearchEvent, IsKnownToFail, reaches, resumes, then_happens}
 use Rattle.regress_bounded.proofs.SearchEventCostLemmas.{costs-come}
@@ -68,7 +67,7 @@ module _ {P : Type 0} (offset : P → ℕ) (program : Program) (text : Text) whe
 -- ---- The result of a search
 
 module _ (program : Program) (text : Text) (t : MemoAnalysis) (paid : AnalysisBoundsSearch program text t) where
-  abbrev pub served : Serves program t text
+  abbrev pub served : IsMemoPlanForText program t text
   served = ledgers-serve program t paid.memo_analysis text paid.is_text paid.bytes paid.short
 
   module _ (b : BoundedAttempt) (memory : IsMemory program text (analysis_as_liveness t) (analysis_keys program text t) b.memory)

@@ -1,6 +1,5 @@
 -- The laws on work cover each step at a char loop, and the threads that it leaves have keys.
-use Rattle.std.proofs.Common.{◌≡◌, ◌≤◌, ◌<◌, ◌^◌, ℕ, zero, suc, ◌+◌, ◌-◌, Bool, true, false, min, List, [], ◌∷◌, ◌++◌, map, reverse, length, Some}
-use Rattle.std.proofs.Common.{None, refl, sym, ap, ◌∙◌, subst, arith, append_assoc, append-nil, slice_get, sum_by}
+use Rattle.std.proofs.Common.{◌≡◌, ◌≤◌, ◌<◌, ◌^◌, ℕ, zero, suc, ◌+◌, ◌-◌, Bool, true, false, min, List, [], ◌∷◌, ◌++◌, map, reverse, length, Some, None, refl, sym, ap, ◌∙◌, subst, arith, append_assoc, append-nil, slice_get, sum_by}
 use Rattle.std.specs.Prelude.{if◌then◌else◌, ◌≢◌}
 use mathlib.Core.Logic.{inl, inr}
 use Rattle.std.proofs.lemmas.Bool.{cases_lt}
@@ -8,12 +7,13 @@ use Rattle.std.proofs.lemmas.List.{length-map, length-reverse, reverse-reverse, 
 use Rattle.std.proofs.lemmas.List.Sums.{sum_by-cons}
 use Rattle.regex_meaning.specs.Laws.{Each}
 use Rattle.regex_meaning.specs.NumberListHelpers.{numbers_from}
-use Rattle.regex_meaning.specs.Text.{Text, Direction, rightwards, leftwards, last_place, moved, characters_ahead}
+use Rattle.regex_meaning.specs.Text.{Text, Direction, rightwards, leftwards, last_place, moved}
 use Rattle.regex_meaning.specs.CodeUnitOffsets.{HasRisingPlaceOffsets, offset, place_at, units}
 use Rattle.regex_meaning.specs.CompilationRelation.{Program, Loop1CharBody}
-use Rattle.regex_meaning.proofs.EachElementLemmas.{Each-append, Each-map, Each-reverse}
+use Rattle.regex_meaning.proofs.EachElementLemmas.{Each-append, Each-map, Each-reverse, Each-left, Each-right}
 use Rattle.regex_meaning.proofs.ListLemmas.{length-numbers_from}
 use Rattle.regex_meaning.proofs.CodeUnitOffsetsLemmas.{offset-place_at}
+use Rattle.regex_meaning.proofs.OutcomeDirectionLemmas.{left-few}
 use Rattle.regress_machine.specs.Machine.{State, Thread, running, waiting, scans, first_running_and_others_waiting, char_loop_states, test_of, act}
 use Rattle.regress_machine.proofs.NearestCharacterLemmas.{moved-zero}
 use Rattle.regress_machine.proofs.CharLoopRepetitions.{numbers_between}
@@ -32,11 +32,9 @@ use Rattle.regress_memo.specs.MemoPlanChecksAndGuarantees.{RecordsNewKey, plan_s
 use Rattle.regress_memo.specs.UnboundedCharLoopMemoKeys.{char_loop_greediness_at, CharLoopRecords, run_key}
 use Rattle.regress_memo.specs.CharLoopExitThreadLists.{passing, pending_loop_threads}
 use Rattle.regress_memo.specs.UnboundedCharLoops.{placed, ExitKeysAreNew, AtCharLoop, GreedyGives, LazyGives}
-use Rattle.regress_memo.specs.MemoSearch.{Key, Entry, one_thread, thread_group, key_record, thread_entries, threads_in, entry_potential, GoesOnward, KeyStandsFor, AreSound, IsMemoStep}
-use Rattle.regress_memo.specs.MemoSearch.{ReachesBySteps, gives}
+use Rattle.regress_memo.specs.MemoSearch.{Key, Entry, one_thread, thread_group, key_record, thread_entries, threads_in, entry_potential, GoesOnward, KeyStandsFor, AreSound, IsMemoStep, ReachesBySteps, gives}
 use Rattle.regress_memo.specs.ThreadPotentials.{each_noted}
 use Rattle.regress_memo.proofs.CappedCharLoopLemmas.{others-paid, scans-give}
-use Rattle.regress_memo.proofs.DistinctListLemmas.{Each-left, Each-right}
 use Rattle.regress_memo.proofs.SharedMemoLookaroundLemmas.{soundness-stays}
 use Rattle.regress_memo.proofs.StepCostLemmas.{turns-paid, one-weighs}
 use Rattle.regress_memo.proofs.MemoPlanLemmas.{plans-take}
@@ -49,11 +47,9 @@ use Rattle.regress_memo.specs.declared.analysis_result.MemoAnalysis.{MemoAnalysi
 use Rattle.regress_memo.specs.UnreachedCharLoopBodies.{FlowsPastBodies}
 use Rattle.regress_memo.specs.WorkBound.{IsWorkBounded}
 use Rattle.regress_memo.specs.AnalysisChecks.{IsConsistentAt, unlimited}
-use Rattle.regress_memo.specs.AnalysisAsPotentials.{insn_analysis_of, analysis_as_liveness, key_code_questions_of, recorded, potentials_of}
-use Rattle.regress_memo.specs.AnalysisAsPotentials.{key_cost_of}
-use Rattle.regress_memo.specs.AnalysisAsPotentials.{insn_direction}
+use Rattle.regress_memo.specs.AnalysisAsPotentials.{insn_analysis_of, analysis_as_liveness, key_code_questions_of, recorded, potentials_of, key_cost_of, insn_direction}
 use Rattle.regress_memo.specs.Successors.{successors_of_insn_if_any}
-use Rattle.regress_memo.specs.CheckedAnalysis.{IsAnalysisOf, Serves}
+use Rattle.regress_memo.specs.CheckedAnalysis.{IsAnalysisOf, IsMemoPlanForText}
 use Rattle.regress_memo.proofs.CheckedAnalysisLemmas.{ledgers-serve}
 use Rattle.regress_memo.specs.Laws.{analysis_keys, KeyFails}
 use Rattle.regress_memo.specs.MemoContents.{memo_key_at}
@@ -121,10 +117,6 @@ module _ (R : Relation) where
 
 -- ---- Texts
 
-pub left-few : (text : Text) (d : Direction) (p : ℕ) → p ≤ last_place text → characters_ahead text d p ≤ last_place text
-left-few text rightwards p le = omega arith
-left-few text leftwards p le = le
-
 -- ---- Loops in general
 
 module _ (program : Program) (t : MemoAnalysis) (of : IsAnalysisOf program t) (bounded : IsWorkBounded t program) (text : Text) (is_text : HasRisingPlaceOffsets text) (bytes : ReadsAsBytes program text)
@@ -135,7 +127,7 @@ module _ (program : Program) (t : MemoAnalysis) (of : IsAnalysisOf program t) (b
   abbrev AllKeyed : List Thread → Type 0
   AllKeyed ts = AreKeyed program text t d ts
 
-  abbrev served : Serves program t text
+  abbrev served : IsMemoPlanForText program t text
   served = ledgers-serve program t of text is_text bytes less
 
   -- The turn leaves few threads, which have keys and stand behind the loop.
@@ -226,7 +218,7 @@ module _ (program : Program) (t : MemoAnalysis) (of : IsAnalysisOf program t) (b
 
 module _ (program : Program) (t : MemoAnalysis) (of : IsAnalysisOf program t) (bounded : IsWorkBounded t program) (text : Text) (is_text : HasRisingPlaceOffsets text) (bytes : ReadsAsBytes program text)
     (less : units text < 2 ^ 63) (d : Direction) (s : State) (test : ℕ → Bool) (least : ℕ) (greedy : Bool) (unbounded_loop : StateIsAtUnboundedCharLoop program s test least greedy) where
-  abbrev serves-here : Serves program t text
+  abbrev serves-here : IsMemoPlanForText program t text
   serves-here = served program t of bounded text is_text bytes less d
 
   -- The direction behind the loop is the direction at the loop.
@@ -381,7 +373,7 @@ module _ (program : Program) (t : MemoAnalysis) (of : IsAnalysisOf program t) (b
       ReachesBySteps program text (analysis_as_liveness t) (analysis_keys program text t) d (λ k. key_cost_of t k.ip) (potential_by program (potentials_of t) (key_cost_of t) (recorded t))
       memory first work now row
 
-  abbrev serves : Serves program t text
+  abbrev serves : IsMemoPlanForText program t text
   serves = served program t of bounded text is_text bytes less d
 
   abbrev Paid : (more : ℕ) → (front entries : List Entry) → Type 0

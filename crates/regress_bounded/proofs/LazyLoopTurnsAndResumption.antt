@@ -1,6 +1,5 @@
 -- A turn at a lazy unbounded char loop takes its nearest exit, and each resumption takes the next exit.
-use Rattle.std.proofs.Common.{◌≡◌, ◌≤◌, ◌<◌, ◌^◌, ℕ, ◌+◌, ◌-◌, Bool, true, false, min, List, [], ◌∷◌, ◌++◌, Option, Some, None, refl, sym, ap, ◌∙◌, subst}
-use Rattle.std.proofs.Common.{arith, inl, inr}
+use Rattle.std.proofs.Common.{◌≡◌, ◌≤◌, ◌<◌, ◌^◌, ℕ, ◌+◌, ◌-◌, Bool, true, false, min, List, [], ◌∷◌, ◌++◌, Option, Some, None, refl, sym, ap, ◌∙◌, subst, arith, inl, inr}
 use Rattle.std.specs.Prelude.{◌⊎◌, IsSome, is_some, option_map, slice_get}
 use Rattle.std.proofs.Math.Logic.{∥∥₁_elim}
 use Rattle.std.proofs.Props.{props}
@@ -9,6 +8,7 @@ use Rattle.regex_meaning.specs.Text.{Text, rightwards, last_place, moved}
 use Rattle.regex_meaning.specs.CodeUnitOffsets.{HasRisingPlaceOffsets, IsBoundary, units, place_at, offset as text_offset}
 use Rattle.regex_meaning.specs.CompilationRelation.{Program, Loop1CharBody}
 use Rattle.regex_meaning.proofs.CodeUnitOffsetsLemmas.{place_at-offset, offset-place_at, IsBoundary-place}
+use Rattle.regex_meaning.proofs.EscapesAndNamesLemmas.{Some_inj}
 use Rattle.regress_program.specs.InsnsAsSpec.{insn_as_spec_insn}
 use Rattle.regress_machine.specs.Machine as machine
 use Rattle.regress_machine.specs.Machine.{running, test_of}
@@ -29,8 +29,7 @@ use Rattle.regress_bounded.specs.declared.pending_stack.StackEntry.{StackEntry}
 use Rattle.regress_bounded.specs.declared.pending_stack.StackEntry.TheVariants.{PendingLazyLoop as AsRun, Record as AsRecord}
 use Rattle.regress_pikevm.specs.declared.pikevm.states.State.{State}
 use Rattle.regress_bounded.specs.CostsOfSearchEvents.{IsKnownToFail, ThreadsPendAbove, some_wait, takes_nearest, drops_loop, resumes_loop}
-use Rattle.regress_bounded.specs.BoundedState.{BoundedAttempt, IsStackOfEntriesFromTop, IsPendingLazyLoop, AttemptHasState, SomeAttemptHasState, HasAttemptState, TakesOneEvent, NextEventExceedsWorkLeft}
-use Rattle.regress_bounded.specs.BoundedState.{IsStateAtUnboundedLoopOverInsn, HasPassedRequiredChars, TakesNearestExit, MayBeNextSearchEvent}
+use Rattle.regress_bounded.specs.BoundedState.{BoundedAttempt, IsStackOfEntriesFromTop, IsPendingLazyLoop, AttemptHasState, SomeAttemptHasState, HasAttemptState, TakesOneEvent, NextEventExceedsWorkLeft, IsStateAtUnboundedLoopOverInsn, HasPassedRequiredChars, TakesNearestExit, MayBeNextSearchEvent}
 use Rattle.regress_bounded.specs.WorkOfCharLoopsAndAttempts.{StateIsAtUnboundedCharLoop, key_after_chars}
 use Rattle.regress_bounded.specs.BudgetSpending.{LowersBudgetByWork, WorkExceedsBudget}
 use Rattle.regress_pikevm.specs.States.{machine_state_of}
@@ -40,7 +39,6 @@ use Rattle.regress_memo.proofs.CharLoopExitLemmas.{passing-left}
 use Rattle.regress_search.proofs.CharLoopReach.{some-of}
 use Rattle.regress_search.proofs.StopByteScanLemmas.{places-few}
 use Rattle.regress_bounded.proofs.CharLoopWorkLemmas.{lazy-key}
-use Rattle.regress_bounded.proofs.StepResultLemmas.{some-key}
 use Rattle.regress_bounded.proofs.BoundedStateLemmas.{Popped, popped, back-comes, happens-back, row-push, can-turn, new, known, CostsAtLeast, comes-on, is-short}
 use Rattle.regress_input.proofs.BoundaryPositions.{boundary_inside}
 
@@ -233,7 +231,7 @@ module _ {P : Type 0} {offset : P → ℕ} {program : Program} {text : Text} {b 
     k = memo_key_as_spec stored
 
     is : k ≡ key-back
-    is = some-key (sym (ap (option_map memo_key_as_spec) found_is) ∙ told ∙ key-there)
+    is = Some_inj (sym (ap (option_map memo_key_as_spec) found_is) ∙ told ∙ key-there)
 
     -- If the key is known to fail, the waiting threads are dropped.
     back-known : has_failure c.memo k ≡ true → MayBeNextSearchEvent offset program text b h 1 h.now left-off.rest

@@ -15,13 +15,11 @@ use Rattle.regress_memo.specs.AnalysisChecks.{unlimited}
 use Rattle.regress_memo.specs.MemoContents.{memo_key_at}
 use Rattle.regress_memo.specs.AmortizedMemoSearchSteps.{ReachesEntries, StepsReachEntries}
 use Rattle.regress_memo.proofs.AmortizedMemoSearchLemmas.{searches-are-paid}
-use Rattle.regress_bounded.specs.CostsOfSearchEvents.{IsSearchEvent, Costs, ThreadsPendAbove, none_waits, some_wait, drops, turns, tries_chars, too_few, fails_from, takes_furthest}
-use Rattle.regress_bounded.specs.CostsOfSearchEvents.{takes_nearest, drops_loop, resumes_loop, resumes, reaches, nothing_yet, then_happens}
+use Rattle.regress_bounded.specs.CostsOfSearchEvents.{IsSearchEvent, Costs, ThreadsPendAbove, none_waits, some_wait, drops, turns, tries_chars, too_few, fails_from, takes_furthest, takes_nearest, drops_loop, resumes_loop, resumes, reaches, nothing_yet, then_happens}
 use Rattle.regress_bounded.specs.CostsOfSearchEvents.{IsKeyNewIfAny, entries_with_record_of_state}
 use Rattle.regress_bounded.specs.BoundedState.{AnalysisBoundsSearch}
 use Rattle.regress_bounded.specs.WorkOfCharLoopsAndAttempts.{StateIsAtUnboundedCharLoop}
-use Rattle.regress_bounded.proofs.CharLoopWorkLemmas.{limited-turned, limited-recorded, greedy-none, greedy-known, greedy-all, lazy-none, lazy-first, lazy-known, lazy-again}
-use Rattle.regress_bounded.proofs.CharLoopWorkLemmas.{kept-none}
+use Rattle.regress_bounded.proofs.CharLoopWorkLemmas.{limited-turned, limited-recorded, greedy-none, greedy-known, greedy-all, lazy-none, lazy-first, lazy-known, lazy-again, kept-none}
 
 -- ---- The characters that a loop reads
 

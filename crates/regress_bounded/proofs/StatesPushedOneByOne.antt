@@ -1,7 +1,8 @@
 -- A loop that pushes states one by one pushes all but the preferred one, in their order.
-use Rattle.std.proofs.Common.{◌≡◌, List, [], ◌∷◌, ◌++◌, refl, sym, ap, ◌∙◌, map, append_assoc, drop}
+use Rattle.std.proofs.Common.{◌≡◌, List, [], ◌∷◌, ◌++◌, sym, ap, ◌∙◌, map, append_assoc, drop}
 use Rattle.std.proofs.lemmas.List.{reverse-append, reverse-reverse}
 use Rattle.std.specs.Prelude.{reverse}
+use Rattle.regex_meaning.proofs.ListLemmas.{map-snoc}
 
 module _ {X Y : Type 0} (f : X → Y) (first : X) where
   abbrev pub IsTaken : List Y → List X → List Y → Type 0
@@ -15,10 +16,6 @@ module _ {X Y : Type 0} (f : X → Y) (first : X) where
 
   pub taken-first : (stack : List Y) (xs left : List X) → left ≡ reverse xs → IsTaken stack left (stack ++ map f (xs ++ first ∷ []))
   taken-first stack xs left e = ap (λ l. stack ++ map f (l ++ first ∷ [])) (ap reverse e ∙ reverse-reverse xs)
-
-map-snoc : {X Y : Type 0} (f : X → Y) (xs : List X) (x : X) → map f (xs ++ x ∷ []) ≡ map f xs ++ f x ∷ []
-map-snoc f [] x = refl
-map-snoc f (y ∷ xs) x = ap (λ l. f y ∷ l) (map-snoc f xs x)
 
 snoc-same : {Y : Type 0} (xs ys : List Y) (y : Y) → xs ++ y ∷ [] ≡ ys ++ y ∷ [] → xs ≡ ys
 snoc-same xs ys y e =

@@ -1,5 +1,5 @@
 -- A step results in the next thread, in an end, or in the error of a function that it calls.
-use Rattle.std.proofs.Common.{◌≡◌, ◌<◌, ℕ, ◌+◌, List, Option, Some, refl, sym, subst, arith}
+use Rattle.std.proofs.Common.{◌≡◌, ◌<◌, ℕ, ◌+◌, List, Option, refl, sym, subst, arith}
 use Rattle.std.specs.Prelude.{Result, Ok, Err, IsErrAnd}
 use Rattle.regex_meaning.specs.Text.{Text}
 use Rattle.regex_meaning.specs.CompilationRelation.{Program}
@@ -11,18 +11,13 @@ use Rattle.regress_bounded.specs.declared.memo_and_work_budget.AttemptAbortReaso
 use Rattle.regress_bounded.specs.declared.pending_stack.StackEntry.{StackEntry}
 use Rattle.regress_bounded.specs.declared.thread_steps_and_backtracking.StepResult.{StepResult}
 use Rattle.regress_bounded.specs.declared.thread_steps_and_backtracking.StepResult.TheVariants.{ContinueWith, End}
-use Rattle.regress_bounded.specs.BoundedState.{BoundedAttempt, AttemptHasState, HasAttemptState, NextEventExceedsWorkLeft, MayAbortAttempt, TakesOneEvent, ContinuesOrStops, AttemptEndsAt, StepResultIs}
-use Rattle.regress_bounded.specs.BoundedState.{StepResultInEachAttempt, AttemptResultIs}
+use Rattle.regress_bounded.specs.BoundedState.{BoundedAttempt, AttemptHasState, HasAttemptState, NextEventExceedsWorkLeft, MayAbortAttempt, TakesOneEvent, ContinuesOrStops, AttemptEndsAt, StepResultIs, StepResultInEachAttempt, AttemptResultIs}
 use Rattle.regress_bounded.proofs.SearchEventCostLemmas.{cost-some}
 
 -- A property of an error holds for the result that hands the error on.
 pub handed-on : {X : Type 0} (P : Result X AttemptAbortReason → Type 0) (r : Result X AttemptAbortReason) (e : AttemptAbortReason) → IsErrAnd r (λ f. f ≡ e) → P (Err e) → P r
 handed-on P (Ok x) e h p = absurd h
 handed-on P (Err f) e h p = subst (λ f. P (Err f)) (sym h) p
-
--- Equal options have equal values.
-pub some-key : {X : Type 0} {x y : X} → Some x ≡ Some y → x ≡ y
-some-key e = cc
 
 module _ {P : Type 0} {offset : P → ℕ} {program : Program} {text : Text} {b : BoundedAttempt} {front : List Entry} {stack : List (StackEntry P)} {c : MemoAndWorkBudget}
     (h : AttemptHasState offset program text b front stack c) where

@@ -6,6 +6,7 @@ use Rattle.std.proofs.Math.Nat.{add-mul, mul-add}
 use Rattle.regex_meaning.specs.Text.{Text, rightwards}
 use Rattle.regex_meaning.specs.CodeUnitOffsets.{HasRisingPlaceOffsets, units}
 use Rattle.regex_meaning.specs.CompilationRelation.{Program}
+use Rattle.regex_meaning.proofs.EachElementLemmas.{Each-right}
 use Rattle.regress_machine.specs.SearchFindsFirstOutcomeAtPlace.{state_before_first_insn}
 use Rattle.regress_machine.specs.Machine.{Thread, running}
 use Rattle.regress_memo.specs.Liveness.{ReadsAsBytes}
@@ -15,15 +16,14 @@ use Rattle.regress_memo.specs.AmortizedStepCosts.{potential_by}
 use Rattle.regress_memo.specs.SuccessiveMatches.{at_first, passed, failed, found}
 use Rattle.regress_memo.specs.MemoSearch.{Key, Entry, one_thread, thread_entries, keys_in, offset_of_thread, AreOnward, Answers, IsMemory}
 use Rattle.regress_memo.specs.MemoSearch as turns
-use Rattle.regress_memo.proofs.DistinctListLemmas.{Each-right, distinct-right}
+use Rattle.regress_memo.proofs.DistinctListLemmas.{distinct-right}
 use Rattle.regress_memo.proofs.StepCostLemmas.{one-weighs}
 use Rattle.regress_memo.proofs.MemoSearchLemmas.{turns-go-on, work-is-bounded}
 use Rattle.regress_memo.proofs.ThreadPotentialLemmas.{places-keys}
 use Rattle.regress_memo.specs.declared.analysis_result.MemoAnalysis.{MemoAnalysis}
 use Rattle.regress_memo.specs.WorkBound.{all_keys_cost_per_position, work_per_position, initial_threads}
-use Rattle.regress_memo.specs.AnalysisAsPotentials.{insn_analysis_of, analysis_as_liveness, key_code_questions_of, recorded, potentials_of}
-use Rattle.regress_memo.specs.AnalysisAsPotentials.{key_cost_of}
-use Rattle.regress_memo.specs.CheckedAnalysis.{IsAnalysisOf, Serves}
+use Rattle.regress_memo.specs.AnalysisAsPotentials.{insn_analysis_of, analysis_as_liveness, key_code_questions_of, recorded, potentials_of, key_cost_of}
+use Rattle.regress_memo.specs.CheckedAnalysis.{IsAnalysisOf, IsMemoPlanForText}
 use Rattle.regress_memo.proofs.WorkBoundLemmas.{ledgers-bound, prices-of-all}
 use Rattle.regress_memo.proofs.CheckedAnalysisLemmas.{ledgers-serve}
 use Rattle.regress_memo.specs.Laws.{analysis_keys, ListsExactlyKnownKeys}
@@ -63,7 +63,7 @@ module _ (program : Program) (t : MemoAnalysis) (of : IsAnalysisOf program t) (t
   abbrev Answered : ℕ → Type 0
   Answered at = Answers program text rightwards (initial_threads program at)
 
-  abbrev served : Serves program t text
+  abbrev served : IsMemoPlanForText program t text
   served = ledgers-serve program t of text is_text bytes less
 
   abbrev price : Key → ℕ

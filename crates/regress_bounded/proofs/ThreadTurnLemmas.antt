@@ -1,6 +1,5 @@
 -- A turn of a thread costs the work of its step and leaves the threads of that step.
-use Rattle.std.proofs.Common.{◌≡◌, ◌≤◌, ◌<◌, ℕ, ◌+◌, ◌-◌, Bool, true, false, min, List, [], ◌∷◌, ◌++◌, map, length, Option, Some, None, refl, sym, ap}
-use Rattle.std.proofs.Common.{◌∙◌, subst, arith, inl, inr, append_assoc, append-nil, slice_get}
+use Rattle.std.proofs.Common.{◌≡◌, ◌≤◌, ◌<◌, ℕ, ◌+◌, ◌-◌, Bool, true, false, min, List, [], ◌∷◌, ◌++◌, map, length, Option, Some, None, refl, sym, ap, ◌∙◌, subst, arith, inl, inr, append_assoc, append-nil, slice_get}
 use Rattle.std.specs.Prelude.{◌⊎◌, ◌==◌, Result, Ok, Err, IfOk, IfSome, if◌then◌else◌, is_some, option_map, get_or}
 use Rattle.std.proofs.Math.Logic.{∥∥₁_elim}
 use Rattle.std.proofs.Props.{props}
@@ -8,6 +7,7 @@ use Rattle.std.proofs.lemmas.Bool.{cases_lt, eqb-true}
 use Rattle.regex_meaning.specs.Text.{Text, rightwards}
 use Rattle.regex_meaning.specs.CodeUnitOffsets.{HasRisingPlaceOffsets, place_at, units}
 use Rattle.regex_meaning.specs.CompilationRelation.{Program, Insn, Goal, Loop1CharBody}
+use Rattle.regex_meaning.proofs.EscapesAndNamesLemmas.{Some_inj}
 use Rattle.regex_pattern_front.specs.AstToSpecTree.{tree_of}
 use Rattle.regex_pattern_front.specs.declared.ir.Regex.{Regex}
 use Rattle.regress_program.specs.InsnsAsSpec.{insn_as_spec_insn}
@@ -16,7 +16,7 @@ use Rattle.regress_program.specs.declared.instructions.Insn.TheVariants.{Goal as
 use Rattle.regress_program.specs.CompilationOfTreesAsFunction.{compiled}
 use Rattle.regress_machine.specs.Machine as machine
 use Rattle.regress_machine.specs.Machine.{Thread, running, waiting, Next, goes, scans, ends, asks, stuck, first_running_and_others_waiting, test_of, act, act_on}
-use Rattle.regress_machine.specs.InsnEffects.{IsNotStuck}
+use Rattle.regress_machine.specs.InsnEffects.{IsNotStuck, tested_char_count_of_step}
 use Rattle.regress_machine.proofs.InsnFetchLemmas.{act-some, fetched-below}
 use Rattle.regress_machine.proofs.CharLoopExitStateLemmas.{run-turn}
 use Rattle.regress_memo.specs.CharLoopExitThreadLists.{passing}
@@ -29,11 +29,9 @@ use Rattle.regress_bounded.specs.declared.pending_stack.StackEntry.{StackEntry}
 use Rattle.regress_bounded.specs.declared.pending_stack.StackEntry.TheVariants.{Thread as AsThread, Record as AsRecord}
 use Rattle.regress_pikevm.specs.declared.pikevm.states.State.{State}
 use Rattle.regress_pikevm.specs.declared.pikevm.states.NextStates.{NextStates}
-use Rattle.regress_bounded.specs.CostsOfSearchEvents.{StepLeavesOnlyThreads, IsKeyNewIfAny, tested_char_count_of_step, work_of_machine_step, threads_after_step, entries_with_record_of_state, drops, turns, tries_chars}
-use Rattle.regress_bounded.specs.BoundedState.{BoundedAttempt, IsUnfailedStateKeyIfAny, IsNotUnboundedCharLoop, char_loop_max}
-use Rattle.regress_bounded.specs.BoundedState.{is_goal_insn}
-use Rattle.regress_bounded.specs.BoundedState.{HasAttemptState, IsStackOfEntriesFromTop, AttemptHasState, MayBeNextSearchEvent, TakesOneEvent, NextEventExceedsWorkLeft, TakesPreferredState, TakesPreferredThread, HasPassedRequiredChars}
-use Rattle.regress_bounded.specs.BoundedState.{IsStateAtUnboundedLoopOverInsn, entry_of_current_thread, is_known_key, stack_with_record_if_any, min_and_greed_of_loop}
+use Rattle.regress_bounded.specs.CostsOfSearchEvents.{StepLeavesOnlyThreads, IsKeyNewIfAny, work_of_machine_step, threads_after_step, entries_with_record_of_state, drops, turns, tries_chars}
+use Rattle.regress_bounded.specs.BoundedState.{BoundedAttempt, IsUnfailedStateKeyIfAny, IsNotUnboundedCharLoop, char_loop_max, is_goal_insn, HasAttemptState, IsStackOfEntriesFromTop, AttemptHasState, MayBeNextSearchEvent, TakesOneEvent, NextEventExceedsWorkLeft}
+use Rattle.regress_bounded.specs.BoundedState.{TakesPreferredState, TakesPreferredThread, HasPassedRequiredChars, IsStateAtUnboundedLoopOverInsn, entry_of_current_thread, is_known_key, stack_with_record_if_any, min_and_greed_of_loop}
 use Rattle.regress_bounded.specs.BudgetSpending.{LowersBudgetByWork, IsWorkOrMoreThanLeft, WorkExceedsBudget}
 use Rattle.regress_pikevm.specs.States.{machine_state_of, effect_of_next_states, states_by_priority, threads_of_stack}
 use Rattle.regress_pikevm.proofs.InsnFetchLemmas.{insn-here}
@@ -41,7 +39,6 @@ use Rattle.regress_pikevm.proofs.ExecutorTurnLemmas.{scan-threads, waiting-appen
 use Rattle.regress_bounded.proofs.CharLoopBodyInsns.{body-tested, body-insn, body-below}
 use Rattle.regress_bounded.proofs.StepKindByInstruction.{asks-none, never-ends, scans-run}
 use Rattle.regress_bounded.proofs.SearchEventCostLemmas.{ScansAt, scans-at}
-use Rattle.regress_bounded.proofs.StepResultLemmas.{some-key}
 use Rattle.regress_bounded.proofs.BoundedStateLemmas.{row-push, can-turn, inside, new, known, comes-on, is-short}
 
 -- ---- The steps of the current thread
@@ -127,7 +124,7 @@ record HasMaximum (x : Insn) (most : ℕ) : Type 0 where
   is : x ≡ Loop1CharBody least most greedy
 
 maximum-of : (x : Insn) (most : ℕ) → Some most ≡ char_loop_max x → HasMaximum x most
-maximum-of (Loop1CharBody l m g) most e = let same : most ≡ m = some-key e in record { least = l; greedy = g; is = ap (λ n. Loop1CharBody l n g) (sym same) }
+maximum-of (Loop1CharBody l m g) most e = let same : most ≡ m = Some_inj e in record { least = l; greedy = g; is = ap (λ n. Loop1CharBody l n g) (sym same) }
 maximum-of x most e = cc
 
 -- A char loop that is not unbounded has a maximum.
@@ -144,7 +141,7 @@ unbounded_loop-run (Loop1CharBody l m g) greedy least found = by (m == unlimited
     by : (b : Bool) → (m == unlimited) ≡ b → Loop1CharBody l m g ≡ Loop1CharBody least unlimited greedy
     by true e =
         let same : Some (least, greedy) ≡ Some (l, g) = found ∙ ap (λ b. if b then Some (l, g) else None) e in
-        let pair = some-key same in
+        let pair = Some_inj same in
         ap (λ n. Loop1CharBody l n g) (eqb-true m unlimited e) ∙ ap (λ p. Loop1CharBody p.0 unlimited p.1) (sym pair)
     by false e = let never : true ≡ false = ap is_some (found ∙ ap (λ b. if b then Some (l, g) else None) e) in cc
 unbounded_loop-run insn greedy least found = cc
@@ -240,7 +237,7 @@ other-work program text s x here none left = inl (by (act program text rightward
     by : (n : Next) → act program text rightwards s ≡ n → 1 ≡ work_of_machine_step n
     by (scans n ts) is =
         let r = scans-run program text rightwards s n ts is in
-        let never : None ≡ Some r.most = none ∙ ap char_loop_max (some-key (sym here ∙ r.is)) in
+        let never : None ≡ Some r.most = none ∙ ap char_loop_max (Some_inj (sym here ∙ r.is)) in
         let no : ⊥ = cc in absurd no
     by (goes ts) is = refl
     by (ends t) is = refl

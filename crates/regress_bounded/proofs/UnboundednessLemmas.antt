@@ -1,11 +1,12 @@
 -- The tests of a program's instructions tell whether its tree has a lookaround or a backreference.
-use Rattle.std.proofs.Common.{◌≡◌, ℕ, List, Option, Bool, true, false, Some, None, refl, sym, subst, ap, ◌∙◌, ◌||◌, [], ◌∷◌, map, slice_get}
+use Rattle.std.proofs.Common.{◌≡◌, ℕ, List, Option, Bool, true, false, Some, None, refl, sym, subst, ap, ◌∙◌, ◌||◌, [], map, slice_get}
 use Rattle.std.specs.List.{list_any}
 use Rattle.std.specs.Prelude.{Result, Ok, Err, IfErr, IsErrAnd}
 use Rattle.std.proofs.lemmas.Map.Keys.{any_passes_from_place}
 use Rattle.regex_meaning.specs.CompilationRelation as layout
 use Rattle.regex_meaning.specs.Tree.{Tree, fold_nodes}
 use Rattle.regex_meaning.specs.CompilationRelation.{Lookahead, Lookbehind}
+use Rattle.regex_pattern_front.proofs.IntervalLemmas.{list_any-map}
 use Rattle.regress_memo.specs.SkippedLookarounds.{lookaround_at}
 use Rattle.regress_program.specs.CompilationOfTreesAsFunction.{compiled}
 use Rattle.regress_program.specs.InsnsAsSpec.{insn_as_spec_insn}
@@ -15,16 +16,12 @@ use Rattle.regress_bounded.specs.Unboundedness.{HasNoLookaroundOrBackreference, 
 use Rattle.regress_bounded.specs.declared.work_bound.Unbounded.{Unbounded}
 use Rattle.regress_bounded.specs.declared.work_bound.Unbounded.TheVariants.{Memory}
 
-any-map : {X Y : Type 0} (test : Y → Bool) (f : X → Y) (xs : List X) → list_any test (map f xs) ≡ list_any (λ x. test (f x)) xs
-any-map test f [] = refl
-any-map test f (x ∷ xs) = ap (λ b. test (f x) || b) (any-map test f xs)
-
 -- A test of the code's instructions tells whether the tree has such a node.
 pub tree-has : (looks : Bool) (insns : List Insn) (tree : Tree) (found : Bool) → map insn_as_spec_insn insns ≡ (compiled tree).insns
     → found ≡ list_any (λ x. is_lookaround_or_backref_insn looks (insn_as_spec_insn x)) insns → fold_nodes ◌||◌ (is_lookaround_or_backref_node looks) tree.root ≡ found
 unfolding compiled
 tree-has looks insns tree found code is =
-    sym (has-code looks tree.flags.unicode false tree.root 0 0 0) ∙ ap (list_any (is_lookaround_or_backref_insn looks)) (sym code) ∙ any-map (is_lookaround_or_backref_insn looks) insn_as_spec_insn insns ∙ sym is
+    sym (has-code looks tree.flags.unicode false tree.root 0 0 0) ∙ ap (list_any (is_lookaround_or_backref_insn looks)) (sym code) ∙ list_any-map (is_lookaround_or_backref_insn looks) insn_as_spec_insn insns ∙ sym is
 
 -- The code of a tree that has no lookaround has none.
 pub code-has-none : (tree : Tree) → has_lookaround tree ≡ false → list_any (is_lookaround_or_backref_insn true) (compiled tree).insns ≡ false

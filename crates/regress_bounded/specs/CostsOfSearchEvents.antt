@@ -10,6 +10,7 @@ use Rattle.regex_meaning.specs.CodeUnitOffsets.{place_at}
 use Rattle.regex_meaning.specs.CompilationRelation.{Program, Loop1CharBody}
 use Rattle.regress_machine.specs.Machine.{State, Thread, Next, running, waiting, goes, scans, act}
 use Rattle.regress_machine.specs.CharLoopExitStatesByPreference.{behind}
+use Rattle.regress_machine.specs.InsnEffects.{tested_char_count_of_step}
 use Rattle.regress_memo.specs.CharLoopExitThreadLists.{passing, pending_loop_threads}
 use Rattle.regress_memo.specs.DistinctLists.{IsIn, IsNew}
 use Rattle.regress_memo.specs.MemoSearch.{Key, Entry, one_thread, thread_group, key_record, thread_entries}
@@ -20,11 +21,6 @@ use Rattle.regress_memo.specs.MemoContents.{memo_key_at}
 use Rattle.regress_bounded.specs.WorkOfCharLoopsAndAttempts.{StateIsAtUnboundedCharLoop, key_after_chars, threads_after_chars, exits_with_records}
 
 -- ---- Steps of the machine
-
--- The number of characters that a step tests.
-abbrev pub tested_char_count_of_step : Next → ℕ
-tested_char_count_of_step (scans tries ts) = tries
-tested_char_count_of_step _ = 0
 
 -- The work of a step: 1, plus 1 for each character that it tests.
 abbrev pub work_of_machine_step : Next → ℕ

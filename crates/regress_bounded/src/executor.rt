@@ -10,10 +10,8 @@ ghost use Rattle.regress_search.specs.CostsOfCalls.{without_costs};
 ghost use Rattle.regress_search.specs.declared.exec.SearchError.TheVariants.{Memory};
 ghost use Rattle.regress_program.specs.CompilationOfTreesAsFunction.{compiled};
 ghost use Rattle.regress_pikevm.specs.{InsnEffects.{end_and_groups}, States.{groups_as_offset_ranges}};
-ghost use Rattle.regress_bounded.specs.WorkBoundForAllMatches.{TreeHasWorkBound, HasMadeNoAttempt};
-ghost use Rattle.regress_bounded.specs.WorkBoundForAllMatches.{YieldsMatchesIfWorkSuffices, is_work_enough_for_text};
-ghost use Rattle.regress_bounded.specs.BoundedState.{BoundedAttempt, BoundedAttemptBegins, IsMemoRightForRegex, AttemptHasState};
-ghost use Rattle.regress_bounded.specs.BoundedState.{HasAttemptState, AttemptResultIs, entry_of_current_thread};
+ghost use Rattle.regress_bounded.specs.WorkBoundForAllMatches.{TreeHasWorkBound, HasMadeNoAttempt, YieldsMatchesIfWorkSuffices, is_work_enough_for_text};
+ghost use Rattle.regress_bounded.specs.BoundedState.{BoundedAttempt, BoundedAttemptBegins, IsMemoRightForRegex, AttemptHasState, HasAttemptState, AttemptResultIs, entry_of_current_thread};
 ghost use Rattle.regress_bounded.specs.WorkOfSuccessiveAttempts.{AttemptsLeaveEnoughWork};
 ghost use Rattle.regress_bounded.specs.CostsOfAttempts.{NoFailuresAreKnown, AttemptCosts, IteratorBeginsSearches, failures_of};
 

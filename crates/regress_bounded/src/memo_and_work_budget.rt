@@ -2,7 +2,7 @@
 
 ghost use Rattle.std.specs.Prelude.{◌≡◌, ◌<◌, ◌≤◌, ◌-◌, min, OnOk, IfErr, IfSome, option_map};
 ghost use Rattle.regress_memo.specs.CheckedAnalysis.{IsRecordableMemoKey};
-ghost use Rattle.regress_memo.specs.MemoContents.{memo_key_as_spec, memo_key_at as key_of_state};
+ghost use Rattle.regress_memo.specs.MemoContents.{memo_key_as_spec, memo_key_at};
 ghost use Rattle.regress_pikevm.specs.States.{machine_state_of};
 ghost use Rattle.regress_bounded.specs.declared.memo_and_work_budget.AttemptAbortReason.TheVariants.{Memory, Work};
 ghost use Rattle.regress_bounded.specs.BudgetSpending.{LowersBudgetByWork, WorkExceedsBudget};
@@ -72,7 +72,7 @@ impl MemoAndWorkBudget {
         at: P,
         state: &State<P>,
     ) -> Option<ThreadMemoKey>
-        ensures key { option_map memo_key_as_spec result ≡ key_of_state self.now.memo.memo_analysis
+        ensures key { option_map memo_key_as_spec result ≡ memo_key_at self.now.memo.memo_analysis
             (record (machine_state_of P.offset state.now) { ip = ip; pos = P.offset at }) }
         ensures bit { P.offset at < self.now.memo.places
             → IfSome result (λ key. IsRecordableMemoKey self.now.memo.memo_analysis self.now.memo.places

@@ -9,8 +9,7 @@ ghost use Rattle.regress_memo.specs.MemoContents.{memo_key_as_spec, has_failure}
 ghost use Rattle.regress_program.specs.{CompilationOfTreesAsFunction.{compiled}, InsnsAsSpec.{insn_as_spec_insn}};
 ghost use Rattle.regress_memo.specs.CheckedAnalysis.{IsRecordableMemoKey};
 ghost use Rattle.regress_bounded.specs.CostsOfSearchEvents.{StepLeavesOnlyThreads, threads_after_step, work_of_machine_step};
-ghost use Rattle.regress_bounded.specs.BoundedState.{IsMemoRightForRegex, IsUnfailedStateKeyIfAny, char_loop_max, is_goal_insn};
-ghost use Rattle.regress_bounded.specs.BoundedState.{IsNotUnboundedCharLoop, is_known_key, min_and_greed_of_loop};
+ghost use Rattle.regress_bounded.specs.BoundedState.{IsMemoRightForRegex, IsUnfailedStateKeyIfAny, char_loop_max, is_goal_insn, IsNotUnboundedCharLoop, is_known_key, min_and_greed_of_loop};
 ghost use Rattle.regress_bounded.specs.BoundedState.{HasAttemptState, ContinuesOrStopsInEachAttempt, StepResultInEachAttempt, TakesPreferredState, TakesPreferredThread, stack_with_record_if_any};
 ghost use Rattle.regress_bounded.specs.BudgetSpending.{LowersBudgetByWork, IsWorkOrMoreThanLeft, WorkExceedsBudget};
 ghost use Rattle.regress_bounded.specs.declared.memo_and_work_budget.AttemptAbortReason.TheVariants.{Work};
@@ -198,7 +197,8 @@ fn push_threads_of_step<Input: InputIndexer>(
 ) -> Result<Option<State<Input::Position>>, AllocError>
     requires code { map insn_as_spec_insn insns.now ≡ (compiled (tree_of searched.now.program.now)).insns }
     requires inside { Input.Position.offset state.pos ≤ units (Input.text searched.now.input) }
-    requires leads { let s = searched.now in StepLeavesOnlyThreads (act (compiled (tree_of s.program.now)) (Input.text s.input)
+    requires leads { let s = searched.now in StepLeavesOnlyThreads
+        (act (compiled (tree_of s.program.now)) (Input.text s.input)
         rightwards (machine_state_of Input.Position.offset state)) }
     ensures { let s = searched.now in IfOk result (λ next. TakesPreferredThread Input.Position.offset
         (threads_after_step (act (compiled (tree_of s.program.now)) (Input.text s.input) rightwards

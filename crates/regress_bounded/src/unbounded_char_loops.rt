@@ -8,8 +8,7 @@ ghost use Rattle.regress_machine.specs.Machine.{running};
 ghost use Rattle.regress_memo.specs.MemoContents.{has_failure};
 ghost use Rattle.regress_program.specs.{CompilationOfTreesAsFunction.{compiled}, InsnsAsSpec.{insn_as_spec_insn}};
 ghost use Rattle.regress_search.specs.OffsetsAfterMatchedInsns.{ByteInsnHasByteText, char_test_of_insn};
-ghost use Rattle.regress_bounded.specs.BoundedState.{IsMemoRightForRegex, IsStateAtUnboundedLoopOverInsn, HasAttemptState, ContinuesOrStopsInEachAttempt, ScansWithMemo, HasPassedRequiredChars, IsPositionAfterCharsOfClass};
-ghost use Rattle.regress_bounded.specs.BoundedState.{TakesNearestExit};
+ghost use Rattle.regress_bounded.specs.BoundedState.{IsMemoRightForRegex, IsStateAtUnboundedLoopOverInsn, HasAttemptState, ContinuesOrStopsInEachAttempt, ScansWithMemo, HasPassedRequiredChars, IsPositionAfterCharsOfClass, TakesNearestExit};
 ghost use Rattle.regress_bounded.specs.declared.memo_and_work_budget.AttemptAbortReason.TheVariants.{Work};
 ghost use Rattle.regress_bounded.specs.declared.pending_stack.StackEntry.TheVariants.{PendingLazyLoop as AsRun};
 ghost use Rattle.regress_pikevm.specs.States.{machine_state_of};
@@ -75,7 +74,8 @@ pub(crate) fn unbounded_char_loop_with_memo<Input: InputIndexer>(
     stack: &mut Vec<StackEntry<Input::Position>>,
     progress: &mut MemoAndWorkBudget,
 ) -> Result<Option<State<Input::Position>>, AttemptAbortReason>
-    requires run { let s = searched.now in IsStateAtUnboundedLoopOverInsn Input.Position.offset (compiled (tree_of s.program.now))
+    requires run { let s = searched.now in IsStateAtUnboundedLoopOverInsn Input.Position.offset
+        (compiled (tree_of s.program.now))
         (Input.text s.input) run run.greedy (machine_state_of Input.Position.offset state) }
     requires bytes { ByteInsnHasByteText run.body (Input.text searched.now.input) Input.Units.ARE_BYTES }
     requires within { state.ip + 2 < 2 ^ 64 }
@@ -122,7 +122,8 @@ fn scan_greedy_loop_with_memo<Input: InputIndexer>(
     progress: &MemoAndWorkBudget,
 ) -> Result<(Option<State<Input::Position>>, usize), AllocError>
     requires sound { let s = searched.now in IsMemoRightForRegex s.program.now (Input.text s.input) progress.now.memo }
-    requires run { let s = searched.now in IsStateAtUnboundedLoopOverInsn Input.Position.offset (compiled (tree_of s.program.now))
+    requires run { let s = searched.now in IsStateAtUnboundedLoopOverInsn Input.Position.offset
+        (compiled (tree_of s.program.now))
         (Input.text s.input) run true (machine_state_of Input.Position.offset state.now) }
     requires bytes { ByteInsnHasByteText run.body (Input.text searched.now.input) Input.Units.ARE_BYTES }
     requires within { state.now.ip + 2 < 2 ^ 64 }

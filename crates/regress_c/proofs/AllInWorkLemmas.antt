@@ -1,15 +1,15 @@
 -- A call fills a buffer with the matches that an iterator yields within a work budget.
-use Rattle.std.proofs.Common.{◌≡◌, ℕ, ◌+◌, ◌-◌, ◌*◌, ◌<◌, ◌≤◌, le_refl, Bool, true, false, List, [], ◌∷◌, ◌++◌, append_assoc, length, take, drop}
-use Rattle.std.proofs.Common.{refl, sym, ap, ◌∙◌, subst, arith}
+use Rattle.std.proofs.Common.{◌≡◌, ℕ, ◌+◌, ◌-◌, ◌*◌, ◌<◌, ◌≤◌, le_refl, true, List, [], ◌∷◌, ◌++◌, append_assoc, length, take, drop, refl, sym, ap, ◌∙◌, subst, arith}
 use native.Mathlib.Nat.{zero-mul}
 use Rattle.std.proofs.lemmas.List.{length-append}
 use Rattle.std.specs.Prelude.{Option, Some, None, Ok, Err, IsUtf8, flat_map}
 use Rattle.std.specs.Borrow.{Bor}
 use Rattle.regex_meaning.specs.Laws.{Each, IsWellFormedAnswerFor}
 use Rattle.regex_meaning.specs.MatchGroupsByNumberAndName.{Answer}
-use Rattle.regex_meaning.proofs.EachElementLemmas.{Each-map}
+use Rattle.regex_meaning.proofs.EachElementLemmas.{Each-map, Each-left}
 use Rattle.regex_meaning.proofs.MatchOrderLemmas.{answers-IsWellFormedAnswerFor}
 use Rattle.regex_meaning.proofs.CodeUnitOffsetsLemmas.{utf8_text-IsText}
+use Rattle.regex_meaning.proofs.BoolLemmas.{false-by-implication}
 use Rattle.regress_search.specs.MatchesAsSpecAnswers.{answer_of}
 use Rattle.regress_search.specs.MatchesWithinWork.{NextYieldsWithinWork, RemainingAnswersAndWork}
 use Rattle.regress_search.specs.declared.exec.Match.{Match}
@@ -18,8 +18,7 @@ use Rattle.regress_search.specs.declared.exec.work_matches.WorkError.TheVariants
 use Rattle.regress_match.specs.ProgramTreesAndAnswers.{bytes_as_utf8_text, tree_for_byte_units, utf8_answers}
 use Rattle.regress_match.specs.WorkBounds.{BoundedView, IsHigherOfProgramWorkBounds, YieldsMatchesIfWorkSuffices}
 use Rattle.regress_match.specs.declared.api.regex.Regex.{Regex}
-use Rattle.regress_c.specs.AllMatchesInWork.{Ending, IsEndingWithinWork, IsEndingOfIterator, RefusesAllInWork, RepliesAllInWork, RepliesOutcome, WritesMatchesWithinWork, Written}
-use Rattle.regress_c.specs.AllMatchesInWork.{full, over, failed, ran, refused, short}
+use Rattle.regress_c.specs.AllMatchesInWork.{Ending, IsEndingWithinWork, IsEndingOfIterator, RefusesAllInWork, RepliesAllInWork, RepliesOutcome, WritesMatchesWithinWork, Written, full, over, failed, ran, refused, short}
 use Rattle.regress_c.specs.Codes.{code_of_refusal, done, no_match, refusal_of_work_error}
 use Rattle.regress_c.specs.Replies.{spans_of, with_front_overwritten}
 use Rattle.regress_c.specs.Searching.{IsTextWithValidStart, can_start_utf8}
@@ -43,10 +42,6 @@ pub record Writing (ranges : ℕ) (start : RemainingAnswersAndWork) (before : Li
   pub at_is : at ≡ length found * ranges
   pub flat : length (flat_map spans_of found) ≡ at
   pub written : now ≡ with_front_overwritten (flat_map spans_of found) before
-
-not-enough : (start view : Bool) → (start ≡ true → view ≡ true) → view ≡ false → start ≡ false
-not-enough true view keeps none = absurd (cc (sym (keeps refl) ∙ none))
-not-enough false view keeps none = refl
 
 module _ {ranges : ℕ} {start : RemainingAnswersAndWork} {before : List Span} where
   pub begun : Each (λ m. length (spans_of m) ≡ ranges) start.remaining.answers → Writing ranges start before start before 0 0
@@ -109,7 +104,7 @@ module _ {ranges : ℕ} {start : RemainingAnswersAndWork} {before : List Span} w
     fails : (e : WorkError) (view' : RemainingAnswersAndWork) → NextYieldsWithinWork view (Some (Err e)) view'
         → IsEndingOfIterator ranges (length before) start view' (record { found = f.found; rest = view.remaining.answers; ending = failed e }) (failed e)
     fails worked.Memory view' gives = tt
-    fails worked.WorkLimit view' gives = (not-enough start.enough view.enough f.enough gives.0.0.0, gives.0.0.1)
+    fails worked.WorkLimit view' gives = (false-by-implication start.enough view.enough f.enough gives.0.0.0, gives.0.0.1)
 
     -- If the search for the next match fails, the reply has the code of the error.
     pub is-failed : (e : WorkError) (view' : RemainingAnswersAndWork) → NextYieldsWithinWork view (Some (Err e)) view' → reply ≡ record { code = code_of_refusal (refusal_of_work_error e); count = count }
@@ -122,10 +117,6 @@ module _ {ranges : ℕ} {start : RemainingAnswersAndWork} {before : List Span} w
     )
 
 -- ---- Searches of a text
-
-Each-front : {A : Type 0} (P : A → Type 0) (xs ys : List A) → Each P (xs ++ ys) → Each P xs
-Each-front P [] ys h = tt
-Each-front P (x ∷ xs) ys h = (h.0, Each-front P xs ys h.1)
 
 module _ (re : Regex) (text : List ℕ) (start : ℕ) where
   -- Each match in a text has one range for the whole and one for each group.
@@ -162,7 +153,7 @@ module _ (re : Regex) (text : List ℕ) (start : ℕ) where
               answers = all;
               fits = fits;
               fewer = subst (λ l. l ≤ work) (sym left_is) (subst (λ l. behind.left ≤ l) yields.left written.fewer);
-              ranges = Each-front (λ m. length (spans_of m) ≡ range_count re) w.found w.rest (subst (Each (λ m. length (spans_of m) ≡ range_count re)) all ranges-each);
+              ranges = Each-left (λ m. length (spans_of m) ≡ range_count re) w.found w.rest (subst (Each (λ m. length (spans_of m) ≡ range_count re)) all ranges-each);
               ends = ends w w.ending written.ends;
             },
           ),

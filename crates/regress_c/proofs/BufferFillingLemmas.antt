@@ -1,6 +1,5 @@
 -- A call fills a buffer with one match after another until it must stop, and reports why.
-use Rattle.std.proofs.Common.{◌≡◌, ℕ, ◌+◌, ◌-◌, ◌*◌, ◌<◌, le_refl, inr, List, [], ◌∷◌, ◌++◌, append_assoc, length, take, drop, Option, Some, None}
-use Rattle.std.proofs.Common.{refl, sym, ap, ap₂, ◌∙◌, subst, arith}
+use Rattle.std.proofs.Common.{◌≡◌, ℕ, ◌+◌, ◌-◌, ◌*◌, ◌<◌, inr, List, [], ◌∷◌, ◌++◌, append_assoc, length, take, drop, Option, Some, None, refl, sym, ap, ap₂, ◌∙◌, subst, arith}
 use native.Mathlib.Nat.{zero-mul}
 use Rattle.std.proofs.Math.Seq.{drop-drop, drop_at, take_at}
 use Rattle.std.proofs.lemmas.Bool.{lt-leb}
@@ -17,7 +16,7 @@ use Rattle.regex_meaning.proofs.EachElementLemmas.{Each-append}
 use Rattle.regress_search.specs.MatchesAsSpecAnswers.{answer_of}
 use Rattle.regress_search.specs.declared.exec.SearchError.{SearchError}
 use Rattle.regress_search.specs.declared.exec.SearchError.TheVariants.{Memory, StepLimit}
-use Rattle.regress_search.proofs.StepBudgetLemmas.{left-no_more}
+use Rattle.regress_search.proofs.StepBudgetLemmas.{left-no_more, no_more-same}
 use Rattle.regress_search.proofs.RemainingAnswerLemmas.{new-comes}
 use Rattle.regress_match.specs.Resuming.{IsResultOfNextFrom, IsExhaustedFrom, AreFoundInOrder, FindsNext, step_budget_after_first_match}
 use Rattle.regress_match.specs.declared.api.searches_resumed_at_offsets.Step.{Step}
@@ -37,10 +36,6 @@ no_more-trans None (Some b) c h k = absurd h
 no_more-trans (Some a) None c h k = absurd h
 no_more-trans None None (Some c) h k = absurd k
 no_more-trans (Some a) (Some b) None h k = absurd k
-
-no_more-same : (a : Option ℕ) → IsBudgetAtMost a a
-no_more-same None = tt
-no_more-same (Some n) = le_refl n
 
 -- The budget after a result is at most the budget before it.
 no_more-after : (tree : Tree) (text : Text) (left left' : Option ℕ) (next : ℕ) → left' ≡ step_budget_after_first_match tree text left next → IsBudgetAtMost left' left

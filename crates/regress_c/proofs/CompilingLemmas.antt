@@ -8,18 +8,16 @@ use Rattle.regress_match.specs.CompileErrors.{IsPatternRefusedWithSyntax}
 use Rattle.regress_match.specs.declared.api.compile_and_replace_errors.Error.{Error}
 use Rattle.regress_match.specs.declared.api.compile_and_replace_errors.Error.TheVariants as error
 use Rattle.regress_c.specs.Codes.{refusal_of_compile_error}
-use Rattle.regress_c.specs.Compiling.{IsCompileResult, Given, HasValidTextAndFlags, IsPatternWithinBounds, RefusesPattern}
+use Rattle.regress_c.specs.Compiling.{IsCompileResult, GivenPattern, HasValidTextAndFlags, IsPatternWithinBounds, RefusesPattern}
 use Rattle.regress_c.specs.declared.compiling.Bounds.{Bounds}
 use Rattle.regress_c.specs.declared.refusal.Refusal.{Refusal}
-use Rattle.regress_c.specs.declared.refusal.Refusal.TheVariants.{Empty, Full, NotUtf8, NotBoundary, ShortBuffer, Memory, StepLimit, Syntax}
-use Rattle.regress_c.specs.declared.refusal.Refusal.TheVariants.{TooManyGroups, TooManyLoops, TooManyInstructions, UnknownFlag, TooLong, TooDeep}
-use Rattle.regress_c.specs.declared.refusal.Refusal.TheVariants.{NoGroup, NotOpen, NotCounted, Unbounded, WorkLimit, UnknownSyntax}
+use Rattle.regress_c.specs.declared.refusal.Refusal.TheVariants.{Empty, Full, NotUtf8, NotBoundary, ShortBuffer, Memory, StepLimit, Syntax, TooManyGroups, TooManyLoops, TooManyInstructions, UnknownFlag, TooLong, TooDeep, NoGroup, NotOpen, NotCounted, Unbounded, WorkLimit, UnknownSyntax}
 
 -- A refusal of compiling is an allocation failure or an error in the pattern.
-abbrev pub IsOfCompiling : Given → Refusal → Type 0
+abbrev pub IsOfCompiling : GivenPattern → Refusal → Type 0
 IsOfCompiling g r = (r ≡ Memory) ⊎ RefusesPattern g.syntax (flags_from_letters g.flags) g.characters r
 
-of-compiling : (g : Given) (e : Error) → IsPatternRefusedWithSyntax (spec_syntax_of g.syntax) (flags_from_letters g.flags) g.characters e → IsOfCompiling g (refusal_of_compile_error e)
+of-compiling : (g : GivenPattern) (e : Error) → IsPatternRefusedWithSyntax (spec_syntax_of g.syntax) (flags_from_letters g.flags) g.characters e → IsOfCompiling g (refusal_of_compile_error e)
 of-compiling g error.Memory refuses = inl refl
 of-compiling g (error.Parse (parse.Syntax d)) refuses = inr refuses.none
 of-compiling g (error.Parse parse.TooManyGroups) refuses = absurd refuses
@@ -35,7 +33,7 @@ the-pattern : {A B : Type 0} → A ⊎ B → (A → ⊥) → B
 the-pattern (inl a) f = absurd (f a)
 the-pattern (inr b) f = b
 
-module _ (g : Given) (bounds : Bounds) (readable : HasValidTextAndFlags g) (within : IsPatternWithinBounds bounds g.characters) where
+module _ (g : GivenPattern) (bounds : Bounds) (readable : HasValidTextAndFlags g) (within : IsPatternWithinBounds bounds g.characters) where
   refuses : (r : Refusal) → IsOfCompiling g r → IsCompileResult g bounds (Err r)
   refuses Memory h = readable
   refuses Syntax h = (readable, within, the-pattern h (λ e. cc))

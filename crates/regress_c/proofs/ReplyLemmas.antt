@@ -1,15 +1,14 @@
 -- The ranges of a match are written over the buffer one after another, as the reply says.
-use Rattle.std.proofs.Common.{◌≡◌, ℕ, zero, suc, ◌+◌, ◌-◌, ◌<◌, ◌≤◌, List, [], ◌∷◌, ◌++◌, append_assoc, length, take, drop, set, get_or, option_map}
-use Rattle.std.proofs.Common.{None, Some, Ok, if◌then◌else◌, refl, sym, ap, ap₂, ◌∙◌, arith}
+use Rattle.std.proofs.Common.{◌≡◌, ℕ, zero, suc, ◌+◌, ◌-◌, ◌<◌, ◌≤◌, List, [], ◌∷◌, ◌++◌, append_assoc, length, take, drop, set, get_or, option_map, None, Some, Ok, if◌then◌else◌, refl, sym, ap, ap₂, ◌∙◌, arith}
 use Rattle.std.proofs.Math.ListN.{drop_of_length-le, get_or-map}
 use Rattle.std.proofs.lemmas.Bool.{le-leb, lt-leb}
 use Rattle.std.proofs.lemmas.List.{append-nil, length-drop, length-map, take_all}
 use Rattle.std.proofs.Math.Seq.{drop-drop, take-length}
-use Rattle.std.proofs.lemmas.Option.{unwrap_or-slice_get}
 use Rattle.regex_meaning.specs.MatchGroupsByNumberAndName.{Answer, group}
 use Rattle.regress_search.specs.GroupIterators.{all_groups}
 use Rattle.regress_search.specs.MatchesAsSpecAnswers.{answer_of, range_as_pair}
 use Rattle.regress_search.specs.declared.exec.Match.{Match}
+use Rattle.regress_search.proofs.GroupIteratorLemmas.{group-at}
 use Rattle.regress_c.specs.Codes.{code_of_refusal, done}
 use Rattle.regress_c.specs.Replies.{buffer_after_search, reply_to, span_of, spans_of, with_front_overwritten}
 use Rattle.regress_c.specs.declared.refusal.Refusal.TheVariants.{ShortBuffer}
@@ -33,12 +32,8 @@ written_part new old part at n count rest written =
     ap (λ xs. take at old ++ xs) e ∙ sym (append_assoc (take at old) new (drop (at + count) old))
 
 module _ (m : Answer) where
-  group-at : (id : ℕ) → get_or (all_groups m) id None ≡ group m id
-  group-at zero = refl
-  group-at (suc id) = sym (unwrap_or-slice_get m.captures id None)
-
   span-at : (id : ℕ) → get_or (spans_of m) id (span_of None) ≡ span_of (group m id)
-  span-at id = get_or-map span_of (all_groups m) id None ∙ ap span_of (group-at id)
+  span-at id = get_or-map span_of (all_groups m) id None ∙ ap span_of (group-at m id)
 
   pub written_more : (old : List Span) (id : ℕ) → id < length (spans_of m) → length (spans_of m) ≤ length old
       → set (take id (spans_of m) ++ drop id old) id (span_of (group m id)) ≡ take (id + 1) (spans_of m) ++ drop (id + 1) old

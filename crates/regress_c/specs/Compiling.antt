@@ -15,28 +15,27 @@ use Rattle.regress_c.specs.Codes.{code_of_refusal, done}
 use Rattle.regress_c.specs.Reading.{AreFlags}
 use Rattle.regress_c.specs.declared.compiling.Bounds.{Bounds}
 use Rattle.regress_c.specs.declared.refusal.Refusal.{Refusal}
-use Rattle.regress_c.specs.declared.refusal.Refusal.TheVariants.{Empty, Full, NotUtf8, Memory, Syntax, TooManyGroups, TooManyLoops}
-use Rattle.regress_c.specs.declared.refusal.Refusal.TheVariants.{TooManyInstructions, UnknownFlag, UnknownSyntax, TooLong, TooDeep}
+use Rattle.regress_c.specs.declared.refusal.Refusal.TheVariants.{Empty, Full, NotUtf8, Memory, Syntax, TooManyGroups, TooManyLoops, TooManyInstructions, UnknownFlag, UnknownSyntax, TooLong, TooDeep}
 
 -- A pattern as the caller gives it: its language, whether it is valid in its encoding, its code
 -- points, and the letters of its flags.
-pub record Given : Type 1 where
+pub record GivenPattern : Type 1 where
   pub syntax : pattern.Syntax
   pub is_text : Type 0
   pub characters : List ℕ
   pub flags : List ℕ
 
 -- The pattern with these fields.
-abbrev pub given_with_syntax : pattern.Syntax → (is_text : Type 0) → (characters flags : List ℕ) → Given
+abbrev pub given_with_syntax : pattern.Syntax → (is_text : Type 0) → (characters flags : List ℕ) → GivenPattern
 given_with_syntax syntax is_text characters flags =
     record { syntax = syntax; is_text = is_text; characters = characters; flags = flags }
 
 -- The pattern of the profile with these fields.
-abbrev pub given : (is_text : Type 0) → (characters flags : List ℕ) → Given
+abbrev pub given : (is_text : Type 0) → (characters flags : List ℕ) → GivenPattern
 given = given_with_syntax Profile
 
 -- All letters are letters of flags, and the pattern is valid in its encoding.
-pub record HasValidTextAndFlags (g : Given) : Type 0 where
+pub record HasValidTextAndFlags (g : GivenPattern) : Type 0 where
   pub letters : AreFlags g.flags
   pub text : g.is_text
 
@@ -61,7 +60,7 @@ RefusesPattern syntax flags characters TooManyInstructions =
 RefusesPattern syntax flags characters _ = ⊥
 
 -- The result of compiling: the compiled pattern, or a refusal.
-abbrev pub IsCompileResult : Given → Bounds → Result Regex Refusal → Type 0
+abbrev pub IsCompileResult : GivenPattern → Bounds → Result Regex Refusal → Type 0
 IsCompileResult g bounds (Ok re) =
     HasValidTextAndFlags g × IsPatternWithinBounds bounds g.characters × IsCompiledWithSyntax (spec_syntax_of g.syntax)
     (flags_from_letters g.flags) g.characters re
@@ -76,14 +75,14 @@ IsCompileResult g bounds (Err refusal) = HasValidTextAndFlags g × IsPatternWith
 
 -- The result of compiling into a handle that holds `held`. If the handle is not empty, the call is
 -- refused.
-abbrev pub IsCompileResultForHandle : (held : Option Regex) → Given → Bounds → Result Regex Refusal → Type 0
+abbrev pub IsCompileResultForHandle : (held : Option Regex) → GivenPattern → Bounds → Result Regex Refusal → Type 0
 IsCompileResultForHandle None g bounds made = IsCompileResult g bounds made
 IsCompileResultForHandle (Some re) g bounds made = made ≡ Err Full
 
 -- The code of a result.
-abbrev pub code_of_compile_result : Result Regex Refusal → ℕ
-code_of_compile_result (Ok re) = done
-code_of_compile_result (Err refusal) = code_of_refusal refusal
+abbrev pub code_of_pattern_result : Result Regex Refusal → ℕ
+code_of_pattern_result (Ok re) = done
+code_of_pattern_result (Err refusal) = code_of_refusal refusal
 
 -- The content of a handle after a result. Before, it held `held`.
 abbrev pub handle_content_after_compiling : (held : Option Regex) → Result Regex Refusal → Option Regex
@@ -91,16 +90,16 @@ handle_content_after_compiling held (Ok re) = Some re
 handle_content_after_compiling held (Err refusal) = held
 
 -- The code and the final handle are those of some result of compiling.
-abbrev pub RepliesCompileResult : (before : Option Regex) → Given → Bounds → (after : Option Regex) → (code : ℕ)
+abbrev pub RepliesCompileResult : (before : Option Regex) → GivenPattern → Bounds → (after : Option Regex) → (code : ℕ)
     → Type 0
 RepliesCompileResult before g bounds after code = (made : Result Regex Refusal)
-    × IsCompileResultForHandle before g bounds made × (code ≡ code_of_compile_result made)
+    × IsCompileResultForHandle before g bounds made × (code ≡ code_of_pattern_result made)
     × (after ≡ handle_content_after_compiling before made)
 
 -- `RepliesCompileResult` for a pattern of the given language. If there is no language, the call is refused
 -- and the handle is unchanged.
 abbrev pub RepliesCompileResultWithSyntax :
-    (before : Option Regex) → Option pattern.Syntax → (pattern.Syntax → Given) → Bounds → (after : Option Regex)
+    (before : Option Regex) → Option pattern.Syntax → (pattern.Syntax → GivenPattern) → Bounds → (after : Option Regex)
     → (code : ℕ) → Type 0
 RepliesCompileResultWithSyntax before None g bounds after code = (code ≡ code_of_refusal UnknownSyntax)
     × (after ≡ before)
@@ -118,5 +117,5 @@ IsCloneResultForHandle (Some re) None (Err refusal) = refusal ≡ Memory
 -- The code and the final content of the second handle are those of some result of copying.
 abbrev pub RepliesCloned : (held before after : Option Regex) → (code : ℕ) → Type 0
 RepliesCloned held before after code = (made : Result Regex Refusal)
-    × IsCloneResultForHandle held before made × (code ≡ code_of_compile_result made)
+    × IsCloneResultForHandle held before made × (code ≡ code_of_pattern_result made)
     × (after ≡ handle_content_after_compiling before made)

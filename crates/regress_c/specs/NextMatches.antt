@@ -7,8 +7,7 @@ use Rattle.regex_meaning.specs.StepBudget.{IsBudgetAtMost, answers_within, finis
 use Rattle.regex_meaning.specs.Text.{Text}
 use Rattle.regex_meaning.specs.Tree.{Tree, group_ids}
 use Rattle.regress_search.specs.declared.exec.SearchError.TheVariants.{Memory, StepLimit}
-use Rattle.regress_match.specs.ProgramTreesAndAnswers.{units_as_ucs2_text, units_as_utf16_text, bytes_as_utf8_text, tree_for_byte_units}
-use Rattle.regress_match.specs.ProgramTreesAndAnswers.{tree_for_16_bit_units}
+use Rattle.regress_match.specs.ProgramTreesAndAnswers.{units_as_ucs2_text, units_as_utf16_text, bytes_as_utf8_text, tree_for_byte_units, tree_for_16_bit_units}
 use Rattle.regress_match.specs.Resuming.{IsExhaustedFrom, AreFoundInOrder, step_budget_after_first_match}
 use Rattle.regress_match.specs.declared.api.regex.Regex.{Regex}
 use Rattle.regress_c.specs.Codes.{code_of_refusal, done, no_match, refusal_of_search_error}

@@ -11,13 +11,13 @@ use Rattle.regress_c.specs.declared.reply.Reply.{Reply}
 use Rattle.regress_c.specs.declared.reply.Span.{Span}
 
 -- The greatest `u64`.
-abbrev pub greatest : ℕ
-greatest = 2 ^ 64 - 1
+abbrev pub max_u64 : ℕ
+max_u64 = 2 ^ 64 - 1
 
--- The span of a range. If the group did not match, both ends are `greatest`.
+-- The span of a range. If the group did not match, both ends are `max_u64`.
 abbrev pub span_of : Option (ℕ × ℕ) → Span
 span_of (Some r) = record { start = r.0; end = r.1 }
-span_of None = record { start = greatest; end = greatest }
+span_of None = record { start = max_u64; end = max_u64 }
 
 -- The span of the whole match, followed by the spans of the groups by number.
 abbrev pub spans_of : Answer → List Span

@@ -1,6 +1,5 @@
 -- The results of a search, in each encoding of its text.
-use Rattle.std.specs.Prelude.{◌≡◌, ◌<◌, ◌⊎◌, ℕ, Bool, true, false, List, [], Option, Some, None, Result, Ok, Err, IsCharBoundary, IsTrue, IsUtf8}
-use Rattle.std.specs.Prelude.{length, option_map, slice_get}
+use Rattle.std.specs.Prelude.{◌≡◌, ◌<◌, ◌⊎◌, ℕ, Bool, true, false, List, [], Option, Some, None, Result, Ok, Err, IsCharBoundary, IsTrue, IsUtf8, length, option_map, slice_get}
 use Rattle.std.specs.Option.{IfNone}
 use Rattle.std.specs.Borrow.{Bor}
 use Rattle.regex_meaning.specs.MatchGroupsByNumberAndName.{Answer}

@@ -1,6 +1,5 @@
 -- Texts that are written into the caller's buffer.
-use Rattle.std.specs.Prelude.{◌≡◌, ◌≤◌, ◌+◌, ◌-◌, ℕ, List, [], Option, Some, None, Result, Ok, Err, IsUtf8, get_or, length, string_bytes, take}
-use Rattle.std.specs.Prelude.{nat_le, if◌then◌else◌}
+use Rattle.std.specs.Prelude.{◌≡◌, ◌≤◌, ◌+◌, ◌-◌, ℕ, List, [], Option, Some, None, Result, Ok, Err, IsUtf8, get_or, length, string_bytes, take, nat_le, if◌then◌else◌}
 use Rattle.std.specs.List.{sum_by}
 use Rattle.regex_meaning.specs.FlagLettersAndEscaping.{escape}
 use Rattle.regex_meaning.specs.MatchGroupsByNumberAndName.{Answer, group_names_by_id}
@@ -11,7 +10,7 @@ use Rattle.regress_match.specs.ProgramTreesAndAnswers.{tree_for_byte_units, utf8
 use Rattle.regress_match.specs.ExpansionsAndMatchRanges.{matches_with_expansions}
 use Rattle.regress_match.specs.declared.api.regex.Regex.{Regex}
 use Rattle.regress_c.specs.Codes.{code_of_refusal, done}
-use Rattle.regress_c.specs.Compiling.{Given, HasValidTextAndFlags}
+use Rattle.regress_c.specs.Compiling.{GivenPattern, HasValidTextAndFlags}
 use Rattle.regress_c.specs.Reading.{AreFlags}
 use Rattle.regress_c.specs.Replies.{with_front_overwritten}
 use Rattle.regress_c.specs.declared.text_replies.CauseAndOffset.{CauseAndOffset}
@@ -116,7 +115,7 @@ IsOffsetInPattern width characters at = (n : ℕ) × (n ≤ length characters) �
 
 -- The result is a diagnosis with an offset in the pattern, no diagnosis, or a refusal. Which
 -- diagnosis is given, its wording, and whether there is one are not specified.
-abbrev pub IsDiagnosisResult : Given → (width : ℕ → ℕ) → Result (Option CauseAndOffset) Refusal → Type 0
+abbrev pub IsDiagnosisResult : GivenPattern → (width : ℕ → ℕ) → Result (Option CauseAndOffset) Refusal → Type 0
 IsDiagnosisResult given width (Ok (Some told)) = HasValidTextAndFlags given
     × IsOffsetInPattern width given.characters told.at
 IsDiagnosisResult given width (Ok None) = HasValidTextAndFlags given
@@ -144,8 +143,8 @@ offset_after_diagnosis (Ok None) at = at
 offset_after_diagnosis (Err refusal) at = at
 
 -- The reply, the caller's final offset and the final buffer are those of some result.
-abbrev pub RepliesDiagnosis : Given → (width : ℕ → ℕ) → (at : ℕ) → (before : List ℕ) → (at' : ℕ) → (after : List ℕ)
-    → Reply → Type 0
+abbrev pub RepliesDiagnosis : GivenPattern → (width : ℕ → ℕ) → (at : ℕ) → (before : List ℕ) → (at' : ℕ)
+    → (after : List ℕ) → Reply → Type 0
 RepliesDiagnosis given width at before at' after reply = (told : Result (Option CauseAndOffset) Refusal)
     × IsDiagnosisResult given width told × (reply ≡ diagnosis_reply told (length before))
     × (at' ≡ offset_after_diagnosis told at)
@@ -153,7 +152,7 @@ RepliesDiagnosis given width at before at' after reply = (told : Result (Option 
 
 -- `RepliesDiagnosis` for a pattern of the given language. If there is no language, the call is
 -- refused and nothing is written.
-abbrev pub RepliesDiagnosisWithSyntax : Option pattern.Syntax → (pattern.Syntax → Given) → (width : ℕ → ℕ)
+abbrev pub RepliesDiagnosisWithSyntax : Option pattern.Syntax → (pattern.Syntax → GivenPattern) → (width : ℕ → ℕ)
     → (at : ℕ) → (before : List ℕ) → (at' : ℕ) → (after : List ℕ) → Reply → Type 0
 RepliesDiagnosisWithSyntax None given width at before at' after reply =
     (reply ≡ record { code = code_of_refusal UnknownSyntax; count = 0 }) × (at' ≡ at) × (after ≡ before)

@@ -3,8 +3,7 @@
 ghost use Rattle.std.specs.Prelude.{◌≡◌, ◌<◌, Some, length};
 ghost use Rattle.regex_meaning.specs.Laws.{Each};
 ghost use Rattle.regress_search.specs.CostsOfCalls.{without_costs};
-ghost use Rattle.regress_c.specs.{AllMatchesInWork.{FillsInWork, RepliesAllInWork, RepliesOutcome, WritesMatchesWithinWork}, Replies.{spans_of}};
-ghost use Rattle.regress_c.specs.{Searching.{can_start_utf8}, Texts.{range_count}};
+ghost use Rattle.regress_c.specs.{AllMatchesInWork.{FillsInWork, RepliesAllInWork, RepliesOutcome, WritesMatchesWithinWork}, Replies.{spans_of}, Searching.{can_start_utf8}, Texts.{range_count}};
 
 use crate::pattern::Pattern;
 use crate::refusal::{DONE, NO_MATCH, Refusal};
@@ -86,7 +85,8 @@ fn write_all<P: WorkLimitedProducer + Drop>(
 ) -> Reply
     requires some { 0 < ranges }
     requires each { Each (λ m. length (spans_of m) ≡ ranges) matches.old.remaining.answers }
-    ensures { WritesMatchesWithinWork ranges (without_costs matches.old) (without_costs matches.new) spans.old spans.new result }
+    ensures { WritesMatchesWithinWork ranges (without_costs matches.old) (without_costs matches.new) spans.old spans.new
+        result }
 {
     let mut count = 0;
     let mut at = 0;

@@ -9,11 +9,11 @@
 ghost use Rattle.std.specs.Prelude.{◌≡◌, IsUtf8, None, Some, chars, length};
 ghost use Rattle.std.specs.Char.{len_utf8};
 ghost use Rattle.regex_meaning.specs.Text.{utf16_characters, utf16_width};
-ghost use Rattle.regress_c.specs.{Compiling.{RepliesCloned, RepliesCompileResult, RepliesCompileResultWithSyntax, given, given_with_syntax, unbounded}, NextMatches.{RepliesNext}};
-ghost use Rattle.regress_c.specs.{FirstMatchInWork.{RepliesInWork, RepliesWorkBound}, Opening.{OpensUcs2, OpensUtf8, OpensUtf16, RepliesOpened}};
+ghost use Rattle.regress_c.specs.Compiling.{RepliesCloned, RepliesCompileResult, RepliesCompileResultWithSyntax, given, given_with_syntax, unbounded};
+ghost use Rattle.regress_c.specs.NextMatches.{RepliesNext};
+ghost use Rattle.regress_c.specs.{FirstMatchInWork.{RepliesInWork, RepliesWorkBound}, Opening.{OpensUcs2, OpensUtf8, OpensUtf16, RepliesOpened}, AllMatchesInWork.{RepliesAllInWork}, Codes.{done}, GroupNumbers.{group_number_reply_of_handle}};
 ghost use Rattle.regress_c.specs.Reading.{syntax_of_number};
 ghost use Rattle.regress_c.specs.Searching.{Replies, can_start_utf8, can_start_utf16, ucs2_matches_to_come, utf8_matches_to_come, utf16_matches_to_come};
-ghost use Rattle.regress_c.specs.{AllMatchesInWork.{RepliesAllInWork}, Codes.{done}, GroupNumbers.{group_number_reply_of_handle}};
 ghost use Rattle.regress_c.specs.{MatchesAt.{ucs2_match_to_come_at, utf16_match_to_come_at, utf8_match_to_come_at}, Messages.{message_of_code}};
 ghost use Rattle.regress_c.specs.Texts.{IsEscapeResult, IsGroupNameResultOfHandle, IsReplaceResultOfHandle, RepliesText, RepliesDiagnosis, RepliesDiagnosisWithSyntax, range_count_reply_of_handle, buffer_after_text, text_reply};
 ghost use Rattle.regress_c.specs.declared.text_replies.ReplacedMatches.TheVariants.{First, All};
@@ -622,7 +622,8 @@ pub extern "C" fn regress_c_replace_all_utf8(
     replacement: &[u8],
     made: &mut [u8],
 ) -> Reply
-    ensures replies { RepliesText (IsReplaceResultOfHandle pattern.old.held text.now replacement.now All) made.old made.new result }
+    ensures replies { RepliesText (IsReplaceResultOfHandle pattern.old.held text.now replacement.now All) made.old
+        made.new result }
     ensures kept { pattern.new.held ≡ pattern.old.held }
 {
     text_replies::replace(

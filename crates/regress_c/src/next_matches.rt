@@ -1,13 +1,12 @@
 //! The next matches of an open search.
 
 ghost use Rattle.std.specs.Prelude.{◌≡◌, ◌<◌, ◌≤◌, ◌+◌, ◌++◌, None, Some, drop, length, take};
-ghost use Rattle.regress_c.specs.Codes.{code_of_refusal as number_of};
-ghost use Rattle.regress_c.specs.NextMatches.{Fills, FillsFrom, FillsInEncoding, RepliesNext, code_of_stop_reason, number_of_ranges as ranges_by, tree_for_encoding};
+ghost use Rattle.regress_c.specs.Codes.{code_of_refusal};
+ghost use Rattle.regress_c.specs.NextMatches.{Fills, FillsFrom, FillsInEncoding, RepliesNext, code_of_stop_reason, number_of_ranges as spec_number_of_ranges, tree_for_encoding};
 ghost use Rattle.regress_c.specs.{Searching.{can_start_utf8, can_start_utf16}, Replies.{spans_of}};
 ghost use Rattle.regex_meaning.specs.CodeUnitOffsets.{units, IsBoundaryOrPastEnd};
 ghost use Rattle.regress_search.specs.MatchesAsSpecAnswers.{answer_of};
-ghost use Rattle.regress_match.specs.ProgramTreesAndAnswers.{units_as_ucs2_text, units_as_utf16_text, bytes_as_utf8_text, tree_for_byte_units};
-ghost use Rattle.regress_match.specs.ProgramTreesAndAnswers.{tree_for_16_bit_units};
+ghost use Rattle.regress_match.specs.ProgramTreesAndAnswers.{units_as_ucs2_text, units_as_utf16_text, bytes_as_utf8_text, tree_for_byte_units, tree_for_16_bit_units};
 
 use crate::opening::{splits_surrogate_pair, splits_utf8_character};
 use crate::pattern::Pattern;
@@ -123,7 +122,7 @@ fn write_next_matches_with_regex(
 
 // Returns the result of a refused call, which takes no steps.
 fn refused(refusal: Refusal, steps: Option<u64>) -> CallOutcome
-    ensures { result ≡ record { reply = record { code = number_of refusal; count = 0 }; left = steps } }
+    ensures { result ≡ record { reply = record { code = code_of_refusal refusal; count = 0 }; left = steps } }
 {
     let reply = refusal.reply();
     CallOutcome { reply, left: steps }
@@ -131,7 +130,7 @@ fn refused(refusal: Refusal, steps: Option<u64>) -> CallOutcome
 
 // Returns the number of ranges of a match.
 fn number_of_ranges(re: &Regex, encoding: Encoding) -> usize
-    ensures { result ≡ ranges_by (tree_for_encoding re.now encoding) }
+    ensures { result ≡ spec_number_of_ranges (tree_for_encoding re.now encoding) }
 {
     match encoding {
         Encoding::Utf8 => re.group_count() + 1,
@@ -228,7 +227,7 @@ fn fill<E: SingleAttemptExecutor>(
     spans: &mut [Span],
 ) -> Filled
     requires starts { IsBoundaryOrPastEnd (E.text search.old) start }
-    requires ranges { ranges ≡ ranges_by (E.tree search.old) }
+    requires ranges { ranges ≡ spec_number_of_ranges (E.tree search.old) }
     ensures fills { Fills (E.tree search.old) (E.text search.old) (E.budget search.old) start spans.old
         spans.new result (E.budget search.new) }
     ensures unset { result.left ≡ None }
@@ -263,6 +262,7 @@ fn fill<E: SingleAttemptExecutor>(
 
 // Writes the `count` ranges of a match to the buffer from index `at` on. Returns the offset at
 // which the list of matches continues.
+#[inline(always)]
 fn write_step(step: Step, count: usize, at: usize, spans: &mut [Span]) -> usize
     requires all { count ≡ length (spans_of (answer_of step.found)) }
     requires room { at + count ≤ length spans.old }
@@ -275,7 +275,7 @@ fn write_step(step: Step, count: usize, at: usize, spans: &mut [Span]) -> usize
 
 // Returns `usize::MAX`, which is past the end of every text.
 fn offset_past_every_text<E: SingleAttemptExecutor>(search: &E) -> usize
-    ensures greatest { result ≡ usize.MAX }
+    ensures max_u64 { result ≡ usize.MAX }
     ensures past { units (E.text search.now) < result }
 {
     let _input = search.input();

@@ -70,7 +70,7 @@ pub(crate) fn reply_to_search_result(
     ensures written { spans.new ≡ buffer_after_search found spans.old }
 {
     match found {
-        Ok(Some(found)) => matched(&found, spans),
+        Ok(Some(found)) => reply_for_match(&found, spans),
         Ok(None) => Reply {
             code: NO_MATCH,
             count: 0,
@@ -81,7 +81,7 @@ pub(crate) fn reply_to_search_result(
 
 // Returns the reply for a match.
 #[tactic(auto, using(crate::proofs::ReplyLemmas::count_is, crate::proofs::ReplyLemmas::done_reply, crate::proofs::ReplyLemmas::short_reply, crate::proofs::ReplyLemmas::done_left, crate::proofs::ReplyLemmas::short_left))]
-fn matched(found: &Match, spans: &mut [Span]) -> Reply
+fn reply_for_match(found: &Match, spans: &mut [Span]) -> Reply
     ensures reply { result ≡ reply_to (Ok (Some found.now)) (length spans.old) }
     ensures written { spans.new ≡ buffer_after_search (Ok (Some found.now)) spans.old }
 {

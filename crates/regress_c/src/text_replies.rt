@@ -5,10 +5,9 @@ ghost use Rattle.std.specs.List.{sum_by};
 ghost use Rattle.std.specs.Result.{result_map_both};
 ghost use Rattle.regress_c.specs.Compiling.{given_with_syntax};
 ghost use Rattle.regress_c.specs.Reading.{syntax_of_number};
-ghost use Rattle.regress_c.specs.Texts.{IsDiagnosisResult, IsEscapeResult, IsGroupNameResult, IsReplaceResult, IsReplaceResultOfHandle, RepliesText, RepliesDiagnosis, RepliesDiagnosisWithSyntax, range_count_reply_of_handle, buffer_after_produced_text};
-ghost use Rattle.regress_c.specs.Texts.{buffer_after_text, reply_for_produced_text};
+ghost use Rattle.regress_c.specs.Texts.{IsDiagnosisResult, IsEscapeResult, IsGroupNameResult, IsReplaceResult, IsReplaceResultOfHandle, RepliesText, RepliesDiagnosis, RepliesDiagnosisWithSyntax, range_count_reply_of_handle, buffer_after_produced_text, buffer_after_text, reply_for_produced_text};
 ghost use Rattle.regress_c.specs.Texts.{text_reply};
-ghost use Rattle.regress_c.specs.{Codes.{done}, GroupNumbers.{index_of_first_name, group_number_reply_of_handle}, Messages.{message_of_code as message_text}};
+ghost use Rattle.regress_c.specs.{Codes.{done}, GroupNumbers.{index_of_first_name, group_number_reply_of_handle}, Messages.{message_of_code as spec_message_of_code}};
 
 use crate::flags::flags_from;
 use crate::message::message_of_code;
@@ -162,8 +161,8 @@ fn index_of_first_equal_name(names: &[String], name: &[u8]) -> Option<usize>
 
 /// Writes the text of a code.
 pub(crate) fn message(code: u32, buffer: &mut [u8]) -> Reply
-    ensures reply { result ≡ text_reply done (message_text code) (length buffer.old) }
-    ensures written { buffer.new ≡ buffer_after_text (message_text code) buffer.old }
+    ensures reply { result ≡ text_reply done (spec_message_of_code code) (length buffer.old) }
+    ensures written { buffer.new ≡ buffer_after_text (spec_message_of_code code) buffer.old }
 {
     write_text_if_room(message_of_code(code).as_bytes(), buffer, DONE)
 }
@@ -209,7 +208,7 @@ pub(crate) fn diagnosis<S: Source>(
     ensures { RepliesDiagnosis (given_with_syntax syntax (S.is_text source.now) (S.characters source.now) flags.now)
         S.width_of at.old buffer.old at.new buffer.new result }
 {
-    match diagnosed(alloc, source, flags, syntax) {
+    match diagnosis_of_pattern(alloc, source, flags, syntax) {
         Ok(Some(told)) => {
             *at = told.at;
             write_text_if_room(told.cause.as_bytes(), buffer, Refusal::Syntax.code())
@@ -231,7 +230,7 @@ struct CauseAndOffset {
 }
 
 // Returns the diagnosis of a pattern. Returns `None` if the pattern is valid.
-fn diagnosed<S: Source>(
+fn diagnosis_of_pattern<S: Source>(
     alloc: Global,
     source: &S,
     flags: &[u8],

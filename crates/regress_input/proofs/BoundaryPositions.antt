@@ -1,6 +1,5 @@
 -- Each boundary is the offset of one position, and a read moves it to the next position.
-use Rattle.std.proofs.Common.{◌≡◌, ℕ, zero, suc, ◌+◌, ◌-◌, ◌<◌, ◌≤◌, IsTrue, slice_get, Option, Some, None, is_some, option_map, option_and_then}
-use Rattle.std.proofs.Common.{refl, sym, ◌∙◌, ap, subst, arith, add-one, le_refl}
+use Rattle.std.proofs.Common.{◌≡◌, ℕ, zero, suc, ◌+◌, ◌-◌, ◌<◌, ◌≤◌, IsTrue, slice_get, Option, Some, None, is_some, option_map, option_and_then, refl, sym, ◌∙◌, ap, subst, arith, add-one, le_refl}
 use Rattle.std.proofs.lemmas.Option.{slice_get_within, slice_get_past, some_pair_parts}
 use Rattle.regex_meaning.proofs.CodeUnitOffsetsLemmas.{offset-less, offset-le, place_at-offset, offset-place_at}
 use Rattle.regex_meaning.specs.Text.{Text, Direction, rightwards, leftwards, last_place}
@@ -18,7 +17,7 @@ place_found text t at place e =
     record { found = e; within = here.1; offset_is = here.0 }
 
 -- An option that is not empty has a value.
-some_of : {A : Type 0} (o : Option A) → IsTrue (is_some o) → (x : A) × (o ≡ Some x)
+pub some_of : {A : Type 0} (o : Option A) → IsTrue (is_some o) → (x : A) × (o ≡ Some x)
 some_of None h = absurd (cc)
 some_of (Some x) h = (x, refl)
 

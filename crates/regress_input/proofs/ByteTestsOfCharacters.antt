@@ -1,6 +1,5 @@
 -- A test of bytes passes exactly if the test of the character that they encode passes.
-use Rattle.std.proofs.Common.{◌≡◌, ℕ, zero, suc, ◌+◌, ◌-◌, ◌<◌, ◌≤◌, ◌⊎◌, inl, inr, ⊎_elim, List, [], ◌∷◌, ◌++◌, ◌&&◌, ◌||◌, length, get_or, take}
-use Rattle.std.proofs.Common.{drop, flat_map, slice_range, Bool, true, false, if◌then◌else◌, nat_eq, All, chars, encode_utf8, Some, None}
+use Rattle.std.proofs.Common.{◌≡◌, ℕ, zero, suc, ◌+◌, ◌-◌, ◌<◌, ◌≤◌, ◌⊎◌, inl, inr, ⊎_elim, List, [], ◌∷◌, ◌++◌, ◌&&◌, ◌||◌, length, get_or, take, drop, flat_map, slice_range, Bool, true, false, if◌then◌else◌, nat_eq, All, chars, encode_utf8, Some, None}
 use Rattle.std.proofs.Common.{option_and_then, refl, sym, ◌∙◌, ap, ap₂, subst, arith, ne_eqb, eqb-true, eq-eqb, take_at}
 use Rattle.std.proofs.lemmas.List.{append-nil}
 use Rattle.std.proofs.Math.Bool.{and-true}
@@ -19,12 +18,9 @@ use Rattle.regex_meaning.specs.Outcomes.{accepts}
 use Rattle.regex_meaning.specs.CodeUnitOffsets.{HasRisingPlaceOffsets, IsBoundary, units, read}
 use Rattle.regress_input.specs.CharAndByteReadsFromOffset.{IsEncodedInUtf8, bytes_of, adjacent_byte, offset_after_one_unit, end_if_matched, past_if, past_numbers_if_next}
 use Rattle.regress_input.specs.Utf8.{IsEncodedAt, IsEncodedBetween}
-use Rattle.regress_input.proofs.SpelledTextLemmas.{ReadsRight, ReadsLeft, reads_right, reads_left, at_end, before_character, at_start, behind_character}
-use Rattle.regress_input.proofs.SpelledTextLemmas.{text_of, length-units}
-use Rattle.regress_input.proofs.TextSlices.{same_option, StandBehind, StandBefore, past_bytes-right, right-past_bytes, past_bytes-left, left-past_bytes}
-use Rattle.regress_input.proofs.TextSlices.{chosen}
-use Rattle.regress_input.proofs.Utf8Reads.{Bytes, one, two, three, four, bytes_at, back_one, back_two, back_three, back_four, encodes-flat_map}
-use Rattle.regress_input.proofs.Utf8Reads.{scalar_among}
+use Rattle.regress_input.proofs.SpelledTextLemmas.{ReadsRight, ReadsLeft, reads_right, reads_left, at_end, before_character, at_start, behind_character, text_of, length-units}
+use Rattle.regress_input.proofs.TextSlices.{same_option, StandBehind, StandBefore, past_bytes-right, right-past_bytes, past_bytes-left, left-past_bytes, chosen}
+use Rattle.regress_input.proofs.Utf8Reads.{Bytes, one, two, three, four, bytes_at, back_one, back_two, back_three, back_four, encodes-flat_map, scalar_among}
 use Rattle.regex_meaning.proofs.CodeUnitOffsetsLemmas.{len_utf8-positive}
 
 -- ---- Sets of ASCII bytes

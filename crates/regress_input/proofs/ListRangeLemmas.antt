@@ -1,24 +1,11 @@
 -- A range of a list grows by one element at its front or its back.
-use Rattle.std.proofs.Common.{◌≡◌, ℕ, zero, suc, ◌+◌, ◌-◌, ◌<◌, ◌≤◌, List, [], ◌∷◌, ◌++◌, length, take, drop, slice_get, slice_range, Some, Bool}
-use Rattle.std.proofs.Common.{true, false, not, ◌&&◌, ◌≢◌, nat_le, nat_eq, refl, sym, ◌∙◌, ap, arith, eq-eqb, eqb-true, le-leb, leb-true}
+use Rattle.std.proofs.Common.{◌≡◌, ℕ, zero, suc, ◌+◌, ◌-◌, ◌≤◌, List, [], ◌∷◌, ◌++◌, length, take, drop, slice_get, slice_range, Some, Bool, true, false, not, ◌&&◌, ◌≢◌, nat_eq, refl, sym, ◌∙◌, ap, arith, eq-eqb, eqb-true}
 use lib.Pointwise.{pointwise}
-use Rattle.regex_meaning.proofs.BoolLemmas.{same-truth}
 
 pub get-cons : (xs : List ℕ) (a c : ℕ) → slice_get xs a ≡ Some c → drop a xs ≡ c ∷ drop (suc a) xs
 get-cons [] a c e = absurd (cc)
 get-cons (x ∷ xs) zero c e = let same : x ≡ c = cc in ap (λ y. y ∷ xs) same
 get-cons (x ∷ xs) (suc a) c e = get-cons xs a c e
-
-pub get-front : (xs ys : List ℕ) (i : ℕ) → i < length xs → slice_get (xs ++ ys) i ≡ slice_get xs i
-get-front [] ys i l = absurd (omega arith)
-get-front (x ∷ xs) ys zero l = refl
-get-front (x ∷ xs) ys (suc i) l = get-front xs ys i (omega arith)
-
-pub get-behind : (xs ys : List ℕ) (i : ℕ) → slice_get (xs ++ ys) (length xs + i) ≡ slice_get ys i
-get-behind [] ys i = let e : 0 + i ≡ i = omega arith in ap (slice_get ys) e
-get-behind (x ∷ xs) ys i =
-    let e : suc (length xs) + i ≡ suc (length xs + i) = omega arith in
-    ap (slice_get (x ∷ (xs ++ ys))) e ∙ get-behind xs ys i
 
 -- ---- Ranges with one more element
 
@@ -59,9 +46,6 @@ pointwise-snoc f [] [] c d e = refl
 pointwise-snoc f [] (y ∷ ys) c d e = absurd (omega arith)
 pointwise-snoc f (x ∷ xs) [] c d e = absurd (omega arith)
 pointwise-snoc f (x ∷ xs) (y ∷ ys) c d e = ap (λ b. f x y && b) (pointwise-snoc f xs ys c d (omega arith)) ∙ and_swap (f x y) (f c d) (pointwise f xs ys)
-
-pub le_same : (a b c d : ℕ) → (a ≤ b → c ≤ d) → (c ≤ d → a ≤ b) → nat_le a b ≡ nat_le c d
-le_same a b c d f g = same-truth (nat_le a b) (nat_le c d) (λ e. le-leb c d (f (leb-true a b e))) (λ e. le-leb a b (g (leb-true c d e)))
 
 -- If the negated test of equality passes, the numbers differ.
 pub unequal : (x y : ℕ) (b e : Bool) → b ≡ not e → e ≡ nat_eq x y → b ≡ true → x ≢ y

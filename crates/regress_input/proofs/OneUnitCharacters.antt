@@ -1,10 +1,9 @@
 -- If each character is one code unit, each offset is a boundary, and reads move by one unit.
-use Rattle.std.proofs.Common.{◌≡◌, ◌≢◌, ℕ, zero, suc, ◌+◌, ◌-◌, ◌<◌, ◌≤◌, List, [], ◌∷◌, length, get_or, take, flat_map, slice_range, Bool, nat_eq}
-use Rattle.std.proofs.Common.{Some, None, option_map, refl, sym, ◌∙◌, ap, ap₂, subst, arith}
+use Rattle.std.proofs.Common.{◌≡◌, ◌≢◌, ℕ, zero, suc, ◌+◌, ◌-◌, ◌<◌, ◌≤◌, List, [], ◌∷◌, length, get_or, take, flat_map, slice_range, Bool, nat_eq, Some, None, option_map, refl, sym, ◌∙◌, ap, ap₂, subst, arith}
 use Rattle.std.proofs.lemmas.Option.{slice_get-get_or, slice_get_past}
 use Rattle.regex_meaning.specs.Text.{Text, Direction, rightwards, leftwards, width_of_single_unit_character}
 use Rattle.regex_meaning.specs.CodeUnitOffsets.{HasRisingPlaceOffsets, IsBoundary, offset, units, place_at, read}
-use Rattle.regex_meaning.proofs.CodeUnitOffsetsLemmas.{place_at-offset, offset-IsBoundary}
+use Rattle.regex_meaning.proofs.CodeUnitOffsetsLemmas.{place_at-offset, offset-IsBoundary, width_of_single_unit_character-positive}
 use Rattle.regress_input.specs.CharAndByteReadsFromOffset.{part, characters_between, past_spelled_if_next, past_numbers_if_next}
 use Rattle.regress_input.proofs.BoundaryPositions.{place_of_boundary, pair, read-place}
 use Rattle.regress_input.proofs.SpelledTextLemmas.{text_of, is_text, offset-spelling}
@@ -15,9 +14,6 @@ single c = c ∷ []
 
 sized : (c : ℕ) → length (single c) ≡ width_of_single_unit_character c
 sized c = refl
-
-positive : (c : ℕ) → 0 < width_of_single_unit_character c
-positive c = omega arith
 
 pub all_single : (us : List ℕ) → flat_map single us ≡ us
 all_single [] = refl
@@ -33,7 +29,7 @@ module _ (us : List ℕ) (unicode : Bool) (fold : ℕ → ℕ) where
   this = text_of width_of_single_unit_character us unicode fold
 
   this_is_text : HasRisingPlaceOffsets this
-  this_is_text = is_text width_of_single_unit_character positive us unicode fold
+  this_is_text = is_text width_of_single_unit_character width_of_single_unit_character-positive us unicode fold
 
   -- The offset of a place is the number of the place.
   offset_of_place : (k : ℕ) → k ≤ length us → offset this k ≡ k
@@ -90,16 +86,16 @@ module _ (us : List ℕ) (unicode : Bool) (fold : ℕ → ℕ) where
   pub part-one : (a b : ℕ) → IsBoundary this a → IsBoundary this b → a ≤ b → text_of width_of_single_unit_character (slice_range us a b) unicode fold ≡ part this a b
   part-one a b f g l =
       ap (λ cs. text_of width_of_single_unit_character cs unicode fold) (sym (between_is a b f g))
-      ∙ part-is single width_of_single_unit_character sized us us unicode fold (all_single us) positive a b f g l
+      ∙ part-is single width_of_single_unit_character sized us us unicode fold (all_single us) width_of_single_unit_character-positive a b f g l
 
-  injective : IsInjective single width_of_single_unit_character sized us us unicode fold (all_single us) positive
+  injective : IsInjective single width_of_single_unit_character sized us us unicode fold (all_single us) width_of_single_unit_character-positive
   injective p q i j e = sym (all_single (slice_range us p q)) ∙ e ∙ all_single (slice_range us i j)
 
   pub literal-one : (d : Direction) (at a b : ℕ) → IsBoundary this at → IsBoundary this a → IsBoundary this b → a ≤ b
       → past_numbers_if_next us (slice_range us a b) d at ≡ past_spelled_if_next this nat_eq (characters_between this a b) d at
   literal-one rightwards at a b at_b f g l =
-      literal-right single width_of_single_unit_character sized us us unicode fold (all_single us) positive injective at a b at_b f g l
+      literal-right single width_of_single_unit_character sized us us unicode fold (all_single us) width_of_single_unit_character-positive injective at a b at_b f g l
       (λ to h. boundary to (omega (arith, h.to_is, h.fits)))
   literal-one leftwards at a b at_b f g l =
-      literal-left single width_of_single_unit_character sized us us unicode fold (all_single us) positive injective at a b at_b f g l
+      literal-left single width_of_single_unit_character sized us us unicode fold (all_single us) width_of_single_unit_character-positive injective at a b at_b f g l
       (λ to h. boundary to (omega (arith, h.to_is, h.fits, inside at at_b)))

@@ -1,6 +1,5 @@
 -- Comparing characters one by one decides whether a range of the text occurs again at an offset.
-use Rattle.std.proofs.Common.{◌≡◌, ℕ, zero, suc, ◌+◌, ◌-◌, ◌<◌, ◌≤◌, ◌≢◌, ◌⊎◌, inl, inr, List, [], ◌∷◌, ◌&&◌, length, take, drop, slice_get}
-use Rattle.std.proofs.Common.{slice_range, Bool, true, false, cond, if◌then◌else◌, nat_le, Option, Some, None, option_map, refl, sym, ◌∙◌, ap, ap₂}
+use Rattle.std.proofs.Common.{◌≡◌, ℕ, zero, suc, ◌+◌, ◌-◌, ◌<◌, ◌≤◌, ◌≢◌, ◌⊎◌, inl, inr, List, [], ◌∷◌, ◌&&◌, length, take, drop, slice_get, slice_range, Bool, true, false, cond, if◌then◌else◌, nat_le, Option, Some, None, option_map, refl, sym, ◌∙◌, ap, ap₂}
 use Rattle.std.proofs.Common.{subst, arith, le-leb, leb-true, add-one, length-take, length-drop}
 use Rattle.std.proofs.Math.Bool.{and-false}
 use Rattle.std.proofs.lemmas.Bool.{lt-leb}
@@ -9,10 +8,11 @@ use Rattle.std.proofs.lemmas.Option.{slice_get_within}
 use Rattle.regex_meaning.specs.Text.{Text, Direction, rightwards, leftwards, next_character, moved, characters_ahead, next_characters}
 use Rattle.regex_meaning.specs.CodeUnitOffsets.{HasRisingPlaceOffsets, IsBoundary, offset, read}
 use Rattle.regex_meaning.proofs.CodeUnitOffsetsLemmas.{offset-injective, offset-less, offset-le, place-le}
+use Rattle.regex_meaning.proofs.BoolLemmas.{le-same}
 use Rattle.regress_input.specs.CharAndByteReadsFromOffset.{direction_of_forward_flag, place, characters_between, past_spelled_if_next}
 use Rattle.regress_input.proofs.BoundaryPositions.{HasPlace, place_of_boundary, pair, step_right, step_left, read-place}
 use Rattle.regress_input.proofs.TextSlices.{place_is}
-use Rattle.regress_input.proofs.ListRangeLemmas.{slice-first, slice-last, pointwise-snoc, le_same}
+use Rattle.regress_input.proofs.ListRangeLemmas.{slice-first, slice-last, pointwise-snoc}
 
 -- ---- Comparison of characters one by one
 
@@ -55,7 +55,7 @@ module _ (text : Text) (same : ℕ → ℕ → Bool) where
           let k_in : k < length cs = slice_get_within cs k d f in
           let lists : pointwise same (slice_range cs a (a + suc n)) (slice_range cs k (k + suc n)) ≡ (same c d && pointwise same (slice_range cs (suc a) (suc a + n)) (slice_range cs (suc k) (suc k + n))) =
           ap₂ (pointwise same) (slice-first cs a n c e) (slice-first cs k n d f) in
-          let left : nat_le (suc n) (length cs - k) ≡ nat_le n (length cs - suc k) = le_same (suc n) (length cs - k) n (length cs - suc k) (λ x. omega arith) (λ x. omega arith) in
+          let left : nat_le (suc n) (length cs - k) ≡ nat_le n (length cs - suc k) = le-same (suc n) (length cs - k) n (length cs - suc k) (λ x. omega arith) (λ x. omega arith) in
           let end : k + suc n ≡ suc k + n = omega arith in
           go t s (ap₂ (λ x y. x && y) left lists) end
         where
@@ -115,7 +115,7 @@ module _ (text : Text) (same : ℕ → ℕ → Bool) where
       tests c d e f = split (nat_le n k) refl
         where
           less : nat_le (suc n) (suc k) ≡ nat_le n k
-          less = le_same (suc n) (suc k) n k (λ x. omega arith) (λ x. omega arith)
+          less = le-same (suc n) (suc k) n k (λ x. omega arith) (λ x. omega arith)
 
           lists : n ≤ k → pointwise same (slice_range cs (suc a - suc n) (suc a)) (slice_range cs (suc k - suc n) (suc k)) ≡ (same c d && pointwise same (slice_range cs (a - n) a) (slice_range cs (k - n) k))
           lists x =

@@ -1,6 +1,5 @@
 -- The code units at a boundary are those of the character that begins there or ends there.
-use Rattle.std.proofs.Common.{◌≡◌, ℕ, zero, suc, ◌+◌, ◌-◌, ◌/◌, ◌<◌, ◌≤◌, ◌⊎◌, inl, inr, Bool, true, false, cond, not, ◌&&◌, List, [], ◌∷◌, ◌++◌}
-use Rattle.std.proofs.Common.{length, map, take, drop, flat_map, slice_get, slice_index, nat_le, nat_lt, nat_eq, is_some, position, Some, None, refl}
+use Rattle.std.proofs.Common.{◌≡◌, ℕ, zero, suc, ◌+◌, ◌-◌, ◌/◌, ◌<◌, ◌≤◌, ◌⊎◌, inl, inr, Bool, true, false, cond, not, ◌&&◌, List, [], ◌∷◌, ◌++◌, length, map, take, drop, flat_map, slice_get, slice_index, nat_le, nat_lt, nat_eq, is_some, position, Some, None, refl}
 use Rattle.std.proofs.Common.{sym, ◌∙◌, ap, ap₂, arith, eq-eqb, ne_eqb, le-leb, lt-ltb, le-ltb, take-append-drop, take_all}
 use Rattle.std.proofs.lemmas.Bool.{lt-leb, cases_Bool, cases_lt}
 use Rattle.std.proofs.lemmas.List.{append-nil}
@@ -10,26 +9,21 @@ use lib.Utf8.{encode, next}
 use Rattle.regex_meaning.specs.NumberListHelpers.{contains}
 use Rattle.regex_meaning.specs.Text.{Text, rightwards, leftwards, offsets_from}
 use Rattle.regex_meaning.specs.CodeUnitOffsets.{HasRisingPlaceOffsets, offset, units, place_at, read}
-use Rattle.regex_meaning.specs.CodeUnits.{Encoding, utf8, utf16, ucs2, code_units_of_character, text_units_in_encoding, HasOffsetsInEncoding}
+use Rattle.regex_meaning.specs.CodeUnits.{Encoding, utf8, code_units_of_character, text_units_in_encoding, HasOffsetsInEncoding}
 use Rattle.regress_input.specs.Utf8.{is_continuation_byte}
-use Rattle.regress_input.specs.TextSpellingAndOffsetLimit.{sized_utf8, sized_utf16}
-use Rattle.regress_input.proofs.ListRangeLemmas.{get-cons, get-front, get-behind}
+use Rattle.regress_input.proofs.ListRangeLemmas.{get-cons}
 use Rattle.regress_input.proofs.BoundaryPositions.{HasPlace, step_right, step_left}
 use Rattle.regress_input.proofs.SpelledTextLemmas.{offset-spelling, offset-behind}
 use Rattle.regress_input.proofs.Utf8Reads.{encode_two, encode_three, encode_four}
 use Rattle.regex_meaning.proofs.FirstByteOfCharacter.{encode-1}
-use Rattle.regex_meaning.proofs.CodeUnitOffsetsLemmas.{len_utf8-positive, utf16_width-positive}
+use Rattle.regex_meaning.proofs.ListLemmas.{get-front, get-behind}
+use Rattle.regex_meaning.proofs.CodeUnitLengthLemmas.{has-unit}
+use Rattle.regex_meaning.proofs.UnitBoundaryLemmas.{none-before}
 
 -- ---- All encodings
 
 abbrev width : Encoding → ℕ → ℕ
 width e c = length (code_units_of_character e c)
-
--- Each character has at least one unit.
-pub has-unit : (e : Encoding) (c : ℕ) → 0 < length (code_units_of_character e c)
-has-unit utf8 c = omega (arith, sized_utf8 c, len_utf8-positive c)
-has-unit utf16 c = omega (arith, sized_utf16 c, utf16_width-positive c)
-has-unit ucs2 c = omega arith
 
 module _ (e : Encoding) (text : Text) (s : HasOffsetsInEncoding e text) where
   abbrev cs : List ℕ
@@ -137,11 +131,6 @@ byte-of c i b g = by (cases_lt c 128) (cases_lt c 2048) (cases_lt c 65536)
     by (inr l) (inl h) _ = two i _ c (omega arith) (seen _ (encode_two c l h))
     by (inr _) (inr l) (inl h) = three i _ (c / 64) c (omega arith) (seen _ (encode_three c l h))
     by (inr _) (inr _) (inr l) = four i _ (c / 4096) (c / 64) c (omega arith) (seen _ (encode_four c l))
-
--- No offset stands before the first one.
-none-before : (ws : List ℕ) (at i : ℕ) → i < at → contains (offsets_from at ws) i ≡ false
-none-before [] at i less = rw (ne_eqb i at (omega arith)) refl
-none-before (w ∷ ws) at i less = rw (ne_eqb i at (omega arith)) (none-before ws (at + w) i (omega arith))
 
 -- The offset of a byte is the offset of a character exactly if the byte continues no character.
 among : (cs : List ℕ) (a i b : ℕ) → slice_get (flat_map (code_units_of_character utf8) cs) i ≡ Some b

@@ -4,8 +4,7 @@ use Rattle.std.proofs.lemmas.List.{append-nil}
 use Rattle.std.proofs.lemmas.Str.{encodes-chars, encodes-IsAscii, IsUtf8-had}
 use lib.Utf8.{encode, encodes}
 use Rattle.regex_meaning.specs.Text.{utf8_text, ascii_text, utf16_text, ucs2_text}
-use Rattle.regex_meaning.specs.CodeUnits.{utf8, utf16, ucs2, code_units_of_character, text_units_in_encoding}
-use Rattle.regress_input.specs.Utf16CharactersAtOffsets.{AreU16Units}
+use Rattle.regex_meaning.specs.CodeUnits.{utf8, utf16, ucs2, code_units_of_character, text_units_in_encoding, AreU16Units}
 use Rattle.regress_input.proofs.OneUnitCharacters.{all_single}
 use Rattle.regress_input.proofs.Utf16Reads.{spell, spelled}
 

@@ -1,18 +1,17 @@
 -- Reading at a boundary of a UTF-16 text yields the character that its code units encode.
-use Rattle.std.proofs.Common.{◌≡◌, ◌≢◌, ℕ, zero, suc, ◌+◌, ◌-◌, ◌/◌, ◌%◌, ◌<◌, ◌≤◌, ◌⊎◌, inl, inr, Bool, true, false, cond, if◌then◌else◌, not, ◌&&◌}
-use Rattle.std.proofs.Common.{List, [], ◌∷◌, ◌++◌, length, get_or, take, drop, flat_map, slice_get, slice_index, nat_le, nat_eq, Some, None, refl}
+use Rattle.std.proofs.Common.{◌≡◌, ◌≢◌, ℕ, zero, suc, ◌+◌, ◌-◌, ◌/◌, ◌%◌, ◌<◌, ◌≤◌, ◌⊎◌, inl, inr, Bool, true, false, cond, if◌then◌else◌, not, ◌&&◌, List, [], ◌∷◌, ◌++◌, length, get_or, take, drop, flat_map, slice_get, slice_index, nat_le, nat_eq, Some, None, refl}
 use Rattle.std.proofs.Common.{sym, ◌∙◌, ap, ap₂, subst, arith, add-one, eq-eqb, ne_eqb, le-leb, leb-true, lt-ltb, le-ltb, get_or-drop}
 use Rattle.std.proofs.Math.Bool.{and-true, and-false}
 use Rattle.std.proofs.lemmas.Bool.{and_parts, lt-leb, and_from, false_from_ne_true, cases_lt}
-use Rattle.regex_meaning.specs.Text.{Text, rightwards, leftwards, is_high_surrogate, is_low_surrogate, decode_surrogate_pair, utf16_width}
-use Rattle.regex_meaning.specs.Text.{utf16_characters, utf16_text, is_unit_boundary, fold_code_point}
+use Rattle.regex_meaning.specs.Text.{Text, rightwards, leftwards, is_high_surrogate, is_low_surrogate, decode_surrogate_pair, utf16_width, utf16_characters, utf16_text, is_unit_boundary, fold_code_point}
 use Rattle.regex_meaning.specs.CodeUnitOffsets.{IsBoundary, units, read}
-use Rattle.regex_meaning.specs.CodeUnits.{utf16, code_units_of_character}
+use Rattle.regex_meaning.specs.CodeUnits.{utf16, code_units_of_character, AreU16Units}
 use Rattle.regex_meaning.specs.Laws.{is_within_pair}
-use Rattle.regex_meaning.proofs.CodeUnitOffsetsLemmas.{utf16_text-IsText}
-use Rattle.regex_meaning.proofs.UnitBoundaryLemmas.{unit_boundary-place_at, unit_boundary-between, units-utf16}
+use Rattle.regex_meaning.proofs.CodeUnitOffsetsLemmas.{utf16_text-IsText, utf16_width-positive}
+use Rattle.regex_meaning.proofs.UnitBoundaryLemmas.{unit_boundary-place_at, unit_boundary-between, units-utf16, behind-first, single-width}
+use Rattle.regex_meaning.proofs.BoolLemmas.{not-both}
 use Rattle.regress_input.specs.TextSpellingAndOffsetLimit.{sized_utf16}
-use Rattle.regress_input.specs.Utf16CharactersAtOffsets.{AreU16Units, is_surrogate_pair_at, char_of_surrogate_pair_at, character_starting_at, character_before}
+use Rattle.regress_input.specs.Utf16CharactersAtOffsets.{is_surrogate_pair_at, char_of_surrogate_pair_at, character_starting_at, character_before}
 use Rattle.regress_input.proofs.BoundaryPositions.{pair, right_boundary, left_boundary, boundary_inside}
 use Rattle.regress_input.proofs.SpelledTextLemmas.{ReadsRight, ReadsLeft, reads_right, reads_left, at_end, before_character, at_start, behind_character}
 
@@ -35,22 +34,12 @@ pub spell-two : (c : ℕ) → 0x1_0000 ≤ c → spell c ≡ high_of c ∷ low_o
 unfolding spell
 spell-two c l = ap (λ (b : Bool). cond b (c ∷ []) (high_of c ∷ low_of c ∷ [])) (le-ltb c 0x1_0000 l)
 
-width-one : (c : ℕ) → c < 0x1_0000 → utf16_width c ≡ 1
-width-one c l = ap (λ (b : Bool). cond b 2 1) (lt-leb 0x1_0000 c l)
-
 width-two : (c : ℕ) → 0x1_0000 ≤ c → utf16_width c ≡ 2
 width-two c l = ap (λ (b : Bool). cond b 2 1) (le-leb 0x1_0000 c l)
 
 pub sized : (c : ℕ) → length (spell c) ≡ utf16_width c
 unfolding spell
 sized c = sized_utf16 c
-
-pub positive : (c : ℕ) → 0 < utf16_width c
-positive c = by (cases_lt c 0x1_0000)
-  where
-    by : (c < 0x1_0000) ⊎ (0x1_0000 ≤ c) → 0 < utf16_width c
-    by (inl l) = omega (arith, width-one c l)
-    by (inr l) = omega (arith, width-two c l)
 
 -- ---- Surrogates
 
@@ -62,9 +51,6 @@ high_range u e = let both = and_parts (nat_le 0xD800 u) (nat_le u 0xDBFF) e in (
 
 low_range : (u : ℕ) → is_low_surrogate u ≡ true → (0xDC00 ≤ u) × (u ≤ 0xDFFF)
 low_range u e = let both = and_parts (nat_le 0xDC00 u) (nat_le u 0xDFFF) e in (leb-true 0xDC00 u both.0, leb-true u 0xDFFF both.1)
-
-true_not_false : (b : Bool) → b ≡ true → b ≡ false → ⊥
-true_not_false b e f = cc
 
 pub pair_parts : (u v : ℕ) → is_pair u v ≡ true → (0xD800 ≤ u) × (u ≤ 0xDBFF) × (0xDC00 ≤ v) × (v ≤ 0xDFFF)
 pair_parts u v e =
@@ -113,15 +99,12 @@ decode-pair u v us e = ap (λ (b : Bool). cond b (decode_surrogate_pair u v ∷ 
 pub decode-apart : (u v : ℕ) (us : List ℕ) → is_pair u v ≡ false → utf16_characters (u ∷ v ∷ us) ≡ u ∷ utf16_characters (v ∷ us)
 decode-apart u v us e = ap (λ (b : Bool). cond b (decode_surrogate_pair u v ∷ utf16_characters us) (u ∷ utf16_characters (v ∷ us))) e
 
-behind : (u : ℕ) (us : List ℕ) → AreU16Units (u ∷ us) → AreU16Units us
-behind u us small k inside = small (suc k) (omega arith)
-
 -- The units of the characters of a list of units are that list.
 pub spelled : (us : List ℕ) → AreU16Units us → flat_map spell (utf16_characters us) ≡ us
 spelled [] small = refl
 spelled (u ∷ []) small = ap (λ (l : List ℕ). l ++ []) (spell-one u (small 0 (omega arith)))
 spelled (u ∷ v ∷ us) small =
-    by (is_pair u v) refl (spelled us (behind v us (behind u (v ∷ us) small))) (spelled (v ∷ us) (behind u (v ∷ us) small))
+    by (is_pair u v) refl (spelled us (behind-first v us (behind-first u (v ∷ us) small))) (spelled (v ∷ us) (behind-first u (v ∷ us) small))
   where
     by : (b : Bool) → is_pair u v ≡ b → flat_map spell (utf16_characters us) ≡ us → flat_map spell (utf16_characters (v ∷ us)) ≡ v ∷ us
         → flat_map spell (utf16_characters (u ∷ v ∷ us)) ≡ u ∷ v ∷ us
@@ -156,7 +139,7 @@ pub decoded : (us : List ℕ) → AreU16Units us → Decoded (utf16_characters u
 decoded [] small = tt
 decoded (u ∷ []) small = (omega (arith, small 0 (omega arith)), tt, tt)
 decoded (u ∷ v ∷ us) small =
-    by (is_pair u v) refl (decoded us (behind v us (behind u (v ∷ us) small))) (decoded (v ∷ us) (behind u (v ∷ us) small))
+    by (is_pair u v) refl (decoded us (behind-first v us (behind-first u (v ∷ us) small))) (decoded (v ∷ us) (behind-first u (v ∷ us) small))
   where
     by : (b : Bool) → is_pair u v ≡ b → Decoded (utf16_characters us) → Decoded (utf16_characters (v ∷ us)) → Decoded (utf16_characters (u ∷ v ∷ us))
     by true e two one =
@@ -268,7 +251,7 @@ module _ (us : List ℕ) (small : AreU16Units us) where
     -- No surrogate pair stands around a boundary.
     none_around : (at : ℕ) → IsBoundary text (at + 1) → is_surrogate_pair_at us at ≡ false
     none_around at b = false_from_ne_true (is_surrogate_pair_at us at) (λ e.
-        true_not_false (is_unit_boundary us (at + 1)) (unit_boundary (at + 1) b)
+        not-both (is_unit_boundary us (at + 1)) (unit_boundary (at + 1) b)
         (unit_boundary-between us (at + 1) small ∙ ap (λ (t : Bool). nat_le (at + 1) (length us) && not t) (within-pair us at ∙ e) ∙ and-false (nat_le (at + 1) (length us))))
 
     -- ---- Reads
@@ -277,10 +260,10 @@ module _ (us : List ℕ) (small : AreU16Units us) where
     fold = fold_code_point unicode
 
     right : (at : ℕ) → IsBoundary text at → ReadsRight spell utf16_width sized text (utf16_characters us) us at
-    right = reads_right spell utf16_width sized (utf16_characters us) us unicode fold (spelled us small) positive
+    right = reads_right spell utf16_width sized (utf16_characters us) us unicode fold (spelled us small) utf16_width-positive
 
     left : (at : ℕ) → IsBoundary text at → ReadsLeft spell utf16_width sized text (utf16_characters us) us at
-    left = reads_left spell utf16_width sized (utf16_characters us) us unicode fold (spelled us small) positive
+    left = reads_left spell utf16_width sized (utf16_characters us) us unicode fold (spelled us small) utf16_width-positive
 
     -- A unit from an offset on is the unit with the same index in the list that begins there.
     seen : (at i : ℕ) (p rest : List ℕ) → drop at us ≡ p ++ rest → slice_index us (at + i) ≡ slice_index (p ++ rest) i
@@ -309,7 +292,7 @@ module _ (us : List ℕ) (small : AreU16Units us) where
     pub read-end : (at : ℕ) → IsBoundary text at → at ≡ length us → read text rightwards at ≡ None
     read-end at b e = elim (right at b) [
       | at_end z r ↦ r
-      | before_character k c rest g s l r ↦ absurd (omega (arith, positive c))
+      | before_character k c rest g s l r ↦ absurd (omega (arith, utf16_width-positive c))
     ]
 
     pub read-right : (at : ℕ) → IsBoundary text at → at ≢ length us → read text rightwards at ≡ Some (character_starting_at us at)
@@ -321,7 +304,7 @@ module _ (us : List ℕ) (small : AreU16Units us) where
         by : (k c : ℕ) (rest : List ℕ) → slice_get (utf16_characters us) k ≡ Some c → drop at us ≡ spell c ++ rest
             → read text rightwards at ≡ Some (pair c (at + utf16_width c)) → (c < 0x1_0000) ⊎ (0x1_0000 ≤ c) → read text rightwards at ≡ Some (character_starting_at us at)
         by k c rest g s r (inl l) =
-            let to : at + utf16_width c ≡ at + 1 = ap (λ w. at + w) (width-one c l) in
+            let to : at + utf16_width c ≡ at + 1 = ap (λ w. at + w) (single-width c l) in
             let none : is_surrogate_pair_at us at ≡ false = none_around at (subst (IsBoundary text) to (right_boundary text (utf16_text-IsText us unicode) at c (at + utf16_width c) r)) in
             r ∙ ap₂ (λ x y. Some (pair x y)) (sym (is_one at c rest l s)) to
             ∙ ap Some (sym (choice (is_surrogate_pair_at us at) false (char_of_surrogate_pair_at us at, at + 2) (slice_index us at, at + 1) none))
@@ -334,7 +317,7 @@ module _ (us : List ℕ) (small : AreU16Units us) where
     pub read-start : (at : ℕ) → IsBoundary text at → at ≡ 0 → read text leftwards at ≡ None
     read-start at b e = elim (left at b) [
       | at_start z r ↦ r
-      | behind_character k c start rest g s m l r ↦ absurd (omega (arith, positive c))
+      | behind_character k c start rest g s m l r ↦ absurd (omega (arith, utf16_width-positive c))
     ]
 
     pub read-left : (at : ℕ) → IsBoundary text at → at ≢ 0 → read text leftwards at ≡ Some (character_before us at)
@@ -346,7 +329,7 @@ module _ (us : List ℕ) (small : AreU16Units us) where
         by : (k c start : ℕ) (rest : List ℕ) → slice_get (utf16_characters us) k ≡ Some c → drop start us ≡ spell c ++ rest → start + utf16_width c ≡ at
             → read text leftwards at ≡ Some (pair c start) → (c < 0x1_0000) ⊎ (0x1_0000 ≤ c) → read text leftwards at ≡ Some (character_before us at)
         by k c start rest g s m r (inl l) =
-            let from : start ≡ at - 1 = omega (arith, m, width-one c l) in
+            let from : start ≡ at - 1 = omega (arith, m, single-width c l) in
             let there : IsBoundary text start = left_boundary text (utf16_text-IsText us unicode) at c start r in
             let value : c ≡ slice_index us (at - 1) = sym (is_one start c rest l s) ∙ ap (slice_index us) from in
             r ∙ ap₂ (λ x y. Some (pair x y)) value from

@@ -1,15 +1,13 @@
 -- A range between boundaries of a UTF-16 text is the text of its code units.
 use Rattle.std.proofs.Common.{◌≡◌, ℕ, ◌-◌, ◌≤◌, List, drop, slice_range, Bool, true, cond, nat_eq, Option, Some, None, sym, ◌∙◌, ap}
-use Rattle.regex_meaning.specs.Text.{Text, Direction, rightwards, leftwards, utf16_width, utf16_characters, utf16_text, is_unit_boundary}
-use Rattle.regex_meaning.specs.Text.{fold_code_point}
+use Rattle.regex_meaning.specs.Text.{Text, Direction, rightwards, leftwards, utf16_width, utf16_characters, utf16_text, is_unit_boundary, fold_code_point}
 use Rattle.regex_meaning.specs.CodeUnitOffsets.{IsBoundary}
+use Rattle.regex_meaning.specs.CodeUnits.{AreU16Units}
 use Rattle.regress_input.specs.CharAndByteReadsFromOffset.{part, characters_between, past_spelled_if_next, past_numbers_if_next}
-use Rattle.regress_input.specs.Utf16CharactersAtOffsets.{AreU16Units, if_utf16_boundary}
+use Rattle.regress_input.specs.Utf16CharactersAtOffsets.{if_utf16_boundary}
 use Rattle.regress_input.proofs.SpelledTextLemmas.{text_of}
-use Rattle.regress_input.proofs.TextSlices.{range-units, part-is, found-right, found-left, IsInjective, past_bytes-right, right-past_bytes}
-use Rattle.regress_input.proofs.TextSlices.{past_bytes-left, left-past_bytes, chosen}
-use Rattle.regress_input.proofs.Utf16Reads.{spell, sized, spelled, Decoded, decoded, decoded-take, decoded-drop, decode, unit_boundary}
-use Rattle.regress_input.proofs.Utf16Reads.{boundary_of_units}
+use Rattle.regress_input.proofs.TextSlices.{range-units, part-is, found-right, found-left, IsInjective, past_bytes-right, right-past_bytes, past_bytes-left, left-past_bytes, chosen}
+use Rattle.regress_input.proofs.Utf16Reads.{spell, sized, spelled, Decoded, decoded, decoded-take, decoded-drop, decode, unit_boundary, boundary_of_units}
 use Rattle.regex_meaning.proofs.CodeUnitOffsetsLemmas.{utf16_width-positive}
 
 -- If a value passes the test of the boundary, it is unchanged and is a boundary.

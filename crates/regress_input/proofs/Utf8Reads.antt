@@ -1,16 +1,17 @@
 -- Reading at a boundary of a UTF-8 text yields the character that its bytes encode.
-use Rattle.std.proofs.Common.{◌≡◌, ℕ, zero, suc, ◌+◌, ◌-◌, ◌*◌, ◌<◌, ◌≤◌, ◌≢◌, ◌/◌, ◌⊎◌, inl, inr, ⊎_elim, ltb, lt-ltb, le-ltb, List, [], ◌∷◌, ◌++◌}
-use Rattle.std.proofs.Common.{◌&&◌, Some, None, length, get_or, flat_map, slice_get, Bool, true, false, IsUtf8, chars, refl, sym, ◌∙◌, ap, ap₂}
+use Rattle.std.proofs.Common.{◌≡◌, ℕ, zero, suc, ◌+◌, ◌-◌, ◌*◌, ◌<◌, ◌≤◌, ◌≢◌, ◌/◌, ◌⊎◌, inl, inr, ⊎_elim, ltb, lt-ltb, le-ltb, List, [], ◌∷◌, ◌++◌, ◌&&◌, Some, None, length, get_or, flat_map, slice_get, Bool, true, false, IsUtf8, chars, refl, sym, ◌∙◌, ap, ap₂}
 use Rattle.std.proofs.Common.{subst, arith, length-append, length-drop, get_or-drop}
 use Rattle.std.proofs.lemmas.Bool.{cases_lt}
 use Rattle.std.specs.Char.{IsScalar, len_utf8}
-use Rattle.std.proofs.lemmas.Str.{encodes-chars, scalars-chars, IsUtf8-had, length-encode, len_utf8_bounds}
+use Rattle.std.proofs.lemmas.Str.{encodes-chars, scalars-chars, IsUtf8-had, length-encode}
 use lib.Utf8.{scalar, scalars, encode, encodes, next, scalar_cases}
 use Rattle.regex_meaning.specs.Text.{Text, utf8_text, rightwards, leftwards, fold_char}
 use Rattle.regex_meaning.specs.CodeUnitOffsets.{IsBoundary, units, read}
 use Rattle.regress_input.specs.Utf8.{IsEncodedAt, IsEncodedBetween}
 use Rattle.regress_input.proofs.SpelledTextLemmas.{ReadsRight, ReadsLeft, reads_right, reads_left, at_end, before_character, at_start, behind_character}
 use Rattle.regex_meaning.proofs.CodeUnitLengthLemmas.{utf8_text-units}
+use Rattle.regex_meaning.proofs.CodeUnitOffsetsLemmas.{len_utf8-positive}
+use Rattle.regex_meaning.proofs.FirstByteOfCharacter.{encode-1}
 
 -- The byte continues a character.
 abbrev pub Follows : ℕ → Type 0
@@ -30,10 +31,6 @@ pub data Bytes (bytes : List ℕ) (at c : ℕ) : Type 0 where
   four : at + 4 ≤ length bytes → len_utf8 c ≡ 4 → 240 ≤ get_or bytes at 0 → get_or bytes at 0 < 248
       → Follows (get_or bytes (at + 1) 0) → Follows (get_or bytes (at + 2) 0) → Follows (get_or bytes (at + 3) 0)
       → c + 63447168 ≡ get_or bytes at 0 * 262144 + get_or bytes (at + 1) 0 * 4096 + get_or bytes (at + 2) 0 * 64 + get_or bytes (at + 3) 0 → Bytes bytes at c
-
-pub encode_one : (c : ℕ) → c < 128 → encode c ≡ c ∷ []
-unfolding encode
-encode_one c h = let a : ltb c 128 ≡ true = lt-ltb _ _ h in rw a refl
 
 pub encode_two : (c : ℕ) → 128 ≤ c → c < 2048 → encode c ≡ (192 + c / 64) ∷ next c ∷ []
 unfolding encode
@@ -79,7 +76,7 @@ bytes_at bytes at c s = by (cases_lt c 128) (cases_lt c 2048) (cases_lt c 65536)
 
     by : (c < 128) ⊎ (128 ≤ c) → (c < 2048) ⊎ (2048 ≤ c) → (c < 65536) ⊎ (65536 ≤ c) → Bytes bytes at c
     by (inl h) _ _ =
-        let e = encode_one c h in
+        let e = encode-1 c h in
         one (fits _ e (omega arith)) (long _ e) (omega (arith, h, seen0 _ e)) (seen0 _ e)
     by (inr l) (inl h) _ =
         let e = encode_two c l h in
@@ -271,9 +268,6 @@ pub scalar_among : (cs : List ℕ) (k c : ℕ) → scalars cs ≡ true → slice
 scalar_among [] k c s e = absurd (cc)
 scalar_among (d ∷ cs) zero c s e = let same : d ≡ c = cc in ap scalar (sym same) ∙ (scalar_first d (scalars cs) s).0
 scalar_among (d ∷ cs) (suc k) c s e = scalar_among cs k c (scalar_first d (scalars cs) s).1 e
-
-pub len_utf8-positive : (c : ℕ) → 0 < len_utf8 c
-len_utf8-positive c = omega (arith, (len_utf8_bounds c).0)
 
 pub spelled_by : (bytes : List ℕ) → IsUtf8 bytes → flat_map encode (chars bytes) ≡ bytes
 spelled_by bytes u = sym (encodes-flat_map (chars bytes)) ∙ encodes-chars bytes u

@@ -1,9 +1,7 @@
 -- The boundaries of a UTF-8 text are those of its bytes, and a range between two is the text of its bytes.
-use Rattle.std.proofs.Common.{◌≡◌, ℕ, zero, suc, ◌≤◌, List, [], ◌∷◌, ◌++◌, ◌&&◌, length, take, drop, flat_map, slice_range, Bool, true, chars}
-use Rattle.std.proofs.Common.{IsUtf8, IsCharBoundary, nat_eq, refl, sym, ◌∙◌, ap, subst, arith, length-take, take-append-drop}
+use Rattle.std.proofs.Common.{◌≡◌, ℕ, zero, suc, ◌≤◌, List, [], ◌∷◌, ◌++◌, ◌&&◌, length, take, drop, flat_map, slice_range, Bool, true, chars, IsUtf8, IsCharBoundary, nat_eq, refl, sym, ◌∙◌, ap, subst, arith, length-take, take-append-drop}
 use Rattle.std.specs.Char.{len_utf8}
-use Rattle.std.proofs.lemmas.Str.{encodes-chars, chars-encodes, scalars-chars, encodes-append, encodes_same, IsUtf8-append, IsUtf8-drop, IsUtf8-take}
-use Rattle.std.proofs.lemmas.Str.{IsUtf8-had, IsCharBoundary-from_take, IsCharBoundary-from_drop, length-encode}
+use Rattle.std.proofs.lemmas.Str.{encodes-chars, chars-encodes, scalars-chars, encodes-append, encodes_same, IsUtf8-append, IsUtf8-drop, IsUtf8-take, IsUtf8-had, IsCharBoundary-from_take, IsCharBoundary-from_drop, length-encode}
 use Rattle.std.proofs.lemmas.List.Folds.{drop_split}
 use lib.Utf8.{scalars, encode, encodes}
 use Rattle.regex_meaning.specs.Text.{Text, Direction, rightwards, leftwards, utf8_text, fold_char}
@@ -13,7 +11,7 @@ use Rattle.regress_input.specs.CharAndByteReadsFromOffset.{part, characters_betw
 use Rattle.regress_input.proofs.BoundaryPositions.{HasPlace}
 use Rattle.regress_input.proofs.SpelledTextLemmas.{text_of, cut_at, offset-spelling, Cut}
 use Rattle.regress_input.proofs.TextSlices.{StandBehind, StandBefore, range-units, part-is, literal-right, literal-left, IsInjective, take-slice}
-use Rattle.regress_input.proofs.Utf8Reads.{encodes-flat_map, spelled_by, scalar_first}
+use Rattle.regress_input.proofs.Utf8Reads.{encodes-flat_map, spelled_by, scalar_first, boundary_inside}
 
 scalars-take : (cs : List ℕ) (n : ℕ) → scalars cs ≡ true → scalars (take n cs) ≡ true
 scalars-take [] zero s = refl
@@ -52,12 +50,9 @@ module _ (bytes : List ℕ) (unicode : Bool) (is_utf8 : ∥ IsUtf8 bytes ∥₁)
       let (k, p, c) = here at b in
       utf8_of (take k (chars bytes)) (scalars-take (chars bytes) k (scalars-chars bytes u)) (take at bytes) c.before
 
-  inside : (at : ℕ) → IsBoundary text at → at ≤ length bytes
-  inside at b = let (k, p, c) = here at b in omega (arith, c.length_is, ap length c.before, length-take at bytes)
-
   -- A boundary of the text is a boundary between characters of the bytes.
   pub char_boundary : (at : ℕ) → IsBoundary text at → IsCharBoundary bytes at
-  char_boundary at b = IsCharBoundary-from_drop bytes at (inside at b) (utf8_behind at b)
+  char_boundary at b = IsCharBoundary-from_drop bytes at (boundary_inside bytes unicode is_utf8 at b) (utf8_behind at b)
 
   -- An offset at which the bytes can be cut into two UTF-8 parts is a boundary.
   boundary_of_parts : (at : ℕ) → at ≤ length bytes → IsUtf8 (take at bytes) → IsUtf8 (drop at bytes) → IsBoundary text at
@@ -110,7 +105,7 @@ module _ (bytes : List ℕ) (unicode : Bool) (is_utf8 : ∥ IsUtf8 bytes ∥₁)
   ends_before at to ys b w h =
       let le : to ≤ at = omega (arith, h.to_is) in
       let back : drop to bytes ≡ ys ++ drop at bytes = drop_split bytes to at le ∙ ap (λ x. x ++ drop at bytes) (ap (λ n. slice_range bytes n at) h.to_is ∙ h.are) in
-      boundary_of_char to (IsCharBoundary-from_drop bytes to (omega (arith, inside at b)) (subst IsUtf8 (sym back) (IsUtf8-append ys (drop at bytes) w (utf8_behind at b))))
+      boundary_of_char to (IsCharBoundary-from_drop bytes to (omega (arith, boundary_inside bytes unicode is_utf8 at b)) (subst IsUtf8 (sym back) (IsUtf8-append ys (drop at bytes) w (utf8_behind at b))))
 
   -- The bytes of a range stand beside a boundary exactly where its characters do.
   pub literal : (d : Direction) (at a b : ℕ) → IsBoundary text at → IsBoundary text a → IsBoundary text b → a ≤ b

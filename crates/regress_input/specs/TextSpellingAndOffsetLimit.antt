@@ -8,11 +8,10 @@ use Rattle.std.specs.Char.{len_utf8}
 use lib.Utf8.{encode}
 use Rattle.regex_meaning.specs.Text.{offsets_from, width_of_single_unit_character, utf16_width, utf8_text, ascii_text, utf16_text, ucs2_text}
 use Rattle.regex_meaning.specs.CodeUnitOffsets.{units}
-use Rattle.regex_meaning.specs.CodeUnits.{Encoding, utf8, utf16, ucs2, surrogate_pair, code_units_of_character, HasOffsetsInEncoding}
+use Rattle.regex_meaning.specs.CodeUnits.{Encoding, utf8, utf16, ucs2, surrogate_pair, code_units_of_character, HasOffsetsInEncoding, AreU16Units}
 use Rattle.regex_meaning.proofs.CodeUnitLengthLemmas.{utf8_text-units, ascii_text-units, ucs2_text-units}
 use Rattle.regex_meaning.proofs.UnitBoundaryLemmas.{units-utf16}
 use Rattle.regress_input.specs.ByteTextsAreUtf8.{ascii_widths}
-use Rattle.regress_input.specs.Utf16CharactersAtOffsets.{AreU16Units}
 
 -- ---- The width of a character is the length of its spelling
 

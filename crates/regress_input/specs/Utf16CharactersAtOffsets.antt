@@ -1,10 +1,6 @@
 -- Characters in UTF-16.
-use Rattle.std.specs.Prelude.{ℕ, ◌+◌, ◌-◌, ◌<◌, Bool, ◌&&◌, List, length, slice_index, nat_le, if◌then◌else◌, Option, Some, None, option_and_then}
+use Rattle.std.specs.Prelude.{ℕ, ◌+◌, ◌-◌, Bool, ◌&&◌, List, slice_index, nat_le, if◌then◌else◌, Option, Some, None, option_and_then}
 use Rattle.regex_meaning.specs.Text.{is_high_surrogate, is_low_surrogate, decode_surrogate_pair, is_unit_boundary}
-
--- Each unit is a 16-bit number.
-abbrev pub AreU16Units : List ℕ → Type 0
-AreU16Units units = (k : ℕ) → k < length units → slice_index units k < 0x1_0000
 
 -- Whether a surrogate pair is at the offset.
 abbrev pub is_surrogate_pair_at : List ℕ → (at : ℕ) → Bool

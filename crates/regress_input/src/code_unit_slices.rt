@@ -2,9 +2,7 @@
 
 ghost use Rattle.std.specs.Prelude.{◌≡◌, ◌≤◌, ℕ, true, length, drop, option_map, slice_range};
 ghost use Rattle.regex_meaning.specs.Text.{rightwards, leftwards};
-ghost use Rattle.regress_input.specs.CharAndByteReadsFromOffset.{direction_of_forward_flag, end_if_matched, adjacent_byte, moved_by_units};
-ghost use Rattle.regress_input.specs.CharAndByteReadsFromOffset.{past_units_if_next as past_units_of};
-ghost use Rattle.regress_input.specs.CharAndByteReadsFromOffset.{IsFirstOccurrenceFrom};
+ghost use Rattle.regress_input.specs.CharAndByteReadsFromOffset.{direction_of_forward_flag, end_if_matched, adjacent_byte, moved_by_units, past_units_if_next as spec_past_units_if_next, IsFirstOccurrenceFrom};
 
 use crate::front::ByteSearcher;
 use crate::position::PositionType;
@@ -41,7 +39,7 @@ pub(crate) fn past_units_if_next<Unit: PartialEq>(
     these: &[Unit],
 ) -> Option<usize>
     requires { at ≤ length all.now }
-    ensures { result ≡ past_units_of Unit.eq all.now these.now (direction_of_forward_flag forward) at }
+    ensures { result ≡ spec_past_units_if_next Unit.eq all.now these.now (direction_of_forward_flag forward) at }
 {
     if forward {
         past_right(all, at, these)
@@ -63,7 +61,7 @@ pub(crate) fn past_repeated_range_if_next<Unit: PartialEq>(
     requires at { at ≤ length all.now }
     requires to { end ≤ length all.now }
     requires in_order { start ≤ end }
-    ensures { result ≡ past_units_of Unit.eq all.now (slice_range all.now start end)
+    ensures { result ≡ spec_past_units_if_next Unit.eq all.now (slice_range all.now start end)
         (direction_of_forward_flag forward) at }
 {
     past_units_if_next(all, forward, at, &all[start..end])
@@ -74,7 +72,7 @@ pub(crate) fn past_repeated_range_if_next<Unit: PartialEq>(
 #[inline(always)]
 fn past_right<Unit: PartialEq>(all: &[Unit], at: usize, these: &[Unit]) -> Option<usize>
     requires { at ≤ length all.now }
-    ensures { result ≡ past_units_of Unit.eq all.now these.now rightwards at }
+    ensures { result ≡ spec_past_units_if_next Unit.eq all.now these.now rightwards at }
 {
     if all.len() - at < these.len() {
         return None;
@@ -92,7 +90,7 @@ fn past_right<Unit: PartialEq>(all: &[Unit], at: usize, these: &[Unit]) -> Optio
 #[inline(always)]
 fn past_left<Unit: PartialEq>(all: &[Unit], at: usize, these: &[Unit]) -> Option<usize>
     requires { at ≤ length all.now }
-    ensures { result ≡ past_units_of Unit.eq all.now these.now leftwards at }
+    ensures { result ≡ spec_past_units_if_next Unit.eq all.now these.now leftwards at }
 {
     if at < these.len() {
         return None;

@@ -4,7 +4,7 @@ ghost use Rattle.std.specs.Prelude.{◌≡◌, ◌==◌, ◌+◌, ◌≤◌, ℕ
 ghost use Rattle.std.proofs.Common.{rules};
 ghost use Rattle.regex_meaning.specs.CodeUnits.{Encoding, utf8, utf16, ucs2};
 ghost use Rattle.regress_input.specs.CharAndByteReadsFromOffset.{is_byte_encoding};
-ghost use Rattle.regress_input.specs.TextCodeUnits.{unless_splitting_pair as is_if_whole, as_bytes as as_bytes_if, MarksUnitsWithBits};
+ghost use Rattle.regress_input.specs.TextCodeUnits.{unless_splitting_pair as spec_unless_splitting_pair, as_bytes as spec_as_bytes, MarksUnitsWithBits};
 
 use crate::utf16_decoding;
 use std::simd::prelude::*;
@@ -24,7 +24,7 @@ pub trait CodeUnit: Copy + PartialEq {
 
     /// Returns the units as bytes, or `None` if they are not bytes.
     fn as_bytes(all: &[Self]) -> Option<&[u8]>
-        ensures { option_map (λ bytes. bytes.now) result ≡ as_bytes_if is_byte number all.now };
+        ensures { option_map (λ bytes. bytes.now) result ≡ spec_as_bytes is_byte number all.now };
 
     /// Tests 32 units from `at` on. Bit `i` of the result is set if and only if, among the bits in
     /// `mask`, exactly those in `bits` are set in unit `at + i`.
@@ -107,7 +107,7 @@ pub trait CodeUnitEncoding {
     /// Returns `to`, the offset past code units that encode characters. Returns `None` if `to` is
     /// `None` or splits a surrogate pair.
     fn unless_splitting_pair(all: &[Self::Unit], to: Option<usize>) -> Option<usize>
-        ensures { result ≡ is_if_whole encoding (map Self.Unit.number all.now) to };
+        ensures { result ≡ spec_unless_splitting_pair encoding (map Self.Unit.number all.now) to };
 
     ghost by_unit: { Self.Unit.is_byte ≡ is_byte_encoding encoding };
 }

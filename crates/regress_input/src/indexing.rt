@@ -4,9 +4,7 @@ ghost use Rattle.std.specs.Prelude.{◌≡◌, ◌<◌, ◌≤◌, ◌^◌, map,
 ghost use Rattle.std.specs.List.{list_all};
 ghost use Rattle.regex_meaning.specs.{Text.{Text, rightwards, leftwards}, CodeUnitOffsets.{HasRisingPlaceOffsets, IsBoundary, units, read}};
 ghost use Rattle.regex_meaning.specs.CodeUnits.{text_units_in_encoding, HasOffsetsInEncoding, is_character_in_encoding};
-ghost use Rattle.regress_input.specs.CharAndByteReadsFromOffset.{direction_of_forward_flag, end_if_matched, same_fold, character, past as past_character};
-ghost use Rattle.regress_input.specs.CharAndByteReadsFromOffset.{past_repeated_range_if_next, part};
-ghost use Rattle.regress_input.specs.CharAndByteReadsFromOffset.{ReadsAreInverse, moved_by_units};
+ghost use Rattle.regress_input.specs.CharAndByteReadsFromOffset.{direction_of_forward_flag, end_if_matched, same_fold, character, past as spec_past, past_repeated_range_if_next, part, ReadsAreInverse, moved_by_units};
 ghost use Rattle.regress_input.specs.TextCodeUnits.{UnitsOccurWhereCharactersDo};
 ghost use Rattle.regress_input.specs.CharAndByteReadsFromOffset.{bytes_of, bytes_if_byte_units, IsEncodedInUtf8, adjacent_byte, past_numbers_if_next, read_if_units_are_bytes, IsFirstOccurrenceFrom};
 
@@ -136,7 +134,7 @@ pub trait InputIndexer: Copy + Debug + DeclaresWhetherUnitsAreBytes {
         requires at { IsBoundary (text self.now) (Self.Position.offset pos) }
         requires inside { Self.Position.offset pos < units (text self.now) }
         ensures { let at = Self.Position.offset in
-            past_character (text self.now) rightwards (at pos) ≡ Some (at result) }
+            spec_past (text self.now) rightwards (at pos) ≡ Some (at result) }
     {
         let (_c, to) = self.read_existing_char_right(pos);
         to
@@ -149,7 +147,7 @@ pub trait InputIndexer: Copy + Debug + DeclaresWhetherUnitsAreBytes {
         requires at { IsBoundary (text self.now) (Self.Position.offset pos) }
         requires inside { 0 < Self.Position.offset pos }
         ensures { let at = Self.Position.offset in
-            past_character (text self.now) leftwards (at pos) ≡ Some (at result) }
+            spec_past (text self.now) leftwards (at pos) ≡ Some (at result) }
     {
         let (_c, to) = self.read_existing_char_left(pos);
         to
@@ -279,7 +277,7 @@ pub trait InputIndexer: Copy + Debug + DeclaresWhetherUnitsAreBytes {
     final fn next_right_pos(&self, pos: Self::Position) -> Option<Self::Position>
         requires { IsBoundary (text self.now) (Self.Position.offset pos) }
         ensures read { let at = Self.Position.offset in
-            option_map at result ≡ past_character (text self.now) rightwards (at pos) }
+            option_map at result ≡ spec_past (text self.now) rightwards (at pos) }
         ensures ahead { IfSome result (λ p. Self.Position.offset pos < Self.Position.offset p) }
         ensures boundary { IfSome result (λ p. IsBoundary (text self.now) (Self.Position.offset p)) }
         ensures inside { IfSome result (λ p. Self.Position.offset p ≤ units (text self.now)) }
@@ -295,7 +293,7 @@ pub trait InputIndexer: Copy + Debug + DeclaresWhetherUnitsAreBytes {
     final fn next_left_pos(&self, pos: Self::Position) -> Option<Self::Position>
         requires { IsBoundary (text self.now) (Self.Position.offset pos) }
         ensures read { let at = Self.Position.offset in
-            option_map at result ≡ past_character (text self.now) leftwards (at pos) }
+            option_map at result ≡ spec_past (text self.now) leftwards (at pos) }
         ensures ahead { IfSome result (λ p. Self.Position.offset p < Self.Position.offset pos) }
         ensures boundary { IfSome result (λ p. IsBoundary (text self.now) (Self.Position.offset p)) }
         ensures inside { IfSome result (λ p. Self.Position.offset p ≤ units (text self.now)) }

@@ -3,8 +3,7 @@
 ghost use Rattle.std.specs.Prelude.{◌≡◌, ◌≤◌};
 ghost use Rattle.regex_meaning.specs.{CodeUnitOffsets.{IsBoundary}, Outcomes.{is_same}, Tree.{alike}};
 ghost use Rattle.regex_pattern_front.specs.AstToSpecTree.{spec_sameness_of};
-ghost use Rattle.regress_input.specs.CharAndByteReadsFromOffset.{direction_of_forward_flag, end_if_matched, past_repeated_range_if_next, past_folded_range_if_next};
-ghost use Rattle.regress_input.specs.CharAndByteReadsFromOffset.{past_same_range_if_next};
+ghost use Rattle.regress_input.specs.CharAndByteReadsFromOffset.{direction_of_forward_flag, end_if_matched, past_repeated_range_if_next, past_folded_range_if_next, past_same_range_if_next};
 
 use crate::cursor::{self, Direction};
 use crate::front::{Sameness, are_alike};

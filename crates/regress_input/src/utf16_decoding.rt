@@ -1,14 +1,14 @@
 //! Decoding characters from UTF-16 code units.
 
 ghost use Rattle.std.specs.Prelude.{◌≡◌, ◌<◌, ◌≤◌, length};
-ghost use Rattle.regex_meaning.specs.Text.{is_high_surrogate, is_low_surrogate, decode_surrogate_pair, is_unit_boundary as is_boundary_of};
-ghost use Rattle.regress_input.specs.Utf16CharactersAtOffsets.{is_surrogate_pair_at, character_starting_at, character_before as character_ahead_of, if_utf16_boundary};
+ghost use Rattle.regex_meaning.specs.Text.{is_high_surrogate, is_low_surrogate, decode_surrogate_pair, is_unit_boundary as spec_is_unit_boundary};
+ghost use Rattle.regress_input.specs.Utf16CharactersAtOffsets.{is_surrogate_pair_at, character_starting_at, character_before as spec_character_before, if_utf16_boundary};
 
 /// Checks whether `i` is a boundary of the text in UTF-16: at most the length, and not inside a
 /// surrogate pair.
 #[inline(always)]
 pub fn is_unit_boundary(units: &[u16], i: usize) -> bool
-    ensures { result ≡ is_boundary_of units.now i }
+    ensures { result ≡ spec_is_unit_boundary units.now i }
 {
     if i == 0 {
         return true;
@@ -54,7 +54,7 @@ pub(crate) fn character_at(units: &[u16], at: usize) -> (u32, usize)
 pub(crate) fn character_before(units: &[u16], end: usize) -> (u32, usize)
     requires some { 0 < end }
     requires inside { end ≤ length units.now }
-    ensures { result ≡ character_ahead_of units.now end }
+    ensures { result ≡ spec_character_before units.now end }
 {
     if end >= 2 && is_surrogate_pair_at_offset(units, end - 2) {
         (

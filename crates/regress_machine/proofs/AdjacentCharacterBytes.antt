@@ -1,6 +1,5 @@
 -- Characters occur next to a position exactly if their UTF-8 bytes occur next to its offset.
-use Rattle.std.proofs.Common.{◌≡◌, ℕ, zero, suc, ◌+◌, ◌-◌, ◌≤◌, List, [], ◌∷◌, ◌++◌, length, map, take, drop, get_or, true, refl, ap, ◌∙◌, sym}
-use Rattle.std.proofs.Common.{arith, append_assoc, zero-add, reverse, length-append}
+use Rattle.std.proofs.Common.{◌≡◌, ℕ, zero, suc, ◌+◌, ◌-◌, ◌≤◌, List, [], ◌∷◌, ◌++◌, length, map, take, drop, get_or, true, refl, ap, ◌∙◌, sym, arith, append_assoc, zero-add, reverse, length-append}
 use Rattle.std.specs.Prelude.{◌&&◌, nat_eq, encode_utf8_all, chars}
 use Rattle.std.specs.Char.{encode_utf8 as encode, len_utf8}
 use Rattle.std.specs.Str.{IsCharBoundary}

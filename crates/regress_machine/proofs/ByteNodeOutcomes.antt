@@ -1,6 +1,5 @@
 -- The code of a byte sequence or a byte set finds the outcomes of that node.
-use Rattle.std.proofs.Common.{◌≡◌, ℕ, zero, suc, ◌+◌, ◌-◌, ◌<◌, ◌≤◌, List, [], ◌∷◌, ◌++◌, length, map, take, drop, Some, Bool, true, false, refl, ap}
-use Rattle.std.proofs.Common.{ap₂, ◌∙◌, sym, subst, arith, slice_get, reverse, length-drop}
+use Rattle.std.proofs.Common.{◌≡◌, ℕ, zero, suc, ◌+◌, ◌-◌, ◌<◌, ◌≤◌, List, [], ◌∷◌, ◌++◌, length, map, take, drop, Some, Bool, true, false, refl, ap, ap₂, ◌∙◌, sym, subst, arith, slice_get, reverse, length-drop}
 use Rattle.std.specs.Prelude.{if◌then◌else◌, ◌&&◌, nat_le, nat_lt, nat_eq, encode_utf8_all, chars}
 use Rattle.std.specs.Str.{is_utf8}
 use lib.Pointwise.{pointwise}
@@ -28,10 +27,8 @@ use Rattle.regress_machine.proofs.SingleCharacterTests.{low_scalar, scalar_of, u
 use Rattle.regress_machine.proofs.CharLoopOutcomes.{reached_behind}
 use Rattle.regress_machine.proofs.AdjacentCharacterLemmas.{stands, stands-length, in_reading_order, length-reading, beside-stands}
 use Rattle.regress_machine.proofs.StringSetOutcomes.{items_if, items_if-pair, tried_more, same_number}
-use Rattle.regress_machine.proofs.ByteSequenceChunks.{chunks_stand, chunks_stand-concat, total, in_code_order, chunks_read, chunks_read-cons, concat-chunks}
-use Rattle.regress_machine.proofs.ByteSequenceChunks.{total-chunks}
-use Rattle.regress_machine.proofs.AdjacentCharacterBytes.{starts-stands, scalars_of, bytes-stand, side, nearest-side, scalars-side, bytes, bytes_near, bytes_near-side}
-use Rattle.regress_machine.proofs.AdjacentCharacterBytes.{offset-inside, offset-moved}
+use Rattle.regress_machine.proofs.ByteSequenceChunks.{chunks_stand, chunks_stand-concat, total, in_code_order, chunks_read, chunks_read-cons, concat-chunks, total-chunks}
+use Rattle.regress_machine.proofs.AdjacentCharacterBytes.{starts-stands, scalars_of, bytes-stand, side, nearest-side, scalars-side, bytes, bytes_near, bytes_near-side, offset-inside, offset-moved}
 use Rattle.std.proofs.Math.Bool.{and-true}
 use Rattle.std.proofs.lemmas.Bool.{and_from, ltb-true}
 use Rattle.regex_meaning.proofs.BoolLemmas.{and-left, and-right}

@@ -1,6 +1,5 @@
 -- The chunks of a byte sequence occur one after another exactly if the whole sequence occurs.
-use Rattle.std.proofs.Common.{◌≡◌, ℕ, zero, suc, ◌+◌, ◌≤◌, List, [], ◌∷◌, ◌++◌, length, map, take, drop, Bool, true, refl, ap, ◌∙◌, sym, arith}
-use Rattle.std.proofs.Common.{append-nil, reverse, length-append, length-drop}
+use Rattle.std.proofs.Common.{◌≡◌, ℕ, zero, suc, ◌+◌, ◌≤◌, List, [], ◌∷◌, ◌++◌, length, map, take, drop, Bool, true, refl, ap, ◌∙◌, sym, arith, append-nil, reverse, length-append, length-drop}
 use Rattle.std.specs.Prelude.{◌&&◌, nat_eq}
 use Rattle.std.specs.List.{concat}
 use Rattle.std.proofs.lemmas.List.{reverse-append, length-reverse, take-append-drop}

@@ -1,14 +1,12 @@
 -- The code of a char loop finds the outcomes of that node, the preferred one first.
-use Rattle.std.proofs.Common.{◌≡◌, ℕ, ◌+◌, ◌-◌, ◌<◌, ◌≤◌, min, List, [], ◌∷◌, ◌++◌, map, take, Bool, true, false, refl, ap, ◌∙◌, sym, subst, arith}
-use Rattle.std.proofs.Common.{append-nil, cond}
+use Rattle.std.proofs.Common.{◌≡◌, ℕ, ◌+◌, ◌-◌, ◌<◌, ◌≤◌, min, List, [], ◌∷◌, ◌++◌, map, take, Bool, true, false, refl, ap, ◌∙◌, sym, subst, arith, append-nil, cond}
 use Rattle.std.specs.Prelude.{if◌then◌else◌, nat_le, nat_eq, ◌&&◌, chars}
 use Rattle.std.specs.List.{prefix_len}
 use Rattle.std.proofs.lemmas.List.Sums.{prefix_len-le-length}
 use lib.Pointwise.{pointwise}
 use Rattle.regex_meaning.specs.NumberListHelpers.{numbers_from}
 use Rattle.regex_meaning.specs.Laws.{Each, IsAtOrAheadInDirection}
-use Rattle.regex_meaning.specs.Tree.{Quantifier, Node, char, char_set, byte_set, byte_sequence, bracket, match_any, match_any_except_line_terminator}
-use Rattle.regex_meaning.specs.Tree.{loop_1_char_body, group_ids}
+use Rattle.regex_meaning.specs.Tree.{Quantifier, Node, char, char_set, byte_set, byte_sequence, bracket, match_any, match_any_except_line_terminator, loop_1_char_body, group_ids}
 use Rattle.regex_meaning.specs.Text.{Text, Direction, rightwards, leftwards, last_place, next_character, moved, characters_ahead, next_characters}
 use Rattle.regex_meaning.specs.CodeUnitOffsets.{HasRisingPlaceOffsets, offset, place_at}
 use Rattle.regex_meaning.specs.Outcomes.{Groups, Outcome, accepts, is_some_and, max_iterations, repetition, repeat, one_character, spelled, outcomes}
@@ -29,7 +27,7 @@ use Rattle.std.proofs.lemmas.Bool.{le-leb}
 
 -- ---- Lists
 
-prefix_len-same : (f g : ℕ → Bool) (xs : List ℕ) → Each (λ c. f c ≡ g c) xs → prefix_len f xs ≡ prefix_len g xs
+pub prefix_len-same : (f g : ℕ → Bool) (xs : List ℕ) → Each (λ c. f c ≡ g c) xs → prefix_len f xs ≡ prefix_len g xs
 prefix_len-same f g [] h = refl
 prefix_len-same f g (x ∷ xs) h = ap (λ b. cond b (1 + prefix_len f xs) 0) h.0 ∙ ap (λ n. cond (g x) (1 + n) 0) (prefix_len-same f g xs h.1)
 

@@ -1,7 +1,6 @@
 -- Exits of a char loop find nothing if the table of the instruction after it excludes the next
 -- units.
-use Rattle.std.proofs.Common.{◌≡◌, ◌<◌, ◌≤◌, ℕ, zero, suc, ◌+◌, List, [], ◌∷◌, Some, Bool, true, false, refl, ap, ◌∙◌, sym, arith, slice_get, drop}
-use Rattle.std.proofs.Common.{length, cond}
+use Rattle.std.proofs.Common.{◌≡◌, ◌<◌, ◌≤◌, ℕ, zero, suc, ◌+◌, List, [], ◌∷◌, Some, Bool, true, false, refl, ap, ◌∙◌, sym, arith, slice_get, drop, length, cond}
 use Rattle.std.specs.List.{prefix_len}
 use Rattle.regex_meaning.specs.Text.{Text, rightwards}
 use Rattle.regex_meaning.specs.CodeUnitOffsets.{offset}
@@ -10,8 +9,7 @@ use Rattle.regex_meaning.specs.CodeUnits.{Encoding}
 use Rattle.regex_meaning.specs.CompilationRelation.{Program}
 use Rattle.regex_meaning.proofs.CodeUnitOffsetsLemmas.{place_at-offset}
 use Rattle.regress_machine.specs.Machine.{State}
-use Rattle.regress_machine.specs.FirstSetTables.{AllowedNextKeys, table_allows_key_or_end, is_character_in_encoding, HasUnitsForTables, first_unit_key, unit_key_at}
-use Rattle.regress_machine.specs.FirstSetTables.{AreCovered}
+use Rattle.regress_machine.specs.FirstSetTables.{AllowedNextKeys, table_allows_key_or_end, is_character_in_encoding, HasUnitsForTables, first_unit_key, unit_key_at, AreCovered}
 use Rattle.regress_machine.specs.CharLoopExitStatesByPreference.{behind, StatesAfterCharsFindNothing}
 use Rattle.regress_machine.proofs.FirstUnitsOfCharacters.{passes-one}
 use Rattle.regress_machine.proofs.FirstSetTableLemmas.{seen-next, covered-nothing}

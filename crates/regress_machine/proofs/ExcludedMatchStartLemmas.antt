@@ -7,7 +7,7 @@ use Rattle.regex_meaning.specs.CodeUnitOffsets.{offset}
 use Rattle.regex_meaning.specs.FirstAndAllMatches.{Found as Match, match_at}
 use Rattle.regex_meaning.specs.CompilationRelation.{Program}
 use Rattle.regress_machine.specs.Machine.{running}
-use Rattle.regress_machine.specs.SearchFindsFirstOutcomeAtPlace.{TreeProgramCanSearchText, state_before_first_insn, end_of, sufficient_turns_at, match_in_offsets}
+use Rattle.regress_machine.specs.SearchFindsFirstOutcomeAtPlace.{TreeProgramCanSearchText, state_before_first_insn, end_and_groups_of_state, sufficient_turns_at, match_in_offsets}
 use Rattle.regress_machine.proofs.TreeCodeOutcomes.{searches-find}
 use Rattle.regress_machine.proofs.SearchResultLemmas.{finds-match}
 use Rattle.regress_machine.specs.ThreadSimulation.{FindsNothing}
@@ -27,7 +27,7 @@ nothing-no-match program tree text can place inside nothing =
     let first = searches-find program tree text can place inside in
     let none = nothing-ends program text (sufficient_turns_at tree text place) rightwards (running s) first.found nothing first.searches in
     no-match text (match_at tree.root text place)
-    (ap (option_map end_of) none ∙ finds-match program tree text can place inside (sufficient_turns_at tree text place) first.found first.searches)
+    (ap (option_map end_and_groups_of_state) none ∙ finds-match program tree text can place inside (sufficient_turns_at tree text place) first.found first.searches)
 
 pub starts-bar : FirstSetExcludesMatchStarts
 starts-bar e key program tree text tables can units all place inside bar =

@@ -1,19 +1,14 @@
 -- Tables of bits that pass their checks satisfy the conditions of first-set tables.
-use Rattle.std.proofs.Common.{◌≡◌, ◌<◌, ◌≤◌, ℕ, ◌+◌, List, [], ◌∷◌, length, get_or, Option, Some, None, Bool, true, false, ◌||◌, refl, ap, ◌∙◌, sym}
-use Rattle.std.proofs.Common.{subst, slice_get}
+use Rattle.std.proofs.Common.{◌≡◌, ◌<◌, ◌≤◌, ℕ, ◌+◌, List, [], ◌∷◌, length, get_or, Option, Some, None, Bool, true, false, ◌||◌, refl, ap, ◌∙◌, sym, subst, slice_get}
 use Rattle.std.specs.Prelude.{◌==◌, unwrap_or}
 use Rattle.std.proofs.lemmas.Option.{unwrap_or-slice_get, slice_get_past}
 use Rattle.std.proofs.lemmas.Bool.{cases_lt, eqb-true}
 use mathlib.Core.Logic.{inl, inr}
 use Rattle.regex_meaning.specs.Laws.{Each}
 use Rattle.regex_meaning.specs.CodeUnits.{Encoding, utf8, utf16, ucs2}
-use Rattle.regex_meaning.specs.CompilationRelation.{Program, Insn, Goal, JustFail, Char, CharSet, ByteSet, ByteSeq, AsciiBracket, Bracket, MatchAny}
-use Rattle.regex_meaning.specs.CompilationRelation.{MatchAnyExceptLineTerminator, EndOfLine, Alt, EnterLoop, LoopAgain, Loop1CharBody, BackRef, Lookahead}
+use Rattle.regex_meaning.specs.CompilationRelation.{Program, Insn, Goal, JustFail, Char, CharSet, ByteSet, ByteSeq, AsciiBracket, Bracket, MatchAny, MatchAnyExceptLineTerminator, EndOfLine, Alt, EnterLoop, LoopAgain, Loop1CharBody, BackRef, Lookahead}
 use Rattle.regress_machine.specs.Machine.{test_of}
-use Rattle.regress_machine.specs.FirstSetTables.{AllowedNextKeys, table_allows_key_or_end, unit_table_of, TableAllowsAll, IsSubtable, AllowsWhatBothAllow, first_unit_key}
-use Rattle.regress_machine.specs.FirstSetTables.{AllowsAcceptedChars}
-use Rattle.regress_machine.specs.FirstSetTables.{AllowsFirstByteOf, AllowsLineEnds}
-use Rattle.regress_machine.specs.FirstSetTables.{AllowsLoopRepeat, IsCovered}
+use Rattle.regress_machine.specs.FirstSetTables.{AllowedNextKeys, table_allows_key_or_end, unit_table_of, TableAllowsAll, IsSubtable, AllowsWhatBothAllow, first_unit_key, AllowsAcceptedChars, AllowsFirstByteOf, AllowsLineEnds, AllowsLoopRepeat, IsCovered}
 
 -- ---- Bits
 

@@ -1,16 +1,16 @@
 -- The code unit at the offset of a position is the first unit of the next character.
-use Rattle.std.proofs.Common.{◌≡◌, ◌<◌, ◌≤◌, ℕ, zero, suc, ◌+◌, ◌-◌, List, [], ◌∷◌, ◌++◌, Some, Bool, true, false, refl, ap, ◌∙◌, sym, arith}
-use Rattle.std.proofs.Common.{slice_get, length, map, drop, get_or, append-nil}
-use Rattle.std.specs.Prelude.{flat_map, option_and_then, encode_utf8_all, nat_eq, nat_lt, if◌then◌else◌}
+use Rattle.std.proofs.Common.{◌≡◌, ◌<◌, ◌≤◌, ℕ, zero, suc, ◌+◌, ◌-◌, List, [], ◌∷◌, ◌++◌, Some, Bool, true, refl, ap, ◌∙◌, sym, arith, slice_get, length, map, drop, get_or, append-nil}
+use Rattle.std.specs.Prelude.{flat_map, option_and_then, encode_utf8_all, nat_eq}
 use Rattle.std.specs.Char.{encode_utf8 as encode}
 use Rattle.std.specs.List.{list_all, starts_with}
-use Rattle.std.proofs.lemmas.Str.{length-encode, len_utf8_bounds}
 use Rattle.regex_meaning.specs.Text.{Text, rightwards, next_character, offsets_from}
 use Rattle.regex_meaning.specs.CodeUnitOffsets.{HasRisingPlaceOffsets, offset, place_at}
-use Rattle.regex_meaning.specs.CodeUnits.{Encoding, utf8, utf16, ucs2, code_units_of_character, text_units_in_encoding, surrogate_pair, HasOffsetsInEncoding}
+use Rattle.regex_meaning.specs.CodeUnits.{Encoding, utf8, code_units_of_character, text_units_in_encoding, HasOffsetsInEncoding}
 use Rattle.regex_meaning.proofs.CodeUnitOffsetsLemmas.{offset-place_at}
 use Rattle.std.proofs.lemmas.Bool.{eqb-true}
 use Rattle.regex_meaning.proofs.BoolLemmas.{and-left, and-right}
+use Rattle.regex_meaning.proofs.ListLemmas.{get-behind}
+use Rattle.regex_meaning.proofs.CodeUnitLengthLemmas.{has-unit}
 
 -- ---- Lists
 
@@ -18,12 +18,7 @@ prefix-first : (xs ys : List ℕ) → 0 < length xs → slice_get (xs ++ ys) 0 �
 prefix-first [] ys some = absurd (omega (arith, some))
 prefix-first (x ∷ xs) ys some = refl
 
-pub behind-prefix : (xs ys : List ℕ) (n : ℕ) → slice_get (xs ++ ys) (length xs + n) ≡ slice_get ys n
-behind-prefix [] ys n = ap (slice_get ys) (let e : 0 + n ≡ n = omega arith in e)
-behind-prefix (x ∷ xs) ys n =
-    ap (slice_get (x ∷ (xs ++ ys))) (let e : suc (length xs) + n ≡ suc (length xs + n) = omega arith in e) ∙ behind-prefix xs ys n
-
-slice_get-drop : (n : ℕ) (xs : List ℕ) → slice_get xs n ≡ slice_get (drop n xs) 0
+pub slice_get-drop : (n : ℕ) (xs : List ℕ) → slice_get xs n ≡ slice_get (drop n xs) 0
 slice_get-drop zero xs = refl
 slice_get-drop (suc n) [] = refl
 slice_get-drop (suc n) (x ∷ xs) = slice_get-drop n xs
@@ -67,28 +62,15 @@ module _ (units : ℕ → List ℕ) (some : (c : ℕ) → 0 < length (units c)) 
       let rest = n - length (units c) in
       let whole : n ≡ length (units c) + (n - length (units c)) = omega (arith, least, e) in
       ap (slice_get (units c ++ flat_map units cs)) whole
-      ∙ behind-prefix (units c) (flat_map units cs) (n - length (units c))
+      ∙ get-behind (units c) (flat_map units cs) (n - length (units c))
       ∙ units-at cs (at + length (units c)) (n - length (units c)) p (omega (arith, le)) (e ∙ (let f : at + n ≡ at + length (units c) + (n - length (units c)) = omega (arith, whole) in f))
-
-pub some-units : (e : Encoding) (c : ℕ) → 0 < length (code_units_of_character e c)
-some-units utf8 c =
-    let l = ap length (append-nil (encode c)) in
-    let w = length-encode c in
-    let b = len_utf8_bounds c in
-    omega (arith, l, w, b.0)
-some-units utf16 c = by (nat_lt c 0x1_0000)
-  where
-    by : (b : Bool) → 0 < length (if b then c ∷ [] else surrogate_pair c)
-    by true = omega arith
-    by false = omega arith
-some-units ucs2 c = omega arith
 
 -- The unit at the offset of a place is the first unit of the next character, if there is one.
 pub unit-there : (e : Encoding) (text : Text) → HasRisingPlaceOffsets text → HasOffsetsInEncoding e text → (at p : ℕ) → place_at text at ≡ Some p
     → slice_get (text_units_in_encoding e text) at ≡ option_and_then (λ c. slice_get (code_units_of_character e c) 0) (next_character text rightwards p)
 unit-there e text is spelled at p here =
     let o = offset-place_at text at p is here in
-    units-at (code_units_of_character e) (some-units e) text.characters 0 at p o.1
+    units-at (code_units_of_character e) (has-unit e) text.characters 0 at p o.1
     (ap (λ (os : List ℕ). get_or os p 0) (sym spelled.offsets) ∙ o.0 ∙ (let f : at ≡ 0 + at = omega arith in f))
 
 -- The place behind a character of one unit has the next offset.
@@ -97,7 +79,7 @@ pub one-unit-on : (e : Encoding) (text : Text) → HasOffsetsInEncoding e text �
 one-unit-on e text spelled p c is one =
     let n : p + 1 ≡ suc p = omega arith in
     ap (offset text) n ∙ ap (λ (os : List ℕ). get_or os (suc p) 0) spelled.offsets
-    ∙ offset-behind (code_units_of_character e) (some-units e) text.characters 0 p c is
+    ∙ offset-behind (code_units_of_character e) (has-unit e) text.characters 0 p c is
     ∙ ap (λ (os : List ℕ). get_or os p 0 + length (code_units_of_character e c)) (sym spelled.offsets)
     ∙ ap (λ w. offset text p + w) one
 

@@ -1,7 +1,6 @@
 -- Successive iterations of one code unit each may be executed at once if the loop can only
 -- continue.
-use Rattle.std.proofs.Common.{◌≡◌, ◌<◌, ℕ, zero, suc, ◌+◌, List, [], ◌∷◌, Option, Some, None, Bool, true, false, refl, ap, ◌∙◌, sym, subst, arith}
-use Rattle.std.proofs.Common.{length, slice_get, slice_set}
+use Rattle.std.proofs.Common.{◌≡◌, ◌<◌, ℕ, zero, suc, ◌+◌, List, [], ◌∷◌, Option, Some, None, Bool, true, false, refl, ap, ◌∙◌, sym, subst, arith, length, slice_get, slice_set}
 use Rattle.regex_meaning.specs.Text.{Text, Direction, rightwards, next_character, moved}
 use Rattle.regex_meaning.specs.CodeUnitOffsets.{offset, place_at}
 use Rattle.regex_meaning.specs.Outcomes.{is_some_and}

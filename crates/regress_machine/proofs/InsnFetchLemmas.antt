@@ -1,6 +1,5 @@
 -- An instruction at which the machine is not stuck exists in the program.
-use Rattle.std.proofs.Common.{◌≡◌, ℕ, zero, suc, ◌<◌, List, [], ◌∷◌, length, map, Option, Some, None, Bool, refl, ap, sym, subst, arith, slice_get}
-use Rattle.std.proofs.Common.{get_or}
+use Rattle.std.proofs.Common.{◌≡◌, ℕ, zero, suc, ◌<◌, List, [], ◌∷◌, length, map, Option, Some, None, Bool, refl, ap, sym, subst, arith, slice_get, get_or}
 use Rattle.std.specs.Prelude.{is_some, IsTrue}
 use Rattle.regex_meaning.specs.Text.{Text, Direction}
 use Rattle.regex_meaning.specs.CompilationRelation.{Program, Insn}

@@ -1,16 +1,13 @@
 -- The live arms of a chain of alternations simulate the whole chain.
-use Rattle.std.proofs.Common.{◌≡◌, ℕ, zero, suc, ◌+◌, List, [], ◌∷◌, ◌++◌, map, Bool, false, Option, Some, None, refl, ap, sym, ◌∙◌, subst, arith}
-use Rattle.std.proofs.Common.{slice_get}
+use Rattle.std.proofs.Common.{◌≡◌, ℕ, zero, suc, ◌+◌, List, [], ◌∷◌, ◌++◌, map, Bool, false, Option, Some, None, refl, ap, sym, ◌∙◌, subst, arith, slice_get}
 use mathlib.Core.Logic.{inl, inr}
 use Rattle.regex_meaning.specs.Text.{Text, Direction}
 use Rattle.regex_meaning.specs.CompilationRelation.{Program, Alt}
-use Rattle.regress_machine.specs.Machine.{State, Thread, running, waiting, goes, first_running_and_others_waiting, Found, with_steps, search_after_effect, act, act_on}
-use Rattle.regress_machine.specs.Machine.{search}
+use Rattle.regress_machine.specs.Machine.{State, Thread, running, waiting, goes, first_running_and_others_waiting, Found, with_steps, search_after_effect, act, act_on, search}
 use Rattle.regress_machine.proofs.MachineSearchLemmas.{search_more}
 use Rattle.regress_machine.specs.LiveAlternationArms.{IsArmKeptIfLive, AreLiveArms}
 use Rattle.regress_machine.specs.ThreadSimulation.{Within, Simulates, FindsNothing}
-use Rattle.regress_machine.proofs.ThreadSimulationLemmas.{simulates-same, simulates-then, simulates-fewer, simulates-goes, simulates-waits, simulates-behind}
-use Rattle.regress_machine.proofs.ThreadSimulationLemmas.{drops-prefix, nothing-waits}
+use Rattle.regress_machine.proofs.ThreadSimulationLemmas.{simulates-same, simulates-then, simulates-fewer, simulates-goes, simulates-waits, simulates-behind, drops-prefix, nothing-waits}
 
 module _ (program : Program) (text : Text) (d : Direction) where
   abbrev Standing : (spent : ℕ) (us ts : List Thread) → Type 0

@@ -1,13 +1,11 @@
 -- The code of a lookaround finds the outcomes of that node.
-use Rattle.std.proofs.Common.{◌≡◌, ℕ, ◌+◌, ◌≤◌, List, [], ◌∷◌, ◌++◌, length, map, Option, Some, None, Bool, true, false, refl, ap, ◌∙◌, sym, arith}
-use Rattle.std.proofs.Common.{append-nil}
+use Rattle.std.proofs.Common.{◌≡◌, ℕ, ◌+◌, ◌≤◌, List, [], ◌∷◌, ◌++◌, length, map, Option, Some, None, Bool, true, false, refl, ap, ◌∙◌, sym, arith, append-nil}
 use Rattle.std.specs.Prelude.{if◌then◌else◌}
 use Rattle.regex_meaning.specs.Tree.{Lookaround, Node, lookaround, group_ids}
 use Rattle.regex_meaning.specs.Text.{Text, Direction, rightwards, leftwards}
 use Rattle.regex_meaning.specs.CodeUnitOffsets.{HasRisingPlaceOffsets}
 use Rattle.regex_meaning.specs.Outcomes.{Groups, Outcome, lookaround_outcomes, direction_of}
-use Rattle.regex_meaning.specs.OutcomesWithStepTicks.{TickOrOutcome, tick, pair, outcomes_without_ticks, ticks, ticks_to_first, outcomes_replaced_by_lists}
-use Rattle.regex_meaning.specs.OutcomesWithStepTicks.{ticks_before_outcomes, ticked}
+use Rattle.regex_meaning.specs.OutcomesWithStepTicks.{TickOrOutcome, tick, pair, outcomes_without_ticks, ticks, ticks_to_first, outcomes_replaced_by_lists, ticks_before_outcomes, ticked}
 use Rattle.regex_meaning.specs.CompilationRelation.{Program, Counters, counters_after_insn, IsCode, Goal, Lookahead, Lookbehind, lookaround_insn}
 use Rattle.regex_meaning.proofs.OutcomeDirectionLemmas.{IsAtOrAheadInDirection-refl}
 use Rattle.regress_machine.specs.Machine.{LoopData, State, running, asks, state_with_ip, state_at_next_ip, after_lookaround, act_on}

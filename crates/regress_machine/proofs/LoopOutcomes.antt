@@ -1,7 +1,5 @@
 -- The code of a loop finds the outcomes of that node, iteration by iteration.
-use Rattle.std.proofs.Common.{◌≡◌, ℕ, zero, suc, ◌+◌, ◌-◌, ◌<◌, ◌≤◌, List, [], ◌∷◌, ◌++◌, length, map, Option, Some, None, Bool, true, false, refl}
-use Rattle.std.proofs.Common.{ap, ◌∙◌, sym, subst, arith, append-nil, slice_get, slice_set, length-set, lt-ltb, nat_eq, nat_lt, nat_le, eq-eqb}
-use Rattle.std.proofs.Common.{ne_eqb, eqb-true, nltb→le}
+use Rattle.std.proofs.Common.{◌≡◌, ℕ, zero, suc, ◌+◌, ◌-◌, ◌<◌, ◌≤◌, List, [], ◌∷◌, ◌++◌, length, map, Option, Some, None, Bool, true, false, refl, ap, ◌∙◌, sym, subst, arith, append-nil, slice_get, slice_set, length-set, lt-ltb, nat_eq, nat_lt, nat_le, eq-eqb, ne_eqb, eqb-true, nltb→le}
 use Rattle.std.proofs.lemmas.List.{length-map}
 use Rattle.std.proofs.lemmas.Bool.{eqb-false}
 use Rattle.std.specs.Prelude.{option_map, not, if◌then◌else◌, ◌&&◌, ◌==◌}
@@ -10,18 +8,14 @@ use Rattle.regex_meaning.specs.Laws.{IsAtOrAheadInDirection}
 use Rattle.regex_meaning.specs.Tree.{Quantifier, Node, loop, group_ids}
 use Rattle.regex_meaning.specs.Text.{Text, Direction, rightwards, leftwards, last_place, characters_ahead}
 use Rattle.regex_meaning.specs.CodeUnitOffsets.{HasRisingPlaceOffsets, offset}
-use Rattle.regex_meaning.specs.Outcomes.{Groups, Outcome, cleared, max_iterations, Repetition, repetition}
+use Rattle.regex_meaning.specs.Outcomes.{Groups, Outcome, with_groups_cleared, max_iterations, Repetition, repetition}
 use Rattle.regex_meaning.specs.OutcomesWithStepTicks.{TickOrOutcome, tick, pair, ticks, outcomes_replaced_by_lists, ticked_preferred, ticked_bounded_repeat, ticked}
-use Rattle.regex_meaning.specs.CompilationRelation.{Program, LoopFields, Insn, Counters, counters_after_insn, HasInsnsBetween, IsCode, ResetCaptureGroup, EnterLoop}
-use Rattle.regex_meaning.specs.CompilationRelation.{LoopAgain}
+use Rattle.regex_meaning.specs.CompilationRelation.{Program, LoopFields, Insn, Counters, counters_after_insn, HasInsnsBetween, IsCode, ResetCaptureGroup, EnterLoop, LoopAgain}
 use Rattle.regex_meaning.proofs.CodeUnitOffsetsLemmas.{offset-injective}
-use Rattle.regress_machine.specs.Machine.{LoopData, State, Thread, running, waiting, goes, go, with_some, only_if, first_running_and_others_waiting, choice_in_order_of_greediness}
-use Rattle.regress_machine.specs.Machine.{iterate_or_leave_at_loop_head}
-use Rattle.regress_machine.specs.Machine.{effect_at_iteration_end, loop_again_effect, act}
+use Rattle.regress_machine.specs.Machine.{LoopData, State, Thread, running, waiting, goes, go, with_some, only_if, first_running_and_others_waiting, choice_in_order_of_greediness, iterate_or_leave_at_loop_head, effect_at_iteration_end, loop_again_effect, act}
 use Rattle.regress_machine.proofs.ThreadYieldLemmas.{Ending, Yields, yields_none, yields_append, yields_same, yields_turn, yields_wait}
 use Rattle.regress_machine.proofs.UnchangedGroupsAndLoops.{Kept, kept_itself, kept_more, kept_both, inside_itself, slice_get-set_same, slice_get-set_other}
-use Rattle.regress_machine.proofs.NodeCodeOutcomes.{over, state_at, RangeFits, Fit, Reached, GoesOn, Enters, here, reached_both, act_at, Finds, at_mark, Rising}
-use Rattle.regress_machine.proofs.NodeCodeOutcomes.{and_then-append, and_then-and_then, and_then-ticks}
+use Rattle.regress_machine.proofs.NodeCodeOutcomes.{over, state_at, RangeFits, Fit, Reached, GoesOn, Enters, here, reached_both, act_at, Finds, at_mark, Rising, and_then-append, and_then-and_then, and_then-ticks}
 use Rattle.regress_machine.proofs.GroupAndAssertionOutcomes.{map-set}
 use Rattle.regex_meaning.proofs.EachElementLemmas.{Each-set}
 
@@ -37,9 +31,9 @@ and_then-ways true true false again leave k = and_then-append leave (tick ∷ ag
 
 -- ---- Groups
 
-length-cleared : (first n : ℕ) (g : Groups) → length (cleared first n g) ≡ length g
-length-cleared first zero g = refl
-length-cleared first (suc n) g = length-cleared (first + 1) n (slice_set g first None) ∙ length-set g first None
+length-with_groups_cleared : (first n : ℕ) (g : Groups) → length (with_groups_cleared first n g) ≡ length g
+length-with_groups_cleared first zero g = refl
+length-with_groups_cleared first (suc n) g = length-with_groups_cleared (first + 1) n (slice_set g first None) ∙ length-set g first None
 
 -- ---- Loop counters
 
@@ -54,13 +48,13 @@ AreBelow first count bound = (i : ℕ) → first ≤ i → i < first + count →
 -- ---- Iterations
 
 module _ (program : Program) (text : Text) (is_text : HasRisingPlaceOffsets text) where
-  Fit-cleared : (first n : ℕ) (g : Groups) → Fit program text is_text g → Fit program text is_text (cleared first n g)
-  Fit-cleared first zero g f = f
-  Fit-cleared first (suc n) g f = Fit-cleared (first + 1) n (slice_set g first None) (Each-set (RangeFits program text is_text) g first None f tt)
+  Fit-with_groups_cleared : (first n : ℕ) (g : Groups) → Fit program text is_text g → Fit program text is_text (with_groups_cleared first n g)
+  Fit-with_groups_cleared first zero g f = f
+  Fit-with_groups_cleared first (suc n) g f = Fit-with_groups_cleared (first + 1) n (slice_set g first None) (Each-set (RangeFits program text is_text) g first None f tt)
 
   resets_yield : (d : Direction) (E : Ending) (first count : ℕ) (i k : Counters) (p : ℕ) (g : Groups) (s : List ℕ) (ls : List LoopData) (items : List TickOrOutcome)
       → HasInsnsBetween program (map ResetCaptureGroup (numbers_from first count)) i k → AreBelow first count (length g)
-      → Yields program text d E (running (state_at program text is_text k.insn p (cleared first count g) s ls) ∷ []) items
+      → Yields program text d E (running (state_at program text is_text k.insn p (with_groups_cleared first count g) s ls) ∷ []) items
       → Yields program text d E (running (state_at program text is_text i.insn p g s ls) ∷ []) (ticks count ++ items)
   resets_yield d E first zero i k p g s ls items has room y = at_mark program text is_text d E i k p g s ls items has y
   resets_yield d E first (suc count) i k p g s ls items has room y =
@@ -128,7 +122,7 @@ module _ (program : Program) (text : Text) (is_text : HasRisingPlaceOffsets text
     fields = record { loop_id = m.loop; min_iters = q.min; max_iters = max_iterations q; greedy = q.greedy; exit = n.insn }
 
     abbrev pub rounds : Repetition TickOrOutcome
-    rounds = repetition q (λ p g. ticks (end - first) ++ ticked text loopee d p (cleared first (end - first) g))
+    rounds = repetition q (λ p g. ticks (end - first) ++ ticked text loopee d p (with_groups_cleared first (end - first) g))
 
     abbrev pub data_at : ℕ → ℕ → LoopData
     data_at i p = record { iters = i; entry = offset text p }
@@ -186,15 +180,15 @@ module _ (program : Program) (text : Text) (is_text : HasRisingPlaceOffsets text
     iterates : (i p : ℕ) (g : Groups) (s : List ℕ) (ls : List LoopData) (k' : Outcome → List TickOrOutcome) → Stands p g s ls
         → ((o : Outcome) (s' : List ℕ) (ls' : List LoopData) → IsAtOrAheadInDirection text d p o.end → Stands o.end o.groups s' ls' → slice_get ls' m.loop ≡ Some (data_at i p)
         → Yields program text d E (running (state_at program text is_text l.insn o.end o.groups s' ls') ∷ []) (k' o))
-        → Yields program text d E (running (again_state i p g s ls) ∷ []) (ticks (end - first) ++ outcomes_replaced_by_lists (ticked text loopee d p (cleared first (end - first) g)) k')
+        → Yields program text d E (running (again_state i p g s ls) ∷ []) (ticks (end - first) ++ outcomes_replaced_by_lists (ticked text loopee d p (with_groups_cleared first (end - first) g)) k')
     iterates i p g s ls k' h next_round =
         let ids = group_ids loopee in
         let count = end - first in
         let entry = data_at i p in
         let ls1 = slice_set ls m.loop entry in
-        let g1 = cleared first count g in
+        let g1 = with_groups_cleared first count g in
         let len_g : length g ≡ length g0 = h.reached.same_groups in
-        let len_g1 : length g1 ≡ length g0 = length-cleared first count g ∙ len_g in
+        let len_g1 : length g1 ≡ length g0 = length-with_groups_cleared first count g ∙ len_g in
         let len_ls1 : length ls1 ≡ length ls0 = length-set ls m.loop entry ∙ h.kept.loops_length in
         let own = in_loops ls h.kept.loops_length in
         let a = rise j l body in
@@ -202,7 +196,7 @@ module _ (program : Program) (text : Text) (is_text : HasRisingPlaceOffsets text
         (find E j l p g1 s ls1 k' body
         (record {
           inside = h.reached.inside;
-          fit = Fit-cleared first count g h.reached.fit;
+          fit = Fit-with_groups_cleared first count g h.reached.fit;
           groups = len_g1 ∙ enters.groups;
           starts = h.kept.starts_length ∙ enters.starts ∙ sym len_g1;
           loops = omega (arith, l_loop, enters.loops);
@@ -246,7 +240,7 @@ module _ (program : Program) (text : Text) (is_text : HasRisingPlaceOffsets text
     rounds_yield zero i p g s ls h fuel = absurd (omega arith)
     rounds_yield (suc turns) i p g s ls h fuel =
         let count = end - first in
-        let items = ticked text loopee d p (cleared first count g) in
+        let items = ticked text loopee d p (with_groups_cleared first count g) in
         let further = λ (o : Outcome). ticked_bounded_repeat rounds turns (i + 1) o.end o.groups in
         let dropped = λ (o : Outcome). nat_eq o.end p && nat_lt q.min (i + 1) in
         let again = outcomes_replaced_by_lists (ticks count ++ items) (λ o. tick ∷ (if not (dropped o) then further o else [])) in

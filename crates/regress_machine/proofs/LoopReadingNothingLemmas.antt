@@ -1,25 +1,22 @@
 -- The last required iteration of a loop that reads nothing may replace any other required one.
-use Rattle.std.proofs.Common.{◌≡◌, ◌<◌, ◌≤◌, ℕ, zero, suc, ◌+◌, ◌-◌, List, [], ◌∷◌, Option, Some, None, Bool, true, false, refl, ap, ap₂, ◌∙◌, sym}
-use Rattle.std.proofs.Common.{subst, arith, length, slice_get, slice_set}
+use Rattle.std.proofs.Common.{◌≡◌, ◌<◌, ◌≤◌, ℕ, zero, suc, ◌+◌, ◌-◌, List, [], ◌∷◌, Option, Some, None, Bool, true, false, refl, ap, ap₂, ◌∙◌, sym, subst, arith, length, slice_get, slice_set}
 use Rattle.std.specs.Prelude.{◌⊎◌, ◌&&◌, ◌==◌, nat_lt, option_map, if◌then◌else◌}
 use Rattle.std.proofs.lemmas.Bool.{cases_lt, lt-ltb, ltb-true, eqb-true, eqb-false, and_from}
 use Rattle.std.proofs.lemmas.List.{length-set}
 use Rattle.std.proofs.lemmas.Option.{slice_get_within}
 use mathlib.Core.Logic.{inl, inr}
 use Rattle.regex_meaning.specs.Text.{Text, Direction}
-use Rattle.regex_meaning.specs.CompilationRelation.{Program, LoopFields, Insn, Jump, Alt, EnterLoop, LoopAgain, ResetCaptureGroup, BeginCaptureGroup}
-use Rattle.regex_meaning.specs.CompilationRelation.{EndCaptureGroup}
+use Rattle.regex_meaning.specs.CompilationRelation.{Program, LoopFields, Insn, Jump, Alt, EnterLoop, LoopAgain, ResetCaptureGroup, BeginCaptureGroup, EndCaptureGroup}
 use Rattle.regex_meaning.proofs.BoolLemmas.{and-left, and-right}
-use Rattle.regress_machine.specs.Machine.{LoopData, State, Thread, running, waiting, state_with_ip, with_some, only_if, go, range_swapped_if_leftwards}
-use Rattle.regress_machine.specs.Machine.{iterate_or_leave_at_loop_head, act_on, act}
+use Rattle.regress_machine.specs.Machine.{LoopData, State, Thread, running, waiting, state_with_ip, with_some, only_if, go, range_swapped_if_leftwards, iterate_or_leave_at_loop_head, act_on, act}
 use Rattle.regress_machine.proofs.UnchangedGroupsAndLoops.{slice_get-set_same, slice_get-set_other}
 use Rattle.regress_machine.specs.LoopsReadingNothing.{ReadsNothingAndLeadsOnward, ReadsNothingUntil, LastRequiredEmptyIterationReplacesOthers}
 use Rattle.regress_machine.specs.ThreadSimulation.{Simulates}
-use Rattle.regress_machine.proofs.ThreadSimulationLemmas.{simulates-same, simulates-then, simulates-fewer, simulates-goes, simulates-waits, simulates-both}
-use Rattle.regress_machine.proofs.ThreadSimulationLemmas.{simulates-twice}
+use Rattle.regress_machine.proofs.ThreadSimulationLemmas.{simulates-same, simulates-then, simulates-fewer, simulates-goes, simulates-waits, simulates-both, simulates-twice}
 use Rattle.regress_machine.proofs.LoopHeadSimulation.{again, again-counts, only-simulates, some-simulates}
 use Rattle.regress_machine.proofs.InsnSimulationLemmas.{arm-again, loop-again}
 use Rattle.regress_machine.proofs.ForcedIterationLemmas.{set-twice}
+use Rattle.regress_machine.proofs.GroupAndAssertionOutcomes.{slice_get_some}
 
 -- ---- The effects of successive instructions on one group
 
@@ -185,11 +182,6 @@ same-row (x ∷ xs) (y ∷ ys) same =
     let is : x ≡ y = cc in
     ap₂ (λ z zs. z ∷ zs) is (same-row xs ys (λ i. same (suc i)))
 
-get-within : {X : Type 0} (xs : List X) (i : ℕ) → i < length xs → (x : X) × (slice_get xs i ≡ Some x)
-get-within [] i less = absurd (omega (arith, less))
-get-within (x ∷ xs) zero less = (x, refl)
-get-within (x ∷ xs) (suc i) less = get-within xs i (omega (arith, less))
-
 set-known : {X : Type 0} (xs : List X) (i : ℕ) (x y : X) → slice_get (slice_set xs i x) i ≡ Some y → y ≡ x
 set-known [] i x y is = cc
 set-known (z ∷ xs) zero x y is = cc
@@ -310,7 +302,7 @@ module _ (program : Program) (text : Text) (d : Direction) where
           let in_z = ltb-true id (length z.groups) inside in
           let in_y : id < length y.groups = omega (arith, in_z, a.groups_length, b.groups_length, groups_length) in
           let begins_z : id < length z.starts = slice_get_within z.starts id n began in
-          let m = get-within y.starts id (omega (arith, begins_z, a.starts_length, b.starts_length, starts_length)) in
+          let m = slice_get_some y.starts id (omega (arith, begins_z, a.starts_length, b.starts_length, starts_length)) in
           both-on y z (closed_at id m.0 y) (closed_at id n z)
           (turn-at y ip (EndCaptureGroup id) here is ∙ ap (λ b. only_if b (with_some (slice_get y.starts id) (λ n. go (closed_at id n y)))) (lt-ltb id (length y.groups) in_y)
           ∙ ap (λ o. with_some o (λ n. go (closed_at id n y))) m.1) on
@@ -428,7 +420,7 @@ module _ (program : Program) (from stop : ℕ) (inside : stop < length program.i
         by (λ to further within. way-from n to (omega (arith, after, further)) within (omega (arith, near, further))) (cases_lt ip stop)
       where
         by : ((to : ℕ) → ip < to → to ≤ stop → Way to) → (ip < stop) ⊎ (stop ≤ ip) → Way ip
-        by rest (inl less) = let insn = get-within program.insns ip (omega (arith, less, inside)) in on ip insn.0 insn.1 (reads ip after less insn.0 insn.1) rest less
+        by rest (inl less) = let insn = slice_get_some program.insns ip (omega (arith, less, inside)) in on ip insn.0 insn.1 (reads ip after less insn.0 insn.1) rest less
         by rest (inr le) = let same : stop ≡ ip = omega (arith, before, le) in subst Way same there
 
   path-on : (ip : ℕ) → (insn : Insn) → slice_get program.insns ip ≡ Some insn → ReadsNothingAndLeadsOnward false stop ip insn → ((to : ℕ) → ip < to → to ≤ stop → Path program stop to) → ip < stop

@@ -1,6 +1,5 @@
 -- The required prefix of an instruction follows from those of its successors, and excludes matches.
-use Rattle.std.proofs.Common.{◌≡◌, ◌<◌, ◌≤◌, ℕ, zero, suc, ◌+◌, ◌-◌, min, List, [], ◌∷◌, Option, Some, None, Bool, true, false, not, ◌||◌, refl, ap}
-use Rattle.std.proofs.Common.{◌∙◌, sym, subst, arith, slice_get, length, drop}
+use Rattle.std.proofs.Common.{◌≡◌, ◌<◌, ◌≤◌, ℕ, zero, suc, ◌+◌, ◌-◌, min, List, [], ◌∷◌, Option, Some, None, Bool, true, false, not, ◌||◌, refl, ap, ◌∙◌, sym, subst, arith, slice_get, length, drop}
 use Rattle.std.specs.Prelude.{◌==◌}
 use Rattle.std.specs.List.{prefix_len}
 use Rattle.std.proofs.lemmas.Bool.{eq-eqb, eqb-true, cases_lt}
@@ -13,6 +12,7 @@ use Rattle.regex_meaning.specs.CodeUnits.{Encoding, code_units_of_character}
 use Rattle.regex_meaning.specs.CompilationRelation.{Program, Insn, Loop1CharBody}
 use Rattle.regex_meaning.proofs.EachElementLemmas.{Each-map}
 use Rattle.regex_meaning.proofs.CodeUnitOffsetsLemmas.{offset-place_at, place_at-offset}
+use Rattle.regex_meaning.proofs.BoolLemmas.{false-by-implication}
 use Rattle.regress_machine.specs.Machine.{State, running, Next, with_some, go_if, scan, act, act_on, test_of, next_insn_at_place, read_one, char_loop_states}
 use Rattle.regress_machine.specs.SearchFindsFirstOutcomeAtPlace.{state_before_first_insn}
 use Rattle.regress_machine.specs.ThreadSimulation.{FindsNothing}
@@ -20,8 +20,7 @@ use Rattle.regress_machine.specs.FailingInsnsAtOffset.{insn_may_find}
 use Rattle.regress_machine.specs.FirstSetTables.{is_character_in_encoding, HasUnitsForTables, first_unit_key, unit_key_at}
 use Rattle.regress_machine.specs.CharLoopExitStatesByPreference.{behind, StatesAfterCharsFindNothing}
 use Rattle.regress_machine.specs.RequiredPrefixes.{AllowedUnitsAhead, unit_is_allowed, IsRequiredPrefix, RequiredPrefixesExclude}
-use Rattle.regress_machine.proofs.FailureByStepInduction.{NothingBelow, NothingNext, EachNothing, turn-nothing, nothing-go, nothing-goes, nothing-in_turn}
-use Rattle.regress_machine.proofs.FailureByStepInduction.{nothing-below-none, finds-nothing}
+use Rattle.regress_machine.proofs.FailureByStepInduction.{NothingBelow, NothingNext, EachNothing, turn-nothing, nothing-go, nothing-goes, nothing-in_turn, nothing-below-none, finds-nothing}
 use Rattle.regress_machine.proofs.FailingInsnLemmas.{insn-nothing}
 use Rattle.regress_machine.proofs.ExcludedCharLoopExits.{one-of-run, slice_get-behind, inside-of}
 use Rattle.regress_machine.proofs.RunningAndWaitingThreads.{EachFindsNothing}
@@ -62,13 +61,9 @@ module _ (e : Encoding) (key : ℕ → ℕ) (program : Program) where
         prefix.excludes text units s is ahead (omega (arith, less, le)) (by ahead less (unit_key_at e key text (s.pos + ahead)) bar);
   }
     where
-      not-so : (x y : Bool) → (x ≡ true → y ≡ true) → y ≡ false → x ≡ false
-      not-so true y f h = let t : y ≡ true = f refl in cc
-      not-so false y f h = refl
-
       by : (ahead : ℕ) → ahead < len → (o : Option ℕ) → unit_is_allowed b ahead o ≡ false → unit_is_allowed a ahead o ≡ false
       by ahead less None bar = refl
-      by ahead less (Some k) bar = not-so (a ahead k) (b ahead k) (within ahead k less) bar
+      by ahead less (Some k) bar = false-by-implication (a ahead k) (b ahead k) (within ahead k less) bar
 
   -- ---- Instructions that read no character
 

@@ -9,8 +9,7 @@ use Rattle.regex_meaning.specs.OutcomesWithStepTicks.{TickOrOutcome, tick, pair,
 use Rattle.regex_meaning.specs.CompilationRelation.{Program}
 use Rattle.regex_meaning.proofs.OutcomeTicksLemmas.{pairs-ticked}
 use Rattle.regress_machine.specs.Machine.{running, Found, search}
-use Rattle.regress_machine.specs.SearchFindsFirstOutcomeAtPlace.{state_before_first_insn, end_of, end_in_offsets, match_in_offsets, first_outcome_among_ticks, sufficient_turns_at}
-use Rattle.regress_machine.specs.SearchFindsFirstOutcomeAtPlace.{TreeProgramCanSearchText}
+use Rattle.regress_machine.specs.SearchFindsFirstOutcomeAtPlace.{state_before_first_insn, end_and_groups_of_state, end_in_offsets, match_in_offsets, first_outcome_among_ticks, sufficient_turns_at, TreeProgramCanSearchText}
 use Rattle.regress_machine.proofs.MachineSearchLemmas.{search_more}
 use Rattle.regress_machine.proofs.TreeCodeOutcomes.{searches-find}
 
@@ -34,7 +33,7 @@ same_some f g (Some x) (Some y) e = refl
 module _ (program : Program) (tree : Tree) (text : Text) (can : TreeProgramCanSearchText program tree text) (place : ℕ) (inside : place ≤ last_place text) where
   -- Whatever the number of turns, the result has the steps and the end of the tree's items.
   found_so : (turns : ℕ) (f : Found) → search program text turns rightwards (running (state_before_first_insn program (offset text place)) ∷ []) ≡ Some f
-      → (f.steps ≡ ticks_to_first (items_at tree text place)) × (option_map end_of f.end ≡ option_map (end_in_offsets text) (first_outcome_among_ticks (items_at tree text place)))
+      → (f.steps ≡ ticks_to_first (items_at tree text place)) × (option_map end_and_groups_of_state f.end ≡ option_map (end_in_offsets text) (first_outcome_among_ticks (items_at tree text place)))
   found_so turns f e =
       let first = searches-find program tree text can place inside in
       let known = sufficient_turns_at tree text place in
@@ -43,10 +42,10 @@ module _ (program : Program) (tree : Tree) (text : Text) (can : TreeProgramCanSe
       let b = search_more program text known (turns + known) (omega arith) rightwards threads first.found first.searches in
       let both : Some f ≡ Some first.found = sym a ∙ b in
       let same : f ≡ first.found = cc in
-      (ap (λ (f : Found). f.steps) same ∙ first.steps, ap (λ (f : Found). option_map end_of f.end) same ∙ first.end)
+      (ap (λ (f : Found). f.steps) same ∙ first.steps, ap (λ (f : Found). option_map end_and_groups_of_state f.end) same ∙ first.end)
 
   pub finds-match : (turns : ℕ) (f : Found) → search program text turns rightwards (running (state_before_first_insn program (offset text place)) ∷ []) ≡ Some f
-      → option_map end_of f.end ≡ option_map (match_in_offsets text) (match_at tree.root text place)
+      → option_map end_and_groups_of_state f.end ≡ option_map (match_in_offsets text) (match_at tree.root text place)
   finds-match turns f e =
       let items = items_at tree text place in
       (found_so turns f e).1 ∙ sym (first_of-pairs text place items)
@@ -58,7 +57,7 @@ module _ (program : Program) (tree : Tree) (text : Text) (can : TreeProgramCanSe
       let items = items_at tree text place in
       let later = ticks_at tree text places in
       let so = found_so turns f e in
-      let some : is_some f.end ≡ is_some (first_outcome_among_ticks items) = same_some end_of (end_in_offsets text) f.end (first_outcome_among_ticks items) so.1 in
+      let some : is_some f.end ≡ is_some (first_outcome_among_ticks items) = same_some end_and_groups_of_state (end_in_offsets text) f.end (first_outcome_among_ticks items) so.1 in
       ap (λ b. ticks_to_first items + (if b then later else 0)) (is_empty-pairs items)
       ∙ ap (λ n. ticks_to_first items + n) (other_way (is_some (first_outcome_among_ticks items)) later)
       ∙ ap (λ n. n + (if is_some (first_outcome_among_ticks items) then 0 else later)) (sym so.0)

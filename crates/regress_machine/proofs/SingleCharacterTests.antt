@@ -1,6 +1,5 @@
 -- The instruction of a node of one character tests exactly what the node accepts.
-use Rattle.std.proofs.Common.{◌≡◌, ℕ, zero, suc, ◌+◌, ◌<◌, ◌≤◌, List, [], ◌∷◌, ◌++◌, length, map, drop, Some, Bool, true, false, ◌&&◌, ◌||◌, refl}
-use Rattle.std.proofs.Common.{ap, ◌∙◌, sym, subst, arith, append-nil, slice_get, drop_of_length-le}
+use Rattle.std.proofs.Common.{◌≡◌, ℕ, zero, suc, ◌+◌, ◌<◌, ◌≤◌, List, [], ◌∷◌, ◌++◌, length, map, drop, Some, Bool, true, false, ◌&&◌, ◌||◌, refl, ap, ◌∙◌, sym, subst, arith, append-nil, slice_get, drop_of_length-le}
 use Rattle.std.specs.Prelude.{nat_le, nat_lt, nat_eq, ◌==◌, encode_utf8_all, chars, option_and_then, MatchBool}
 use Rattle.std.specs.List.{list_all}
 use Rattle.std.specs.Char.{encode_utf8 as encode, len_utf8}
@@ -13,14 +12,12 @@ use lib.Pointwise.{pointwise}
 use lib.Utf8.{scalar}
 use Rattle.regex_meaning.specs.NumberListHelpers.{contains}
 use Rattle.regex_meaning.specs.Laws.{Each}
-use Rattle.regex_meaning.specs.Tree.{BracketContents, Node, char, char_set, byte_set, byte_sequence, bracket, match_any}
-use Rattle.regex_meaning.specs.Tree.{match_any_except_line_terminator}
+use Rattle.regex_meaning.specs.Tree.{BracketContents, Node, char, char_set, byte_set, byte_sequence, bracket, match_any, match_any_except_line_terminator}
 use Rattle.regex_meaning.specs.Text.{Text, is_scalar}
 use Rattle.regex_meaning.specs.Outcomes.{accepts, exclusive_or, in_intervals}
 use Rattle.regex_meaning.specs.StartPredicate.{bytes_that_pass}
 use Rattle.regex_meaning.specs.WellFormedTrees.{is_one_character, has_text_in_sequence, set_sizes_and_characters_fit_instructions}
-use Rattle.regex_meaning.specs.CompilationRelation.{Program, Insn, Counters, HasInsnsBetween, IsCode, JustFail, Char, CharSet, ByteSet, ByteSeq, AsciiBracket, Bracket}
-use Rattle.regex_meaning.specs.CompilationRelation.{MatchAny, MatchAnyExceptLineTerminator, padded, reversed_if_in_lookbehind, is_uninverted_ascii_class, chunks, first_chunks_of_bytes}
+use Rattle.regex_meaning.specs.CompilationRelation.{Program, Insn, Counters, HasInsnsBetween, IsCode, JustFail, Char, CharSet, ByteSet, ByteSeq, AsciiBracket, Bracket, MatchAny, MatchAnyExceptLineTerminator, padded, reversed_if_in_lookbehind, is_uninverted_ascii_class, chunks, first_chunks_of_bytes}
 use Rattle.regex_meaning.proofs.FirstByteOfCharacter.{true-in_range, encode-1}
 use Rattle.regress_machine.specs.Machine.{test_of}
 use Rattle.regress_machine.specs.TextsForBytePrograms.{HasUtf8CharactersAndOffsets, tree_contains_byte_nodes}
@@ -121,8 +118,8 @@ module _ (program : Program) (text : Text) where
     pub same : Each (λ c. test c ≡ accepts node c) text.characters
     pub end : n.insn ≡ m.insn + 1
 
-  end_of : (i : Insn) (m n : Counters) → HasInsnsBetween program (i ∷ []) m n → n.insn ≡ m.insn + 1
-  end_of i m n has = ap (λ (m : Counters). m.insn) (sym has.1)
+  insn-after : (i : Insn) (m n : Counters) → HasInsnsBetween program (i ∷ []) m n → n.insn ≡ m.insn + 1
+  insn-after i m n has = ap (λ (m : Counters). m.insn) (sym has.1)
 
   reads_by : (node : Node) (i : Insn) (test : ℕ → Bool) (m n : Counters) → HasInsnsBetween program (i ∷ []) m n → test_of program (Some i) ≡ Some test
       → Each (λ c. test c ≡ accepts node c) text.characters → ReadsOne node m n
@@ -130,7 +127,7 @@ module _ (program : Program) (text : Text) where
     test = test;
     test_is = ap (test_of program) has.0 ∙ is;
     same = same;
-    end = end_of i m n has;
+    end = insn-after i m n has;
   }
 
   exactly : (node : Node) → Each (λ c. accepts node c ≡ accepts node c) text.characters
@@ -162,7 +159,7 @@ module _ (program : Program) (text : Text) where
     test_is = ap (test_of program) has.0.0
         ∙ ap (option_and_then (λ (contents : BracketContents). Some (λ c. exclusive_or contents.invert (in_intervals contents.intervals c)))) has.1;
     same = exactly (bracket contents);
-    end = end_of (Bracket m.bracket) (record m { bracket = m.bracket + 1 }) n has.0;
+    end = insn-after (Bracket m.bracket) (record m { bracket = m.bracket + 1 }) n has.0;
   }
 
   pub reads_one : (behind : Bool) (node : Node) → is_one_character node ≡ true → has_text_in_sequence node ≡ true → set_sizes_and_characters_fit_instructions node ≡ true

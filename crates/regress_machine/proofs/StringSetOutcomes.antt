@@ -1,6 +1,5 @@
 -- The code of a set of strings finds the outcomes of that node.
-use Rattle.std.proofs.Common.{◌≡◌, ℕ, ◌+◌, ◌≤◌, List, [], ◌∷◌, ◌++◌, length, map, Some, Bool, true, false, refl, ap, ◌∙◌, sym, subst, arith, add-one}
-use Rattle.std.proofs.Common.{append-nil, slice_get}
+use Rattle.std.proofs.Common.{◌≡◌, ℕ, ◌+◌, ◌≤◌, List, [], ◌∷◌, ◌++◌, length, map, Some, Bool, true, false, refl, ap, ◌∙◌, sym, subst, arith, add-one, append-nil, slice_get}
 use Rattle.std.specs.Prelude.{if◌then◌else◌, nat_eq, ◌==◌, ◌&&◌}
 use Rattle.regex_meaning.specs.NumberListHelpers.{contains}
 use Rattle.regex_meaning.specs.Laws.{IsAtOrAheadInDirection}
@@ -8,12 +7,8 @@ use Rattle.regex_meaning.specs.Tree.{string_set}
 use Rattle.regex_meaning.specs.Text.{Text, Direction, rightwards, leftwards, last_place, next_character, moved, characters_ahead, expand_code_point}
 use Rattle.regex_meaning.specs.CodeUnitOffsets.{HasRisingPlaceOffsets}
 use Rattle.regex_meaning.specs.Outcomes.{Groups, Outcome, is_some_and, is_case_variant, spelled}
-use Rattle.regex_meaning.specs.OutcomesWithStepTicks.{TickOrOutcome, tick, pair, ticks, number_of_compared_elements, outcomes_replaced_by_lists, ticks_before_outcomes, nearest_first}
-use Rattle.regex_meaning.specs.OutcomesWithStepTicks.{compared_code_point_count, ticked_string}
-use Rattle.regex_meaning.specs.OutcomesWithStepTicks.{ticked_strings, ticked}
-use Rattle.regex_meaning.specs.CompilationRelation.{Program, Insn, Counters, counters_after_insn, HasInsnAt, HasInsnsBetween, IsCode, IsStringCode, AreStringsCode}
-use Rattle.regex_meaning.specs.CompilationRelation.{JustFail, Char, CharSet, Alt}
-use Rattle.regex_meaning.specs.CompilationRelation.{Jump, padded, reversed_if_in_lookbehind, case_variants_insn}
+use Rattle.regex_meaning.specs.OutcomesWithStepTicks.{TickOrOutcome, tick, pair, ticks, number_of_compared_elements, outcomes_replaced_by_lists, ticks_before_outcomes, nearest_first, compared_code_point_count, ticked_string, ticked_strings, ticked}
+use Rattle.regex_meaning.specs.CompilationRelation.{Program, Insn, Counters, counters_after_insn, HasInsnAt, HasInsnsBetween, IsCode, IsStringCode, AreStringsCode, JustFail, Char, CharSet, Alt, Jump, padded, reversed_if_in_lookbehind, case_variants_insn}
 use Rattle.regex_meaning.proofs.CodeUnitOffsetsLemmas.{place_at-offset}
 use Rattle.regress_machine.specs.Machine.{LoopData, State, running, waiting, with_some, go_if, next_insn_at_place, read_one, act_on, act}
 use Rattle.regress_machine.proofs.ThreadYieldLemmas.{Ending, Yields, yields_none, yields_append, yields_same, yields_turn, yields_wait}

@@ -1,12 +1,10 @@
 -- Threads yield ticks and outcomes in order, followed by those of the threads behind them.
-use Rattle.std.proofs.Common.{◌≡◌, ℕ, zero, suc, ◌+◌, List, [], ◌∷◌, ◌++◌, Option, Some, None, Bool, refl, ap, ◌∙◌, sym, subst, arith, append_assoc}
-use Rattle.std.proofs.Common.{zero-add}
+use Rattle.std.proofs.Common.{◌≡◌, ℕ, zero, suc, ◌+◌, List, [], ◌∷◌, ◌++◌, Option, Some, None, Bool, refl, ap, ◌∙◌, sym, subst, arith, append_assoc, zero-add}
 use Rattle.regex_meaning.specs.Text.{Text, Direction}
 use Rattle.regex_meaning.specs.Outcomes.{Outcome}
 use Rattle.regex_meaning.specs.OutcomesWithStepTicks.{TickOrOutcome, tick, pair, ticks, ticks_to_first}
 use Rattle.regex_meaning.specs.CompilationRelation.{Program}
-use Rattle.regress_machine.specs.Machine.{State, Thread, running, waiting, goes, scans, ends, asks, Found, result_without_threads, found_at, with_steps, after_lookaround}
-use Rattle.regress_machine.specs.Machine.{after_lookaround_search, search_after_effect, act, search}
+use Rattle.regress_machine.specs.Machine.{State, Thread, running, waiting, goes, scans, ends, asks, Found, result_without_threads, found_at, with_steps, after_lookaround, after_lookaround_search, search_after_effect, act, search}
 pub use Rattle.regress_machine.specs.SearchFindsFirstOutcomeAtPlace.{first_outcome_among_ticks}
 use Rattle.regress_machine.proofs.MachineSearchLemmas.{search_more}
 

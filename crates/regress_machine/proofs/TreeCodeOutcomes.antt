@@ -1,11 +1,8 @@
 -- A search of the code of a well-formed tree ends with the tree's first outcome.
-use Rattle.std.proofs.Common.{◌≡◌, ℕ, ◌-◌, ◌<◌, ◌≤◌, List, [], ◌∷◌, length, replicate, Option, Some, None, Bool, true, false, refl, ap, ◌∙◌, sym}
-use Rattle.std.proofs.Common.{subst, arith, eqb-true}
+use Rattle.std.proofs.Common.{◌≡◌, ℕ, ◌-◌, ◌<◌, ◌≤◌, List, [], ◌∷◌, length, replicate, Option, Some, None, Bool, true, false, refl, ap, ◌∙◌, sym, subst, arith, eqb-true}
 use Rattle.std.proofs.lemmas.List.{length-replicate}
 use Rattle.std.specs.Prelude.{option_map, if◌then◌else◌, ◌==◌}
-use Rattle.regex_meaning.specs.Tree.{Node, empty, goal, char, char_set, byte_set, byte_sequence, cat, end_of_cat, alt, bracket, string_set}
-use Rattle.regex_meaning.specs.Tree.{match_any, match_any_except_line_terminator, anchor, word_boundary, capture_group, back_ref, lookaround, loop}
-use Rattle.regex_meaning.specs.Tree.{loop_1_char_body, group_ids, Flags, Tree}
+use Rattle.regex_meaning.specs.Tree.{Node, empty, goal, char, char_set, byte_set, byte_sequence, cat, end_of_cat, alt, bracket, string_set, match_any, match_any_except_line_terminator, anchor, word_boundary, capture_group, back_ref, lookaround, loop, loop_1_char_body, group_ids, Flags, Tree}
 use Rattle.regex_meaning.specs.Text.{Text, Direction, rightwards, last_place}
 use Rattle.regex_meaning.specs.CodeUnitOffsets.{HasRisingPlaceOffsets, offset}
 use Rattle.regex_meaning.specs.Outcomes.{Groups, Outcome, direction_of, outcomes}
@@ -14,14 +11,11 @@ use Rattle.regex_meaning.specs.OutcomesWithStepTicks.{TickOrOutcome, tick, pair,
 use Rattle.regex_meaning.specs.WellFormedTrees.{number_of_goal_nodes, is_end_of_cat, ends_in_goal}
 use Rattle.regex_meaning.specs.CompilationRelation.{Program, Counters, counters_after_insn, counters_at_start, IsCode, Goal, anchor_insn, word_boundary_insn, BackRef}
 use Rattle.regress_machine.specs.Machine.{LoopData, State, running, result_without_threads, search}
-use Rattle.regress_machine.specs.SearchFindsFirstOutcomeAtPlace.{state_before_first_insn, end_in_offsets, end_of, first_outcome_among_ticks, TreeProgramCanSearchText, sufficient_turns_at}
-use Rattle.regress_machine.specs.SearchFindsFirstOutcomeAtPlace.{FindsFirstOutcome}
+use Rattle.regress_machine.specs.SearchFindsFirstOutcomeAtPlace.{state_before_first_insn, end_in_offsets, end_and_groups_of_state, first_outcome_among_ticks, TreeProgramCanSearchText, sufficient_turns_at, FindsFirstOutcome}
 use Rattle.regress_machine.proofs.MachineSearchLemmas.{search_enough}
 use Rattle.regress_machine.proofs.ThreadYieldLemmas.{Ending, EndIs, found_first, Yields, yields_same, yields_end}
 use Rattle.regress_machine.proofs.NodeCodeOutcomes.{direction_at, state_at, RangeFits, Enters, act_at, Finds, Rising, nothing_finds, cat_finds, alt_finds}
-use Rattle.regress_machine.proofs.SingleCharacterOutcomes.{char_finds, char_set_finds, match_any_finds, match_any_except_line_terminator_finds, bracket_finds}
-use Rattle.regress_machine.proofs.SingleCharacterOutcomes.{insns_rising, char_rising, char_set_rising, byte_set_rising, match_any_rising}
-use Rattle.regress_machine.proofs.SingleCharacterOutcomes.{match_any_except_line_terminator_rising, bracket_rising}
+use Rattle.regress_machine.proofs.SingleCharacterOutcomes.{char_finds, char_set_finds, match_any_finds, match_any_except_line_terminator_finds, bracket_finds, insns_rising, char_rising, char_set_rising, byte_set_rising, match_any_rising, match_any_except_line_terminator_rising, bracket_rising}
 use Rattle.regress_machine.proofs.GroupAndAssertionOutcomes.{anchor_finds, word_boundary_finds, back_ref_finds, capture_group_finds}
 use Rattle.regress_machine.proofs.LookaroundOutcomes.{lookaround_finds}
 use Rattle.regress_machine.proofs.LoopOutcomes.{loop_finds, loop_rising}
@@ -83,7 +77,7 @@ module _ (program : Program) (text : Text) (is_text : HasRisingPlaceOffsets text
 
   -- The state at the end has the end and the groups of the outcome.
   abbrev pub AtEnd : Ending
-  AtEnd o t = end_of t ≡ end_in_offsets text o
+  AtEnd o t = end_and_groups_of_state t ≡ end_in_offsets text o
 
   module _ (unicode : text.unicode ≡ program.flags.unicode) where
     -- The code of a node without a goal finds the outcomes of that node.
@@ -157,10 +151,10 @@ module _ (program : Program) (text : Text) (is_text : HasRisingPlaceOffsets text
         })
     root_finds _ r h one m n p g s ls code enters = cc
 
-same_end : (text : Text) (first : Option Outcome) (e : Option State) → EndIs (λ o t. end_of t ≡ end_in_offsets text o) first e
-    → option_map end_of e ≡ option_map (end_in_offsets text) first
-same_end text None e is = ap (option_map end_of) is
-same_end text (Some o) e is = ap (option_map end_of) is.1 ∙ ap Some is.2
+same_end : (text : Text) (first : Option Outcome) (e : Option State) → EndIs (λ o t. end_and_groups_of_state t ≡ end_in_offsets text o) first e
+    → option_map end_and_groups_of_state e ≡ option_map (end_in_offsets text) first
+same_end text None e is = ap (option_map end_and_groups_of_state) is
+same_end text (Some o) e is = ap (option_map end_and_groups_of_state) is.1 ∙ ap Some is.2
 
 pub searches-find : (program : Program) (tree : Tree) (text : Text) → TreeProgramCanSearchText program tree text → (place : ℕ) → place ≤ last_place text
     → FindsFirstOutcome program tree text place

@@ -1,17 +1,14 @@
 -- Each node of a well-formed tree has the properties that the proof of its code requires.
-use Rattle.std.proofs.Common.{◌≡◌, ℕ, zero, suc, ◌+◌, ◌-◌, ◌<◌, ◌≤◌, List, [], ◌∷◌, ◌++◌, length, Bool, true, false, cond, refl, ap, ◌∙◌, sym, subst}
-use Rattle.std.proofs.Common.{arith, nat_eq, nat_lt, nat_le, ltb→lt, nltb→le, eqb-true, eq-eqb}
+use Rattle.std.proofs.Common.{◌≡◌, ℕ, zero, suc, ◌+◌, ◌-◌, ◌<◌, ◌≤◌, List, [], ◌∷◌, ◌++◌, length, Bool, true, false, cond, refl, ap, ◌∙◌, sym, subst, arith, nat_eq, nat_lt, nat_le, ltb→lt, nltb→le, eqb-true, eq-eqb}
 use Rattle.std.proofs.lemmas.Bool.{eqb-false, le-ltb, or_left, or_right, leb-true}
 use Rattle.std.proofs.lemmas.List.Sums.{sum_by-cons, count_by-le-length}
 use Rattle.std.proofs.lemmas.List.Folds.{list_any-append}
 use Rattle.std.specs.Prelude.{count_by, ◌&&◌, ◌||◌, ◌==◌, if◌then◌else◌, IsTrue}
 use Rattle.std.specs.List.{list_all}
 use Rattle.regex_meaning.specs.NumberListHelpers.{contains, numbers_from}
-use Rattle.regex_meaning.specs.Tree.{Node, char, char_set, byte_set, byte_sequence, cat, alt, bracket, match_any, match_any_except_line_terminator}
-use Rattle.regex_meaning.specs.Tree.{capture_group, back_ref, lookaround, loop, loop_1_char_body, group_ids, every_node_passes}
+use Rattle.regex_meaning.specs.Tree.{Node, char, char_set, byte_set, byte_sequence, cat, alt, bracket, match_any, match_any_except_line_terminator, capture_group, back_ref, lookaround, loop, loop_1_char_body, group_ids, every_node_passes}
 use Rattle.regex_meaning.specs.Text.{Text}
-use Rattle.regex_meaning.specs.WellFormedTrees.{IsWellFormed, range_is_ids_of_enclosed_groups, has_exact_group_range, refers_to_a_group, is_one_character}
-use Rattle.regex_meaning.specs.WellFormedTrees.{has_one_character_body, has_text_in_sequence, set_sizes_and_characters_fit_instructions}
+use Rattle.regex_meaning.specs.WellFormedTrees.{IsWellFormed, range_is_ids_of_enclosed_groups, has_exact_group_range, refers_to_a_group, is_one_character, has_one_character_body, has_text_in_sequence, set_sizes_and_characters_fit_instructions}
 use Rattle.regex_meaning.proofs.WellFormedTreesLemmas.{clauses}
 use Rattle.regress_machine.specs.TextsForBytePrograms.{HasUtf8CharactersAndOffsets, tree_contains_byte_nodes}
 use Rattle.regress_machine.proofs.LoopOutcomes.{AreBelow}
@@ -41,7 +38,7 @@ abbrev pub Distinct : List ℕ → Type 0
 Distinct [] = Unit {0}
 Distinct (x ∷ xs) = (contains xs x ≡ false) × Distinct xs
 
-contains-left : (xs ys : List ℕ) (i : ℕ) → contains xs i ≡ true → contains (xs ++ ys) i ≡ true
+pub contains-left : (xs ys : List ℕ) (i : ℕ) → contains xs i ≡ true → contains (xs ++ ys) i ≡ true
 contains-left xs ys i h = list_any-append (nat_eq i) xs ys ∙ or_left (contains xs i) (contains ys i) h
 
 contains-right : (xs ys : List ℕ) (i : ℕ) → contains ys i ≡ true → contains (xs ++ ys) i ≡ true
@@ -61,7 +58,7 @@ distinct-right (x ∷ xs) ys d = distinct-right xs ys d.1
 abbrev count : ℕ → List ℕ → ℕ
 count id ids = count_by (nat_eq id) ids
 
-abbrev one_if : Bool → ℕ
+abbrev pub one_if : Bool → ℕ
 one_if b = if b then 1 else 0
 
 count-one : (p : ℕ → Bool) (x : ℕ) (xs : List ℕ) → count_by p (x ∷ xs) ≡ one_if (p x) + count_by p xs

@@ -1,8 +1,7 @@
 -- Loops whose body reads nothing.
 use Rattle.std.specs.Prelude.{◌≡◌, ◌<◌, ◌≤◌, ◌⊎◌, ℕ, ◌+◌, ◌-◌, Bool, true, false, [], ◌∷◌, Some, slice_get}
 use Rattle.regex_meaning.specs.Text.{Text, Direction}
-use Rattle.regex_meaning.specs.CompilationRelation.{Program, LoopFields, Insn, Jump, Alt, EnterLoop, LoopAgain, ResetCaptureGroup, BeginCaptureGroup}
-use Rattle.regex_meaning.specs.CompilationRelation.{EndCaptureGroup}
+use Rattle.regex_meaning.specs.CompilationRelation.{Program, LoopFields, Insn, Jump, Alt, EnterLoop, LoopAgain, ResetCaptureGroup, BeginCaptureGroup, EndCaptureGroup}
 use Rattle.regress_machine.specs.Machine.{State, running}
 use Rattle.regress_machine.specs.InsnEffects.{body_entered_with_iteration_count}
 use Rattle.regress_machine.specs.ThreadSimulation.{Simulates}

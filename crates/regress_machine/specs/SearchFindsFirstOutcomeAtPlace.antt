@@ -36,8 +36,8 @@ abbrev pub end_in_offsets : Text → Outcome → ℕ × Groups
 end_in_offsets text o = (offset text o.end, groups_in_offsets text o.groups)
 
 -- The end and the groups of a state, as offsets.
-abbrev pub end_of : State → ℕ × Groups
-end_of s = (s.pos, s.groups)
+abbrev pub end_and_groups_of_state : State → ℕ × Groups
+end_and_groups_of_state s = (s.pos, s.groups)
 
 -- The program is the code of the tree, which is well formed, and can search the text.
 pub record TreeProgramCanSearchText (program : Program) (tree : Tree) (text : Text) : Type 0 where
@@ -59,7 +59,7 @@ pub record FindsFirstOutcome (program : Program) (tree : Tree) (text : Text) (pl
   pub searches : search program text (sufficient_turns_at tree text place) rightwards
       (running (state_before_first_insn program (offset text place)) ∷ []) ≡ Some found
   pub steps : found.steps ≡ ticks_to_first (items_at tree text place)
-  pub end : option_map end_of found.end ≡ option_map (end_in_offsets text)
+  pub end : option_map end_and_groups_of_state found.end ≡ option_map (end_in_offsets text)
       (first_outcome_among_ticks (items_at tree text place))
 
 -- Searches from all places of a text find the first outcome.
@@ -79,7 +79,7 @@ SearchResultIsMatchAtPlace = (program : Program) (tree : Tree) (text : Text)
     → TreeProgramCanSearchText program tree text
     → (place : ℕ) → place ≤ last_place text → (turns : ℕ) (f : Found)
     → search program text turns rightwards (running (state_before_first_insn program (offset text place)) ∷ []) ≡ Some f
-    → option_map end_of f.end ≡ option_map (match_in_offsets text) (match_at tree.root text place)
+    → option_map end_and_groups_of_state f.end ≡ option_map (match_in_offsets text) (match_at tree.root text place)
 
 -- The ticks of places that are tried one after another are the steps of the search from the first
 -- one and, if it fails, the ticks of the others.

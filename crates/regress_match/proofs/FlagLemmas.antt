@@ -1,7 +1,7 @@
 -- Flags are read from their letters one by one, and written as the letters of those that are set.
 use Rattle.std.proofs.Common.{◌≡◌, ℕ, List, [], ◌∷◌, ◌++◌, Bool, true, false, refl, ap, ap₂, sym, ◌∙◌, nat_eq, eq-eqb, ne_eqb, eqb-true, append_assoc}
 use Rattle.std.proofs.lemmas.Bool.{eqb-false}
-use Rattle.std.specs.Prelude.{◌||◌, Result, Ok, Err, IfOk, IfErr}
+use Rattle.std.specs.Prelude.{◌||◌, Result, Ok, Err, IfErr}
 use Rattle.regex_meaning.specs.Tree.{Flags}
 use Rattle.regex_meaning.specs.FlagLettersAndEscaping.{letter_if_flag_set, flags_from_letters, flags_text}
 use Rattle.std.specs.List.{list_any}
@@ -17,10 +17,6 @@ either_way x n = by (nat_eq n x) refl
 pub contains-by : (n : ℕ) (xs : List ℕ) → list_any (λ y. nat_eq y n) xs ≡ contains xs n
 contains-by n [] = refl
 contains-by n (x ∷ xs) = ap₂ (λ a b. a || b) (either_way x n) (contains-by n xs)
-
-pub IfOk-map : {T E : Type 0} (r : Result T E) (P Q : T → Type 0) → ((x : T) → P x → Q x) → IfOk r P → IfOk r Q
-IfOk-map (Ok x) P Q f h = f x h
-IfOk-map (Err e) P Q f h = tt
 
 pub IfErr-map : {T E : Type 0} (r : Result T E) (P Q : E → Type 0) → ((x : E) → P x → Q x) → IfErr r P → IfErr r Q
 IfErr-map (Ok x) P Q f h = tt

@@ -7,8 +7,7 @@ use Rattle.regex_meaning.specs.ReadingStatesAndDigits.{RemainingCodePoints, â—Œâ
 use Rattle.regex_meaning.specs.Grammar.{PatternDialect, ParsesBy, pattern_is, lookaround_opener}
 use Rattle.regex_meaning.specs.EcmaGrammarWithAnnexB.{ecmascript}
 use Rattle.regex_meaning.specs.GroupNameScan.{name_of_opened_group, scanned_names_per_capturing_group}
-use Rattle.regex_meaning.specs.GroupOpeningScanWithoutParsing.{texts_after_parentheses, OpensGroups, no_parenthesis, opens_plain_group, opens_lookaround}
-use Rattle.regex_meaning.specs.GroupOpeningScanWithoutParsing.{opens_group, opens_named_group}
+use Rattle.regex_meaning.specs.GroupOpeningScanWithoutParsing.{texts_after_parentheses, OpensGroups, no_parenthesis, opens_plain_group, opens_lookaround, opens_group, opens_named_group}
 use Rattle.regex_meaning.proofs.DisjunctionReadingLemmas.{IsReadInOneWay, rest_of}
 use Rattle.regex_meaning.proofs.EcmaClassAndAtomLemmas.{ecmascript-reads}
 use Rattle.regex_meaning.proofs.EcmaGrammarLemmas.{groups-are-found, groups-are-named}

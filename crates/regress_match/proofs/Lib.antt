@@ -8,6 +8,7 @@ pub mod FlagLemmas
 pub mod GrammarTreeLemmas
 pub mod CompileErrorLemmas
 pub mod StringClosureLemmas
+pub mod PatternSearchLemmas
 pub mod SearchResultLemmas
 pub mod SearchStartLemmas
 pub mod ResumingLemmas

@@ -1,8 +1,7 @@
 -- Matches lie in the text in order, and a loop over them keeps this as its invariant.
 use Rattle.std.proofs.Common.{◌≡◌, ℕ, zero, suc, ◌+◌, ◌≤◌, List, [], ◌∷◌, max, sym, ◌∙◌, ap, subst, arith, IsCharBoundary}
 use Rattle.std.proofs.lemmas.Str.{IsCharBoundary-start}
-use Rattle.std.specs.Prelude.{Bool, true, false, nat_le, if◌then◌else◌, IsAscii, Result, Ok, Option, Some, None, IsUtf8, IfSome, map, option_map}
-use Rattle.std.specs.Prelude.{slice_get, unwrap_or}
+use Rattle.std.specs.Prelude.{Bool, true, false, nat_le, if◌then◌else◌, IsAscii, Result, Ok, Option, Some, None, IsUtf8, IfSome, map, option_map, slice_get, unwrap_or}
 use Rattle.std.specs.Option.{option_or}
 use Rattle.regex_meaning.specs.Tree.{Node}
 use Rattle.regex_meaning.specs.Text.{utf8_text}

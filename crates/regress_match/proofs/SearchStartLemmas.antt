@@ -1,10 +1,10 @@
 -- An offset from which a search may start is a boundary of the text or past its end.
-use Rattle.std.proofs.Common.{◌≡◌, ℕ, ◌<◌, ◌⊎◌, inl, inr, ◌≤◌, List, length, nat_le, Bool, true, false, IsUtf8, IsCharBoundary, IsTrue, sym, ◌∙◌, ap}
-use Rattle.std.proofs.Common.{subst, arith}
+use Rattle.std.proofs.Common.{◌≡◌, ℕ, ◌<◌, ◌⊎◌, inl, inr, ◌≤◌, List, length, nat_le, Bool, true, false, IsUtf8, IsCharBoundary, IsTrue, sym, ◌∙◌, ap, subst, arith}
 use Rattle.std.proofs.lemmas.Bool.Decides.{leb_tells}
 use Rattle.regex_meaning.specs.Text.{Text, utf8_text, ascii_text, utf16_text, ucs2_text, fold_ascii, fold_code_point, width_of_single_unit_character, is_unit_boundary}
 use Rattle.regex_meaning.specs.CodeUnitOffsets.{IsBoundary, units, IsBoundaryOrPastEnd}
-use Rattle.regex_meaning.proofs.UnitBoundaryLemmas.{AreUnits, unit_boundary-place_at, units-utf16}
+use Rattle.regex_meaning.specs.CodeUnits.{AreU16Units}
+use Rattle.regex_meaning.proofs.UnitBoundaryLemmas.{unit_boundary-place_at, units-utf16}
 use Rattle.regex_meaning.proofs.CodeUnitLengthLemmas.{utf8_text-units, ascii_text-units, ucs2_text-units}
 use Rattle.regress_input.proofs.OneUnitCharacters.{boundary}
 use Rattle.regress_input.proofs.SpelledTextLemmas.{text_of}
@@ -45,7 +45,7 @@ module _ (text : Text) (us : List ℕ) (unicode : Bool) (same : text ≡ ucs2_te
   pub ucs2_start : (start : ℕ) → IsBoundaryOrPastEnd text start
   ucs2_start = one-start text us unicode (fold_code_point unicode) same ucs2_units
 
-module _ (text : Text) (us : List ℕ) (unicode : Bool) (same : text ≡ utf16_text us unicode) (small : AreUnits us) where
+module _ (text : Text) (us : List ℕ) (unicode : Bool) (same : text ≡ utf16_text us unicode) (small : AreU16Units us) where
   pub utf16_units : units text ≡ length us
   utf16_units = ap units same ∙ units-utf16 us unicode small
 

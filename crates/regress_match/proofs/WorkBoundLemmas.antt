@@ -1,6 +1,5 @@
 -- Searches within a work budget return the matches in order, and no bound exceeds the stated limit.
-use Rattle.std.proofs.Common.{◌≡◌, ◌≤◌, ◌<◌, ◌⊎◌, ◌+◌, ◌*◌, ℕ, suc, Bool, List, [], ◌∷◌, length, max, true, false, refl, sym, ap, ◌∙◌, subst, inl, inr, nat_le, nat_lt}
-use Rattle.std.proofs.Common.{if◌then◌else◌, arith}
+use Rattle.std.proofs.Common.{◌≡◌, ◌≤◌, ◌<◌, ◌⊎◌, ◌+◌, ◌*◌, ℕ, suc, Bool, List, [], ◌∷◌, length, max, true, false, refl, sym, ap, ◌∙◌, subst, inl, inr, nat_le, nat_lt, if◌then◌else◌, arith}
 use Rattle.std.specs.Arc.{arc_value}
 use Rattle.std.specs.List.{fold}
 use Rattle.std.specs.Prelude.{Option, Some, None, Result, Ok, Err, IfErr, IsErrAnd, slice_get, unwrap_or}
@@ -27,8 +26,7 @@ use Rattle.regress_bounded.specs.Unboundedness.{HasNoLookaroundOrBackreference, 
 use Rattle.regress_bounded.specs.declared.work_bound.Unbounded.{Unbounded}
 use Rattle.regress_bounded.specs.WorkBoundForAllMatches.{TreeHasWorkBound, IsWorkBoundOfTree, most_memo_codes_per_insn, program_size}
 use Rattle.regress_bounded.specs.declared.work_bound.WorkBound.{WorkBound}
-use Rattle.regress_match.specs.WorkBounds.{WorkLimitedNextResult, ResultsAreMatchesWithinWork, BoundedView, NextCallsYieldWithinWork, SearchesReturnMatchesWithinWork, WorkPerUnitLimitSuffices}
-use Rattle.regress_match.specs.WorkBounds.{NextCallsYieldAtTotalCost, IsNoAllocationFailure, NextCallsYieldAtCost, CallCostsAreWorkSpent}
+use Rattle.regress_match.specs.WorkBounds.{WorkLimitedNextResult, ResultsAreMatchesWithinWork, BoundedView, NextCallsYieldWithinWork, SearchesReturnMatchesWithinWork, WorkPerUnitLimitSuffices, NextCallsYieldAtTotalCost, IsNoAllocationFailure, NextCallsYieldAtCost, CallCostsAreWorkSpent}
 use Rattle.regress_match.specs.WorkBounds.{IsPatternUnboundedBy, YieldsMatchesIfWorkSuffices, enough_work_for_text, max_of_two, work_per_unit_limit}
 use Rattle.regress_match.specs.ProgramTreesAndAnswers.{tree_for_byte_units, tree_for_16_bit_units}
 use Rattle.regress_match.specs.declared.api.regex.Regex.{Regex}

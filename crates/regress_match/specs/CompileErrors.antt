@@ -65,6 +65,6 @@ IsPatternRefusedWithSyntax s flags pattern Memory = Unit {0}
 abbrev pub IsPatternRefusedWith : Flags → (pattern : List ℕ) → Error → Type 0
 IsPatternRefusedWith = IsPatternRefusedWithSyntax profile
 
--- The error is an allocation failure. A search without a step limit has no other error.
+-- The error is `Memory`. A search without a step limit has no other error.
 abbrev pub IsOutOfMemory : SearchError → Type 0
 IsOutOfMemory e = e ≡ search.Memory

@@ -1,4 +1,5 @@
--- The statement of the main theorem: what a search yields.
+-- What a search yields: the matches of the tree that its program runs. The main theorem,
+-- `SearchesReturnMatchesOfPattern` (`Laws`), says that these are the matches of the pattern.
 use Rattle.std.specs.Prelude.{◌≡◌, ℕ, List, [], ◌∷◌, false, Option, Some, None, Result, Ok, Err}
 use Rattle.regex_meaning.specs.Tree.{Tree}
 use Rattle.regex_meaning.specs.Text.{Text}
@@ -36,9 +37,8 @@ abbrev pub AreAllResultsNone : {A : Type 0} → List (Option A) → Type 0
 AreAllResultsNone [] = Unit {0}
 AreAllResultsNone (r ∷ rs) = (r ≡ None) × AreAllResultsNone rs
 
--- The results are the matches of the list, one after another. After the last match, and only then,
--- each call returns `None`. The only error is an allocation failure. The matches before it are a
--- prefix of the list, and each call after it returns `None`.
+-- The results are the matches of the list, one after another, and then `None` for good. The only error is
+-- `Memory`: the matches before it are a prefix of the list, and `None` follows it for good.
 abbrev pub ResultsAreMatchesInOrder : List Answer → List NextResult → Type 0
 ResultsAreMatchesInOrder matches [] = Unit {0}
 ResultsAreMatchesInOrder matches (Some (Ok m) ∷ rs) = (rest : List Answer) × (matches ≡ answer_of m ∷ rest)

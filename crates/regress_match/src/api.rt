@@ -19,8 +19,8 @@ pub use self::flags::Flags;
 pub use self::laws::{
     call_costs_are_work_spent, matches_lie_in_text_in_order,
     searches_follow_the_ecmascript_pattern, searches_follow_the_pattern,
-    searches_return_matches_in_order, searches_return_matches_within_work,
-    work_per_unit_limit_suffices,
+    searches_return_matches_in_order, searches_return_matches_of_pattern,
+    searches_return_matches_within_work, work_per_unit_limit_suffices,
 };
 pub use self::regex::{AsciiMatches, LimitedMatches, Matches, Regex};
 pub use self::replace::replacing_by_match_keeps_text;

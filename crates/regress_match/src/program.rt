@@ -37,8 +37,9 @@ struct Arguments<'a> {
 /// `--es2018` precedes these three words, the pattern is one of `Syntax::EcmaScript2018`, and
 /// otherwise one of `Syntax::Profile`. Each match is written to `out` as one line, before the next
 /// match is searched for: the range in bytes and the ranges of the groups, with `-` for a group
-/// that did not match. A refusal is written to `err` as one line. If a line cannot be written, the
-/// program ends and writes nothing more.
+/// that did not match. A refusal is written to `err` as one line, and a syntax error as two: the
+/// line of the pattern, and a `^` below the position of the error. If a line cannot be written,
+/// the program ends and writes nothing more.
 pub fn run<W: Write, W2: Write>(
     alloc: Global,
     words: &[Option<String>],
@@ -51,7 +52,10 @@ pub fn run<W: Write, W2: Write>(
     let flags = Flags::from(arguments.flags);
     match Regex::with_syntax(alloc, arguments.pattern, flags, arguments.syntax) {
         Ok(re) => print_matches(&re, arguments.text, out, err),
-        Err(error) => print_refusal(err, &error),
+        Err(error) => match error.diagnosis() {
+            Some(diagnosis) => print_refusal(err, &diagnosis.below_text(arguments.pattern)),
+            None => print_refusal(err, &error),
+        },
     }
 }
 
@@ -86,7 +90,7 @@ fn read_pattern_flags_and_text<'a>(
     })
 }
 
-// Writes one line with the reason why there is no result.
+// Writes the reason why there is no result, and returns the exit status.
 fn print_refusal<W: Write, E: Display>(err: &mut W, why: &E) -> u8 {
     let _ = writeln!(err, "{why}");
     EXIT_STATUS_REFUSED

@@ -9,6 +9,7 @@ use Rattle.regex_meaning.specs.Text.{Text, rightwards}
 use Rattle.regex_meaning.specs.CodeUnitOffsets.{units}
 use Rattle.regex_meaning.specs.CompilationRelation.{Program}
 use Rattle.regex_meaning.proofs.BoolLemmas.{and-left, and-right}
+use Rattle.regex_meaning.proofs.EachElementLemmas.{Each-left, Each-right}
 use Rattle.regress_machine.specs.Machine.{Thread}
 use Rattle.regress_memo.specs.Liveness.{Liveness, IsLivenessFor}
 use Rattle.regress_memo.specs.DistinctLists.{IsIn}
@@ -16,7 +17,7 @@ use Rattle.regress_memo.specs.MemoSearch.{Key, Keys, Entry, one_thread, thread_g
 use Rattle.regress_memo.specs.AllMatchesWork.{Searched, at_first, failed, found, AllMatchesWorkIsBounded, AllMatchesWorkIsLinear}
 use Rattle.regress_memo.specs.ThreadPotentials.{place_keys}
 use Rattle.regress_memo.proofs.ThreadPotentialLemmas.{places-keys}
-use Rattle.regress_memo.proofs.DistinctListLemmas.{Each-left, Each-right, distinct-left, distinct-right, price-few}
+use Rattle.regress_memo.proofs.DistinctListLemmas.{distinct-left, distinct-right, price-few}
 use Rattle.regress_memo.proofs.MemoSearchLemmas.{work-is-bounded, turns-go-on}
 
 -- `times` adds up the prices of keys, each times the cover of its offset.

@@ -1,6 +1,5 @@
 -- Each step of a memoized search keeps its threads keyed, and potentials or key costs cover it.
-use Rattle.std.proofs.Common.{◌≡◌, ◌≤◌, ◌<◌, ◌^◌, ℕ, ◌+◌, Bool, true, false, List, [], ◌∷◌, ◌++◌, length, Option, Some, None, refl, sym, ap, ◌∙◌}
-use Rattle.std.proofs.Common.{subst, arith, append_assoc, if◌then◌else◌}
+use Rattle.std.proofs.Common.{◌≡◌, ◌≤◌, ◌<◌, ◌^◌, ℕ, ◌+◌, Bool, true, false, List, [], ◌∷◌, ◌++◌, length, Option, Some, None, refl, sym, ap, ◌∙◌, subst, arith, append_assoc, if◌then◌else◌}
 use Rattle.std.proofs.lemmas.List.{length-replicate}
 use Rattle.regex_meaning.specs.Laws.{Each}
 use Rattle.regex_meaning.proofs.EachElementLemmas.{Each-append}
@@ -27,10 +26,8 @@ use Rattle.regress_memo.proofs.MemoSearchLemmas.{threads-tries, threads-joined, 
 use Rattle.regress_memo.specs.declared.analysis_result.MemoAnalysis.{MemoAnalysis}
 use Rattle.regress_memo.specs.UnreachedCharLoopBodies.{IsNotLoopBody}
 use Rattle.regress_memo.specs.WorkBound.{IsWorkBounded, initial_threads}
-use Rattle.regress_memo.specs.AnalysisAsPotentials.{insn_analysis_of, analysis_as_liveness, key_code_questions_of, recorded, potentials_of}
-use Rattle.regress_memo.specs.AnalysisAsPotentials.{key_cost_of}
-use Rattle.regress_memo.specs.AnalysisAsPotentials.{insn_direction}
-use Rattle.regress_memo.specs.CheckedAnalysis.{IsAnalysisOf, ip_of, Serves}
+use Rattle.regress_memo.specs.AnalysisAsPotentials.{insn_analysis_of, analysis_as_liveness, key_code_questions_of, recorded, potentials_of, key_cost_of, insn_direction}
+use Rattle.regress_memo.specs.CheckedAnalysis.{IsAnalysisOf, ip_of, IsMemoPlanForText}
 use Rattle.regress_memo.proofs.UnreachedLoopBodyLemmas.{bodies-apart}
 use Rattle.regress_memo.proofs.InsnsOutsideLoops.{starts-outside}
 use Rattle.regress_memo.proofs.SearchDirectionLemmas.{ways-stay}
@@ -93,7 +90,7 @@ module _ (program : Program) (t : MemoAnalysis) (of : IsAnalysisOf program t) (b
   abbrev Come : (work : ℕ) → List Key → List Entry → Type 0
   Come work now row = ReachesEntries program text t d memory first work now row
 
-  abbrev served : Serves program t text
+  abbrev served : IsMemoPlanForText program t text
   served = ledgers-serve program t of text is_text bytes less
 
   -- The threads that a step of a keyed state leaves are keyed.

@@ -2,12 +2,11 @@
 -- step.
 use Rattle.std.proofs.Common.{◌≡◌, ◌<◌, ◌^◌, ℕ, ◌+◌, true, false, List, Option, Some, None, ap, ◌∙◌, sym, subst, map, slice_get}
 use Rattle.std.proofs.lemmas.Bool.{le-leb, lt-leb}
-use Rattle.regex_meaning.specs.CompilationRelation.{Program, Insn, Goal, JustFail, Alt, EnterLoop, LoopAgain, ResetCaptureGroup, Loop1CharBody, BeginCaptureGroup}
-use Rattle.regex_meaning.specs.CompilationRelation.{EndCaptureGroup, BackRef, Lookahead, Lookbehind}
+use Rattle.regex_meaning.specs.CompilationRelation.{Program, Insn, Goal, JustFail, Alt, EnterLoop, LoopAgain, ResetCaptureGroup, Loop1CharBody, BeginCaptureGroup, EndCaptureGroup, BackRef, Lookahead, Lookbehind}
 use Rattle.regex_meaning.specs.CompilationRelation as layout
 use Rattle.regress_program.specs.InsnsAsSpec.{insn_as_spec_insn}
 use Rattle.regress_program.specs.declared.instructions.Insn as declared
-use Rattle.regress_memo.specs.Liveness.{Enters, IsRepeated, IsConsistentLookaround, IsSoundLivenessAt}
+use Rattle.regress_memo.specs.Liveness.{IsConsistentIterationStart, IsRepeated, IsConsistentLookaround, IsSoundLivenessAt}
 use Rattle.regress_memo.specs.SkippedLookarounds.{lookaround_at}
 use Rattle.regress_memo.specs.SkippedLookarounds as behind
 use Rattle.regress_memo.specs.GroupPreservingInsns.{IsSilentAt, IsSilentAgain}
@@ -17,9 +16,7 @@ use Rattle.regress_memo.specs.declared.analysis_result.LoopProgressFact.TheVaria
 use Rattle.regress_memo.specs.declared.successors.LookaroundSuccessor as look
 use Rattle.regress_memo.specs.declared.successors.Successors.{Successors}
 use Rattle.regress_memo.specs.declared.successors.Successors.TheVariants.{Ends, One, Two, Enter, Again, Run, LookaroundSuccessor, Same}
-use Rattle.regress_memo.specs.AnalysisAsPotentials.{insn_analysis_of, enclosing_loops_of, states_loop_fact, analysis_as_liveness, potentials_of}
-use Rattle.regress_memo.specs.AnalysisAsPotentials.{groups_stay_unchanged_from}
-use Rattle.regress_memo.specs.AnalysisAsPotentials.{insn_direction}
+use Rattle.regress_memo.specs.AnalysisAsPotentials.{insn_analysis_of, enclosing_loops_of, states_loop_fact, analysis_as_liveness, potentials_of, groups_stay_unchanged_from, insn_direction}
 use Rattle.regress_memo.specs.Successors.{DeclaredInsnsEqualProgramInsns, successors_of_insn_if_any}
 use Rattle.regress_memo.specs.AnalysisChecks.{MayBeginIteration, MayRepeatLoopAt, IsolatesLookaround, IsConsistentAt, IsCoveredAt}
 use Rattle.regress_memo.proofs.LoopFactFlowLemmas.{holds-in, below-from}
@@ -34,7 +31,7 @@ module _ (t : MemoAnalysis) (program : Program) where
   -- ---- The analysis as liveness
 
   module _ (top : ℕ) (less : top < 2 ^ 63) where
-    enters : (f : layout.LoopFields) (ip begin : ℕ) → MayBeginIteration t f ip begin → Enters (analysis_as_liveness t) f ip begin
+    enters : (f : layout.LoopFields) (ip begin : ℕ) → MayBeginIteration t f ip begin → IsConsistentIterationStart (analysis_as_liveness t) f ip begin
     enters f ip begin h = record {
       again = h.again.liveness;
       leave = h.leave.liveness;

@@ -8,8 +8,7 @@ use Rattle.regress_memo.specs.MemoSearch.{Key}
 use Rattle.regress_memo.proofs.LoopDataKeyCodeLemmas.{digits-same}
 use Rattle.regress_memo.specs.declared.analysis_result.InsnAnalysis.{InsnAnalysis}
 use Rattle.regress_memo.specs.declared.analysis_result.MemoAnalysis.{MemoAnalysis}
-use Rattle.regress_memo.specs.AnalysisAsPotentials.{insn_analysis_of, memo_codes_before_insn, number_of_memo_codes_at_insn}
-use Rattle.regress_memo.specs.AnalysisAsPotentials.{memo_bit_index_of_key}
+use Rattle.regress_memo.specs.AnalysisAsPotentials.{insn_analysis_of, memo_codes_before_insn, number_of_memo_codes_at_insn, memo_bit_index_of_key}
 use Rattle.regress_memo.specs.CheckedAnalysis.{HasDisjointCodes, IsRecordableMemoKey, KeysHaveDistinctBits}
 
 module _ (t : MemoAnalysis) (coded : HasDisjointCodes t) where

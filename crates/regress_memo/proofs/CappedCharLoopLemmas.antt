@@ -15,8 +15,7 @@ use Rattle.regress_memo.specs.LoopDataKeyCodes.{Question, plan_code, key_of}
 use Rattle.regress_memo.specs.UnboundedCharLoopMemoKeys.{plan_keys}
 use Rattle.regress_memo.specs.AmortizedStepCosts.{potential_by, AreCostsCovered}
 use Rattle.regress_memo.specs.MemoPlanChecksAndGuarantees.{IsPlan}
-use Rattle.regress_memo.specs.CappedCharLoops.{LimitedRunIsPaid, ScanIsPaid, EndIsPaid, ScanGives, BoundedLoopCostsAreCovered}
-use Rattle.regress_memo.specs.CappedCharLoops.{CharLoopScansAreMemoSteps, LookaroundCostsAreCovered}
+use Rattle.regress_memo.specs.CappedCharLoops.{LimitedRunIsPaid, ScanIsPaid, EndIsPaid, ScanGives, BoundedLoopCostsAreCovered, CharLoopScansAreMemoSteps, LookaroundCostsAreCovered}
 use Rattle.regress_memo.proofs.RightwardStepLemmas.{turns-move-on}
 use Rattle.regress_memo.proofs.StepCostLemmas.{tries-weigh, one-weighs}
 use Rattle.regress_memo.proofs.MemoPlanLemmas.{bare-tries, own}

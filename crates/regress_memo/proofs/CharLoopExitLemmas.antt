@@ -1,7 +1,6 @@
 -- The threads that a char loop leaves from a position on include those that it leaves from later
 -- positions.
-use Rattle.std.proofs.Common.{◌≡◌, ℕ, zero, suc, ◌+◌, ◌-◌, ◌≤◌, min, List, [], ◌∷◌, ◌++◌, map, cond, Bool, true, false, refl, ap, ap₂, ◌∙◌, sym}
-use Rattle.std.proofs.Common.{arith}
+use Rattle.std.proofs.Common.{◌≡◌, ℕ, zero, suc, ◌+◌, ◌-◌, ◌≤◌, min, List, [], ◌∷◌, ◌++◌, map, cond, Bool, true, false, refl, ap, ap₂, ◌∙◌, sym, arith}
 use Rattle.std.specs.Prelude.{if◌then◌else◌}
 use Rattle.std.specs.List.{prefix_len}
 use Rattle.std.proofs.lemmas.List.{map-append}
@@ -12,8 +11,7 @@ use Rattle.regress_machine.specs.Machine.{State, running, waiting, scans, first_
 use Rattle.regress_machine.proofs.NearestCharacterLemmas.{Beside, nothing_left, one_more, beside, length-nearest, moved-suc, moved-zero}
 use Rattle.regress_machine.specs.CharLoopExitStatesByPreference.{behind, fewest_first, most_first}
 use Rattle.regress_machine.proofs.CharLoopExitStateLemmas.{most-parts, most-first, behind-from, fewest-from, run-turn}
-use Rattle.regress_memo.specs.CharLoopExitThreadLists.{passing, greedy_loop_threads, lazy_loop_threads, LazyRunGoesOn, CharLoopYieldsExits}
-use Rattle.regress_memo.specs.CharLoopExitThreadLists.{GreedyThreadsSplit, LazyCharLoopThreadsUnfold}
+use Rattle.regress_memo.specs.CharLoopExitThreadLists.{passing, greedy_loop_threads, lazy_loop_threads, LazyRunGoesOn, CharLoopYieldsExits, GreedyThreadsSplit, LazyCharLoopThreadsUnfold}
 
 turn-joined : (xs ys : List State) → (xs ≡ [] → ⊥) → first_running_and_others_waiting (xs ++ ys) ≡ first_running_and_others_waiting xs ++ map waiting ys
 turn-joined [] ys some = absurd (some refl)

@@ -1,9 +1,8 @@
 -- The threads that a char loop without a maximum leaves from a position on have a key.
-use Rattle.std.proofs.Common.{◌≡◌, ◌≤◌, ◌<◌, ℕ, suc, ◌+◌, ◌-◌, ◌*◌, ◌/◌, ◌%◌, List, [], ◌∷◌, ◌++◌, map, Option, Some, None, Bool, true, false, not}
-use Rattle.std.proofs.Common.{refl, ap, ap₂, ◌∙◌, sym, subst, arith, slice_get, add-one}
+use Rattle.std.proofs.Common.{◌≡◌, ◌≤◌, ◌<◌, ℕ, suc, ◌+◌, ◌-◌, ◌*◌, ◌/◌, ◌%◌, List, [], ◌∷◌, ◌++◌, map, Option, Some, None, Bool, true, false, not, refl, ap, ap₂, ◌∙◌, sym, subst, arith, slice_get, add-one}
 use Rattle.std.specs.Prelude.{if◌then◌else◌, ◌==◌, option_map, unwrap_or}
 use mathlib.Core.Logic.{inl, inr}
-use Rattle.std.proofs.lemmas.Bool.{eqb-true, eqb-false, lt-ltb, le-leb}
+use Rattle.std.proofs.lemmas.Bool.{eqb-true, eqb-false, lt-ltb, le-leb, and_from}
 use Rattle.regex_meaning.specs.NumberListHelpers.{numbers_from}
 use Rattle.regex_meaning.specs.Text.{Text, Direction, last_place}
 use Rattle.regex_meaning.specs.CodeUnitOffsets.{HasRisingPlaceOffsets, offset, place_at, units}
@@ -22,16 +21,13 @@ use Rattle.regress_memo.specs.MemoKeys.{IsSoundState}
 use Rattle.regress_memo.specs.DistinctLists.{IsIn}
 use Rattle.regress_memo.specs.MemoSearch.{Key, Keys, AreSound}
 use Rattle.regress_memo.specs.ThreadPotentials.{Shape, stands_there, has_shape}
-use Rattle.regress_memo.specs.LoopDataKeyCodes.{Question, is_empty, how_many, number_of_possible_answers, bool_as_digit, answer_to_loop_question, code_of, codes_of}
-use Rattle.regress_memo.specs.LoopDataKeyCodes.{plan_code, plan_codes, HasSlotsOfProgram}
+use Rattle.regress_memo.specs.LoopDataKeyCodes.{Question, is_empty, how_many, number_of_possible_answers, bool_as_digit, answer_to_loop_question, code_of, codes_of, plan_code, plan_codes, HasSlotsOfProgram}
 use Rattle.regress_memo.specs.CharLoopExitThreadLists.{passing, greedy_loop_threads, pending_loop_threads}
-use Rattle.regress_memo.specs.UnboundedCharLoopMemoKeys.{answer_after_read_char, code_after_read_char, first_runs, shape_on, run_row, char_loop_greediness_at, insn_before, row_by, plan_rows}
-use Rattle.regress_memo.specs.UnboundedCharLoopMemoKeys.{CharLoopRecords}
-use Rattle.regress_memo.specs.UnboundedCharLoopMemoKeys.{run_key, plan_keys, IsOfPlan, RunHasKeys, CharLoopsHaveKeys}
+use Rattle.regress_memo.specs.UnboundedCharLoopMemoKeys.{answer_after_read_char, code_after_read_char, first_runs, shape_on, run_row, char_loop_greediness_at, insn_before, row_by, plan_rows, CharLoopRecords, run_key, plan_keys, IsOfPlan, RunHasKeys, CharLoopsHaveKeys}
 use Rattle.regress_memo.proofs.LivenessLemmas.{moves-on, not-here}
 use Rattle.regress_memo.proofs.MemoKeyLemmas.{sound-state}
 use Rattle.regress_memo.proofs.CharLoopExitLemmas.{passing-left}
-use Rattle.regress_memo.proofs.LoopDataKeyCodeLemmas.{digits-same, answer-below, code-below, and-both, way-same, stands-here}
+use Rattle.regress_memo.proofs.LoopDataKeyCodeLemmas.{digits-same, answer-below, code-below, way-same, stands-here}
 
 -- ---- Codes behind a char loop
 
@@ -56,11 +52,11 @@ module _ (program : Program) (code : State → ℕ) (f : ℕ → Shape) (b : ℕ
 
   waiting-row : (ns : List ℕ) → Each Stands ns → has_shape program code (map f ns) (map waiting (map b ns)) ≡ true
   waiting-row [] h = refl
-  waiting-row (n ∷ ns) h = and-both _ _ (ap not h.0.1) (and-both _ _ h.0.0 (waiting-row ns h.1))
+  waiting-row (n ∷ ns) h = and_from _ _ (ap not h.0.1) (and_from _ _ h.0.0 (waiting-row ns h.1))
 
   row-in-turn : (ns : List ℕ) → Each Stands ns → has_shape program code (first_runs (map f ns)) (first_running_and_others_waiting (map b ns)) ≡ true
   row-in-turn [] h = refl
-  row-in-turn (n ∷ ns) h = and-both _ _ h.0.0 (waiting-row ns h.1)
+  row-in-turn (n ∷ ns) h = and_from _ _ h.0.0 (waiting-row ns h.1)
 
 -- ---- Rows of sound states
 
@@ -162,9 +158,9 @@ module _ (program : Program) (text : Text) (a : Liveness) (d : Direction) (test 
         let below = code-below behind-it (at-place 0) in
         record {
           is_of =
-              and-both _ _ (lt-ltb (code (at-place 0)) (plan_codes questions (s.ip + 1)) (subst (λ qs. code (at-place 0) < codes_of qs) (sym r.asks) below))
-              (and-both _ _ (le-leb (offset text place) (units text) (offset-inside text is place))
-              (and-both _ _ r.records (and-both _ _ (way-same (way (s.ip + 1)) d r.goes) (ap (λ row. has_shape program code row ts) (row-is greedy r) ∙ stand))));
+              and_from _ _ (lt-ltb (code (at-place 0)) (plan_codes questions (s.ip + 1)) (subst (λ qs. code (at-place 0) < codes_of qs) (sym r.asks) below))
+              (and_from _ _ (le-leb (offset text place) (units text) (offset-inside text is place))
+              (and_from _ _ r.records (and_from _ _ (way-same (way (s.ip + 1)) d r.goes) (ap (λ row. has_shape program code row ts) (row-is greedy r) ∙ stand))));
           sound = sound;
         }
 

@@ -3,7 +3,7 @@ use Rattle.std.proofs.Common.{◌≡◌, ◌≤◌, ℕ, ◌+◌, List, [], ◌�
 use mathlib.Core.Logic.{inl, inr}
 use Rattle.std.proofs.lemmas.List.Sums.{sum_by-cons, sum_by-append}
 use Rattle.regex_meaning.specs.Laws.{Each}
-use Rattle.regex_meaning.proofs.EachElementLemmas.{Each-append}
+use Rattle.regex_meaning.proofs.EachElementLemmas.{Each-append, Each-left, Each-right}
 use Rattle.regress_memo.specs.DistinctLists.{IsIn, IsNew, AreDistinct, AreIn}
 use Rattle.regress_memo.specs.MemoSearch.{DistinctKeysCostAtMostList}
 
@@ -33,10 +33,10 @@ module _ {K : Type 0} where
   are-without k all h [] new there = tt
   are-without k all h (i ∷ ks) new there = (in-without k all h i new.0 there.0, are-without k all h ks new.1 there.1)
 
-  few-price : (price : K → ℕ) (ks all : List K) → AreDistinct ks → AreIn ks all → sum_by price ks ≤ sum_by price all
-  few-price price [] all distinct there = omega arith
-  few-price price (k ∷ ks) all distinct there =
-      let less = few-price price ks (without k all there.0) distinct.1 (are-without k all there.0 ks distinct.0 there.1) in
+  pub price-few : (price : K → ℕ) (ks all : List K) → AreDistinct ks → AreIn ks all → sum_by price ks ≤ sum_by price all
+  price-few price [] all distinct there = omega arith
+  price-few price (k ∷ ks) all distinct there =
+      let less = price-few price ks (without k all there.0) distinct.1 (are-without k all there.0 ks distinct.0 there.1) in
       let a = sum-without price k all there.0 in
       let b = sum_by-cons price k ks in
       omega (arith, less, a, b)
@@ -46,17 +46,9 @@ module _ {K : Type 0} where
   sum-ones (k ∷ ks) = let a = sum_by-cons (λ (k : K). 1) k ks in let b = sum-ones ks in omega (arith, a, b)
 
   few-number : (ks all : List K) → AreDistinct ks → AreIn ks all → length ks ≤ length all
-  few-number ks all distinct there = let few = few-price (λ k. 1) ks all distinct there in let a = sum-ones ks in let b = sum-ones all in omega (arith, few, a, b)
+  few-number ks all distinct there = let few = price-few (λ k. 1) ks all distinct there in let a = sum-ones ks in let b = sum-ones all in omega (arith, few, a, b)
 
   -- ---- Joined lists
-
-  pub Each-left : (P : K → Type 0) (xs ys : List K) → Each P (xs ++ ys) → Each P xs
-  Each-left P [] ys h = tt
-  Each-left P (x ∷ xs) ys h = (h.0, Each-left P xs ys h.1)
-
-  pub Each-right : (P : K → Type 0) (xs ys : List K) → Each P (xs ++ ys) → Each P ys
-  Each-right P [] ys h = h
-  Each-right P (x ∷ xs) ys h = Each-right P xs ys h.1
 
   pub distinct-left : (xs ys : List K) → AreDistinct (xs ++ ys) → AreDistinct xs
   distinct-left [] ys h = tt
@@ -96,11 +88,8 @@ module _ {K : Type 0} where
   each-in P k (j ∷ ks) (inl e) all = subst P e all.0
   each-in P k (j ∷ ks) (inr h) all = each-in P k ks h all.1
 
-  pub price-few : (price : K → ℕ) (ks all : List K) → AreDistinct ks → AreIn ks all → sum_by price ks ≤ sum_by price all
-  price-few price ks all distinct there = few-price price ks all distinct there
-
 pub distinct-few : DistinctKeysCostAtMostList
 distinct-few = record {
-  price = λ price ks all distinct there. few-price price ks all distinct there;
+  price = λ price ks all distinct there. price-few price ks all distinct there;
   number = λ ks all distinct there. few-number ks all distinct there;
 }

@@ -1,45 +1,18 @@
 -- Thread lists that find nothing alone may be dropped before any others, and lists that agree fail
 -- alike.
-use Rattle.std.proofs.Common.{◌≡◌, ℕ, zero, suc, ◌+◌, ◌<◌, List, [], ◌∷◌, ◌++◌, Option, Some, None, Bool, false, refl, ap, ◌∙◌, sym, subst, arith}
-use Rattle.std.proofs.Common.{append-nil}
+use Rattle.std.proofs.Common.{◌≡◌, ℕ, List, [], ◌∷◌, Option, Some, None, false, refl, ap, ◌∙◌, sym, subst, arith, append-nil}
 use Rattle.regex_meaning.specs.Text.{Text, Direction}
 use Rattle.regex_meaning.specs.CompilationRelation.{Program}
 use Rattle.regex_meaning.specs.CodeUnitOffsets.{units}
-use Rattle.regress_machine.specs.Machine.{State, Thread, running, waiting, Next, goes, scans, ends, asks, stuck, Found, result_without_threads, with_steps}
-use Rattle.regress_machine.specs.Machine.{after_lookaround}
-use Rattle.regress_machine.specs.Machine.{after_lookaround_search, search_after_effect, act, search}
+use Rattle.regress_machine.specs.Machine.{State, Thread, ends, Found, result_without_threads, search}
 use Rattle.regress_machine.specs.ThreadSimulation.{Within, Simulates, AllFindNothing}
+use Rattle.regress_machine.proofs.MachineSearchLemmas.{some-steps}
 use Rattle.regress_memo.specs.ThreadBisimulation.{AlikeAnswers, AlikeEnds, AlikeThreads}
 use Rattle.regress_memo.specs.Liveness.{Liveness, IsLivenessFor, Agree, outermost}
 use Rattle.regress_memo.proofs.LivenessLemmas.{rows-alike}
 use Rattle.regress_memo.proofs.ThreadsThatFailAlone.{splits}
 
 module _ (program : Program) (text : Text) (d : Direction) where
-  row-steps : (t : Thread) (ts : List Thread) (n : ℕ) (f : Found) → search program text n d (t ∷ ts) ≡ Some f → 0 < f.steps
-  unfolding search
-  row-steps t ts zero f e = cc
-  row-steps (waiting s) ts (suc n) f e = go (search program text n d (running s ∷ ts)) e
-    where
-      go : (r : Option Found) → with_steps 1 r ≡ Some f → 0 < f.steps
-      go None e = cc
-      go (Some g) e = let is : record g { steps = 1 + g.steps } ≡ f = cc in let s = ap (λ (k : Found). k.steps) is in omega (arith, s)
-  row-steps (running s) ts (suc n) f e = go (act program text d s) e
-    where
-      by_with : (k : ℕ) (r : Option Found) → with_steps (1 + k) r ≡ Some f → 0 < f.steps
-      by_with k None e = cc
-      by_with k (Some g) e = let is : record g { steps = (1 + k) + g.steps } ≡ f = cc in let s = ap (λ (k : Found). k.steps) is in omega (arith, s)
-
-      by_asked : (negate : Bool) (u : State) (r : Option Found) → after_lookaround_search (search program text n d) negate u ts r ≡ Some f → 0 < f.steps
-      by_asked negate u None e = cc
-      by_asked negate u (Some g) e = by_with g.steps (search program text n d (after_lookaround negate u g.end ++ ts)) e
-
-      go : (x : Next) → search_after_effect (λ d us. search program text n d us) d x ts ≡ Some f → 0 < f.steps
-      go (goes ss) e = by_with 0 (search program text n d (ss ++ ts)) e
-      go (scans tries ss) e = by_with tries (search program text n d (ss ++ ts)) e
-      go (ends s) e = let is : record { steps = 1; end = Some s } ≡ f = cc in let s = ap (λ (k : Found). k.steps) is in omega (arith, s)
-      go (asks inner negate u s) e = by_asked negate s (search program text n inner (running u ∷ [])) e
-      go stuck e = cc
-
   -- A search of threads that find nothing has no end.
   pub row-ends : (turns : ℕ) (ts : List Thread) (f : Found) → AllFindNothing program text d ts → search program text turns d ts ≡ Some f → f.end ≡ None
   unfolding search
@@ -65,7 +38,7 @@ module _ (program : Program) (text : Text) (d : Direction) where
         let x = splits program text d vs turns turns (omega arith) (t ∷ ts) f e in
         let r = x.then_rest (row-ends turns (t ∷ ts) x.alone none x.is) in
         let sum = r.3 in
-        let some = row-steps t ts turns x.alone x.is in
+        let some = some-steps program text d t ts turns x.alone x.is in
         record { found = r.0; searches = r.1; end = r.2; few = omega (arith, sum, some); counted = λ x. cc };
   }
 

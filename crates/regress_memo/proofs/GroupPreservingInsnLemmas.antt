@@ -1,6 +1,5 @@
 -- A search from an instruction that preserves groups ends with the groups with which it began.
-use Rattle.std.proofs.Common.{◌≡◌, ℕ, ◌+◌, List, [], ◌∷◌, length, min, Option, Some, None, Bool, true, false, refl, ap, ◌∙◌, subst, slice_get}
-use Rattle.std.proofs.Common.{slice_set}
+use Rattle.std.proofs.Common.{◌≡◌, ℕ, ◌+◌, List, [], ◌∷◌, length, min, Option, Some, None, Bool, true, false, refl, ap, ◌∙◌, subst, slice_get, slice_set}
 use Rattle.std.specs.List.{prefix_len}
 use Rattle.std.proofs.lemmas.List.{length-set}
 use Rattle.regex_meaning.specs.Tree.{Sameness}
@@ -10,8 +9,7 @@ use Rattle.regex_meaning.specs.Text.{Text, Direction, next_character, moved}
 use Rattle.regex_meaning.specs.CodeUnitOffsets.{offset, place_at}
 use Rattle.regex_meaning.specs.Outcomes.{Groups, is_some_and}
 use Rattle.regex_meaning.specs.OutcomesWithStepTicks.{nearest_first}
-use Rattle.regex_meaning.specs.CompilationRelation.{Program, LoopFields, Insn, Goal, JustFail, ByteSeq, StartOfLine, EndOfLine, WordBoundary}
-use Rattle.regex_meaning.specs.CompilationRelation.{WordBoundaryUnicodeICase, Alt, Jump, EnterLoop, LoopAgain, ResetCaptureGroup, Loop1CharBody}
+use Rattle.regex_meaning.specs.CompilationRelation.{Program, LoopFields, Insn, Goal, JustFail, ByteSeq, StartOfLine, EndOfLine, WordBoundary, WordBoundaryUnicodeICase, Alt, Jump, EnterLoop, LoopAgain, ResetCaptureGroup, Loop1CharBody}
 use Rattle.regex_meaning.specs.CompilationRelation.{BeginCaptureGroup, EndCaptureGroup, BackRef, Lookahead, Lookbehind}
 use Rattle.regress_machine.specs.Machine.{State, Thread, running, waiting, Next, goes, scans, ends, asks, stuck, after_lookaround, state_with_ip, with_some, go}
 use Rattle.regress_machine.specs.Machine.{go_if, loop_again_effect, test_of, next_insn_at_place, offset_moved_in_direction, read_one, stay_if, read_group, char_loop_states, scan, act_on, act}

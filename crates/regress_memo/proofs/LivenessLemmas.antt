@@ -1,9 +1,8 @@
 -- States that agree in everything live keep agreeing in each step, and their searches end alike.
-use Rattle.std.proofs.Common.{◌≡◌, ℕ, zero, suc, ◌+◌, ◌-◌, ◌≤◌, ◌<◌, min, map, reverse, List, [], ◌∷◌, ◌++◌, Option, Some, None, Bool, true, false}
-use Rattle.std.proofs.Common.{not, ◌&&◌, ◌||◌, refl, ap, ◌∙◌, sym, subst, arith, slice_get, slice_set, length, take, drop, length-take}
+use Rattle.std.proofs.Common.{◌≡◌, ℕ, zero, suc, ◌+◌, ◌-◌, ◌≤◌, ◌<◌, min, map, reverse, List, [], ◌∷◌, ◌++◌, Option, Some, None, Bool, true, false, not, ◌&&◌, ◌||◌, refl, ap, ◌∙◌, sym, subst, arith, slice_get, slice_set, length, take, drop, length-take}
 use Rattle.std.specs.Prelude.{◌⊎◌, if◌then◌else◌, nat_lt, nat_le, nat_eq, ◌==◌, encode_utf8_all}
 use Rattle.std.specs.List.{prefix_len}
-use Rattle.std.proofs.lemmas.Bool.{cases_lt, eq-eqb, eqb-true, eqb-false, ne_eqb, leb-true, ltb-true, lt-ltb, le-leb, ltb-false}
+use Rattle.std.proofs.lemmas.Bool.{cases_lt, eq-eqb, eqb-true, eqb-false, ne_eqb, leb-true, ltb-true, lt-ltb, le-leb, ltb-false, or_left, or_right}
 use mathlib.Core.Logic.{inl, inr}
 use Rattle.std.proofs.lemmas.List.{length-set, length-reverse}
 use Rattle.std.proofs.lemmas.List.Sums.{prefix_len-le-length}
@@ -13,30 +12,22 @@ use Rattle.regex_meaning.specs.Text.{Text, Direction, rightwards, leftwards, nex
 use Rattle.regex_meaning.specs.CodeUnitOffsets.{HasRisingPlaceOffsets, units, offset, place_at}
 use Rattle.regex_meaning.specs.Outcomes.{is_some_and, Groups}
 use Rattle.regex_meaning.specs.OutcomesWithStepTicks.{nearest_first}
-use Rattle.regex_meaning.specs.CompilationRelation.{Program, LoopFields, Insn, Goal, JustFail, Char, CharSet, ByteSet, ByteSeq, AsciiBracket, Bracket, MatchAny}
-use Rattle.regex_meaning.specs.CompilationRelation.{MatchAnyExceptLineTerminator, Alt, Jump, EnterLoop, LoopAgain, ResetCaptureGroup, Loop1CharBody}
+use Rattle.regex_meaning.specs.CompilationRelation.{Program, LoopFields, Insn, Goal, JustFail, Char, CharSet, ByteSet, ByteSeq, AsciiBracket, Bracket, MatchAny, MatchAnyExceptLineTerminator, Alt, Jump, EnterLoop, LoopAgain, ResetCaptureGroup, Loop1CharBody}
 use Rattle.regex_meaning.specs.CompilationRelation.{BeginCaptureGroup, EndCaptureGroup, BackRef, Lookahead, Lookbehind}
-use Rattle.regex_meaning.proofs.BoolLemmas.{and-left, and-right}
+use Rattle.regex_meaning.proofs.BoolLemmas.{and-left, and-right, same-truth}
 use Rattle.regex_meaning.proofs.EachElementLemmas.{Each, Each-map, Each-reverse}
 use Rattle.regex_meaning.proofs.CodeUnitOffsetsLemmas.{offset-place_at, offset-less}
-use Rattle.regress_machine.specs.Machine.{LoopData, State, Thread, running, waiting, Next, goes, state_with_ip, state_at_next_ip, with_some, only_if, go_if}
-use Rattle.regress_machine.specs.Machine.{first_running_and_others_waiting}
-use Rattle.regress_machine.specs.Machine.{choice_in_order_of_greediness, range_swapped_if_leftwards, iterate_or_leave_at_loop_head, effect_at_iteration_end, loop_again_effect, test_of}
-use Rattle.regress_machine.specs.Machine.{occurs_beside_offset}
-use Rattle.regress_machine.specs.Machine.{offset_moved_in_direction, read_one, stay_if}
-use Rattle.regress_machine.specs.Machine.{read_bytes, backref_read, read_group, char_loop_states, scan, act_on, act, after_lookaround, search}
+use Rattle.regress_machine.specs.Machine.{LoopData, State, Thread, running, waiting, Next, goes, state_with_ip, state_at_next_ip, with_some, only_if, go_if, first_running_and_others_waiting, occurs_beside_offset, offset_moved_in_direction, read_one, stay_if}
+use Rattle.regress_machine.specs.Machine.{choice_in_order_of_greediness, range_swapped_if_leftwards, iterate_or_leave_at_loop_head, effect_at_iteration_end, loop_again_effect, test_of, read_bytes, backref_read, read_group, char_loop_states, scan, act_on, act, after_lookaround, search}
 use Rattle.regress_machine.proofs.NearestCharacterLemmas.{Beside, nothing_left, one_more, beside, length-nearest}
 use Rattle.regress_machine.proofs.UnchangedGroupsAndLoops.{slice_get-set_same, slice_get-set_other}
 use Rattle.regress_machine.proofs.OffsetsInsideText.{act-inside, offset-inside, NextIn}
 use Rattle.regress_machine.proofs.CharLoopRepetitions.{numbers_between}
 use Rattle.regress_machine.proofs.AdjacentCharacterLemmas.{stands-length}
 use Rattle.regress_machine.proofs.AdjacentCharacterBytes.{starts-stands}
-use Rattle.regress_memo.specs.ThreadBisimulation.{AlikeThreads, AlikeEnds, AlikeAnswers, AlikeAsked, AlikeNext, IsBisimulation}
-use Rattle.regress_memo.specs.Liveness.{Liveness, IsConsistentEdge, IsConsistentPlainEdge, none, IsUnlimited, LoopCountDecidesExit, by_count, by_minimum, never_empty, Enters}
-use Rattle.regress_memo.specs.Liveness.{Repeats}
-use Rattle.regress_memo.specs.Liveness.{IsRepeated, IsConsistentLookaround, IsSoundLivenessAt, IsNotAheadInDirection, units_left_in_direction, IsSound, Similar, SimilarAt, World}
-use Rattle.regress_memo.specs.Liveness.{outermost, IsKeptIn}
-use Rattle.regress_memo.specs.Liveness.{Agree, IsLivenessFor, LiveDataDecideSearchResult, LiveDataDecideThreadLists}
+use Rattle.regress_memo.specs.ThreadBisimulation.{AlikeThreads, AlikeEnds, AlikeAnswers, AreAlikeLookaroundSearches, AlikeNext, IsBisimulation}
+use Rattle.regress_memo.specs.Liveness.{Liveness, IsConsistentEdge, IsConsistentPlainEdge, none, IsUnlimited, LoopCountDecidesExit, by_count, by_minimum, never_empty, IsConsistentIterationStart, IsConsistentIterationEnd, outermost, IsKeptIn}
+use Rattle.regress_memo.specs.Liveness.{IsRepeated, IsConsistentLookaround, IsSoundLivenessAt, IsNotAheadInDirection, units_left_in_direction, IsSound, Similar, SimilarAt, World, Agree, IsLivenessFor, LiveDataDecideSearchResult, LiveDataDecideThreadLists}
 use Rattle.regress_memo.proofs.ThreadBisimulationLemmas.{end-alike}
 
 -- ---- Disjunctions of tests
@@ -48,13 +39,6 @@ data Either (a b : Bool) : Type 0 where
 either : (a b : Bool) → (a || b) ≡ true → Either a b
 either true b h = first refl
 either false b h = second h
-
-or-first : (a b : Bool) → a ≡ true → (a || b) ≡ true
-or-first a b h = rw h refl
-
-or-second : (a b : Bool) → b ≡ true → (a || b) ≡ true
-or-second true b h = refl
-or-second false b h = h
 
 -- ---- Offsets that are passed
 
@@ -70,7 +54,7 @@ stays leftwards at = record { passed = omega arith; further = λ e. cc }
 stays-at : (d : Direction) (at to : ℕ) → to ≡ at → Moves d false at to
 stays-at d at to e = subst (λ t. Moves d false at t) (sym e) (stays d at)
 
-passed-on : (d : Direction) (e p q : ℕ) → IsNotAheadInDirection d e p → IsNotAheadInDirection d p q → IsNotAheadInDirection d e q
+pub passed-on : (d : Direction) (e p q : ℕ) → IsNotAheadInDirection d e p → IsNotAheadInDirection d p q → IsNotAheadInDirection d e q
 passed-on rightwards e p q a b = omega (arith, a, b)
 passed-on leftwards e p q a b = omega (arith, a, b)
 
@@ -78,7 +62,7 @@ pub not-here : (d : Direction) (e p q : ℕ) → IsNotAheadInDirection d e p →
 not-here rightwards e p q a b n = ne_eqb e q (λ same. n (omega (arith, a, b, same)))
 not-here leftwards e p q a b n = ne_eqb e q (λ same. n (omega (arith, a, b, same)))
 
-still-not-here : (d : Direction) (e p q : ℕ) → IsNotAheadInDirection d e p → IsNotAheadInDirection d p q → (e == p) ≡ false → (e == q) ≡ false
+pub still-not-here : (d : Direction) (e p q : ℕ) → IsNotAheadInDirection d e p → IsNotAheadInDirection d p q → (e == p) ≡ false → (e == q) ≡ false
 still-not-here rightwards e p q a b n = ne_eqb e q (λ same. eqb-false e p n (omega (arith, a, b, same)))
 still-not-here leftwards e p q a b n = ne_eqb e q (λ same. eqb-false e p n (omega (arith, a, b, same)))
 
@@ -120,26 +104,21 @@ same-count j k n e p q = omega (arith, e, p, q)
 one-more-each : (j k n : ℕ) → min j n ≡ min k n → min (j + 1) n ≡ min (k + 1) n
 one-more-each j k n e = omega (arith, e)
 
-same-test : (b c : Bool) → (b ≡ true → c ≡ true) → (c ≡ true → b ≡ true) → b ≡ c
-same-test true c h k = sym (h refl)
-same-test false true h k = k refl
-same-test false false h k = refl
-
 -- Of counts that agree up to `n`, both have reached a minimum up to `n`, or neither has.
 both-reach : (least n j k : ℕ) → min j n ≡ min k n → least ≤ n → nat_le least j ≡ nat_le least k
 both-reach least n j k e le =
-    same-test _ _ (λ h. let p = leb-true least j h in le-leb least k (omega (arith, p, e, le))) (λ h. let p = leb-true least k h in le-leb least j (omega (arith, p, e, le)))
+    same-truth _ _ (λ h. let p = leb-true least j h in le-leb least k (omega (arith, p, e, le))) (λ h. let p = leb-true least k h in le-leb least j (omega (arith, p, e, le)))
 
 both-past : (least n j k : ℕ) → min j n ≡ min k n → least ≤ n → nat_lt least (j + 1) ≡ nat_lt least (k + 1)
 both-past least n j k e le =
-    same-test _ _
+    same-truth _ _
     (λ h. let p = ltb-true least (j + 1) h in lt-ltb least (k + 1) (omega (arith, p, e, le)))
     (λ h. let p = ltb-true least (k + 1) h in lt-ltb least (j + 1) (omega (arith, p, e, le)))
 
 -- Counts that agree up to `n` both reach a minimum up to `n + 1` by one more, or neither does.
 both-come : (least n j k : ℕ) → min j n ≡ min k n → least ≤ n + 1 → nat_le least (j + 1) ≡ nat_le least (k + 1)
 both-come least n j k e le =
-    same-test _ _
+    same-truth _ _
     (λ h. let p = leb-true least (j + 1) h in le-leb least (k + 1) (omega (arith, p, e, le)))
     (λ h. let p = leb-true least (k + 1) h in le-leb least (j + 1) (omega (arith, p, e, le)))
 
@@ -247,8 +226,8 @@ module _ (a : Liveness) (top : ℕ) where
     starts-on begun entered reads next id leads old h = by (either (a.start next id) (w.starts id) h)
       where
         by : Either (a.start next id) (w.starts id) → slice_get s.starts id ≡ slice_get t.starts id
-        by (first e) = g.starts id (or-first (a.start s.ip id) (w.starts id) (leads.start id e old))
-        by (second e) = g.starts id (or-second (a.start s.ip id) (w.starts id) e)
+        by (first e) = g.starts id (or_left (a.start s.ip id) (w.starts id) (leads.start id e old))
+        by (second e) = g.starts id (or_right (a.start s.ip id) (w.starts id) e)
 
     -- States still agree at the next instruction if nothing but groups is written.
     groups-on : (reads : Bool) (next to : ℕ) (xs ys : Groups) → IsConsistentPlainEdge a reads s.ip next → Moves d reads s.pos to → to ≤ top → length xs ≡ length ys → (a.groups ≡ true → xs ≡ ys)
@@ -294,7 +273,7 @@ module _ (a : Liveness) (top : ℕ) where
     AreFew f j k = (j + units_left_in_direction top d s.pos ≤ top + a.up_to f.loop_id) × (k + units_left_in_direction top d s.pos ≤ top + a.up_to f.loop_id)
 
     -- States still agree after an iteration of a loop has begun.
-    agree-entered : (f : LoopFields) (begin j k : ℕ) → Enters a f s.ip begin → f.loop_id < length s.loops
+    agree-entered : (f : LoopFields) (begin j k : ℕ) → IsConsistentIterationStart a f s.ip begin → f.loop_id < length s.loops
         → min j (a.up_to f.loop_id) ≡ min k (a.up_to f.loop_id) → (a.counted f.loop_id ≡ false → AreFew f j k)
         → (a.counted f.loop_id ≡ true → (j ≤ a.up_to f.loop_id) × (k ≤ a.up_to f.loop_id))
         → R (record s { ip = begin + 1; loops = slice_set s.loops f.loop_id (record { iters = j; entry = s.pos }) })
@@ -369,16 +348,16 @@ module _ (a : Liveness) (top : ℕ) where
           unwritten false h = refl
 
           later : (id : ℕ) → Either (w.starts id) (a.start continuation id) → slice_get s.starts id ≡ slice_get t.starts id
-          later id (first e) = g.starts id (or-second (a.start s.ip id) (w.starts id) e)
-          later id (second e) = g.starts id (or-first (a.start s.ip id) (w.starts id) (looks.on.start id e refl))
+          later id (first e) = g.starts id (or_right (a.start s.ip id) (w.starts id) e)
+          later id (second e) = g.starts id (or_left (a.start s.ip id) (w.starts id) (looks.on.start id e refl))
 
           by : (id : ℕ) → Either (a.start (s.ip + 1) id) (w.starts id || a.start continuation id) → slice_get s.starts id ≡ slice_get t.starts id
-          by id (first e) = g.starts id (or-first (a.start s.ip id) (w.starts id) (looks.start id e))
+          by id (first e) = g.starts id (or_left (a.start s.ip id) (w.starts id) (looks.start id e))
           by id (second e) = later id (either (w.starts id) (a.start continuation id) e)
 
       agree-behind : (u v : State) → Agree a top (contents-world continuation) inner u v → R (record u { ip = continuation; pos = s.pos }) (record v { ip = continuation; pos = s.pos })
       agree-behind u v h =
-          agree-of _ _ _ _ refl refl g.within h.as_many_groups h.groups h.as_many_starts (λ id e. h.starts id (or-second (a.start u.ip id) (w.starts id || a.start continuation id) (turned (a.start continuation id) (w.starts id) e))) h.as_many_loops
+          agree-of _ _ _ _ refl refl g.within h.as_many_groups h.groups h.as_many_starts (λ id e. h.starts id (or_right (a.start u.ip id) (w.starts id || a.start continuation id) (turned (a.start continuation id) (w.starts id) e))) h.as_many_loops
           (λ l e. here l e (h.kept l (rw (looks.left l e) refl)))
           (λ l e. let k = g.kept l e in still l k (h.kept l (rw (looks.writes l k.writes) refl)))
         where
@@ -409,7 +388,7 @@ module _ (a : Liveness) (top : ℕ) where
       alike-resumed negate None (Some v) h = absurd h
       alike-resumed negate (Some u) None h = absurd h
 
-      alike-asked : (negate : Bool) → AlikeAsked (λ w d. Agree a top w d) w d inner negate (state_at_next_ip s) (state_with_ip continuation s) (record t { ip = s.ip + 1; pos = s.pos }) (record t { ip = continuation; pos = s.pos })
+      alike-asked : (negate : Bool) → AreAlikeLookaroundSearches (λ w d. Agree a top w d) w d inner negate (state_at_next_ip s) (state_with_ip continuation s) (record t { ip = s.ip + 1; pos = s.pos }) (record t { ip = continuation; pos = s.pos })
       alike-asked negate = record {
         world = contents-world continuation;
         contents = agree-inside;
@@ -508,7 +487,7 @@ module _ (a : Liveness) (top : ℕ) (w : World) (d : Direction) where
     abbrev beside_it : State
     beside_it = record t { ip = s.ip; pos = s.pos }
 
-    same-loop : (f : LoopFields) (begin j k : ℕ) → Enters a f s.ip begin → nat_lt j f.max_iters ≡ nat_lt k f.max_iters → nat_le f.min_iters j ≡ nat_le f.min_iters k
+    same-loop : (f : LoopFields) (begin j k : ℕ) → IsConsistentIterationStart a f s.ip begin → nat_lt j f.max_iters ≡ nat_lt k f.max_iters → nat_le f.min_iters j ≡ nat_le f.min_iters k
         → min j (a.up_to f.loop_id) ≡ min k (a.up_to f.loop_id) → (a.counted f.loop_id ≡ false → AreFew a top w d s t g f j k)
         → SameNext (iterate_or_leave_at_loop_head f begin j s) (iterate_or_leave_at_loop_head f begin k beside_it)
     same-loop f begin j k e again leave count few =
@@ -525,13 +504,13 @@ module _ (a : Liveness) (top : ℕ) (w : World) (d : Direction) where
             let less' = ltb-true k f.max_iters (sym again ∙ h) in
             (omega (arith, most, less), omega (arith, most, less'))
 
-    same-enter : (f : LoopFields) → Enters a f s.ip s.ip → SameNext (iterate_or_leave_at_loop_head f s.ip 0 s) (iterate_or_leave_at_loop_head f s.ip 0 beside_it)
+    same-enter : (f : LoopFields) → IsConsistentIterationStart a f s.ip s.ip → SameNext (iterate_or_leave_at_loop_head f s.ip 0 s) (iterate_or_leave_at_loop_head f s.ip 0 beside_it)
     same-enter f e = same-loop f s.ip 0 0 e refl refl refl (λ h. (none-yet, none-yet))
       where
         none-yet : 0 + units_left_in_direction top d s.pos ≤ top + a.up_to f.loop_id
         none-yet = few-first top d s.pos 0 (a.up_to f.loop_id) (omega arith) g.within
 
-    same-again : (f : LoopFields) (begin : ℕ) (x y : LoopData) → Repeats a top f s.ip begin → Similar a top d s.pos s.ip f.loop_id x y
+    same-again : (f : LoopFields) (begin : ℕ) (x y : LoopData) → IsConsistentIterationEnd a top f s.ip begin → Similar a top d s.pos s.ip f.loop_id x y
         → SameNext (effect_at_iteration_end f begin x s) (effect_at_iteration_end f begin y beside_it)
     same-again f begin x y r h = by r.decides
       where
@@ -708,7 +687,7 @@ module _ (program : Program) (text : Text) (is : HasRisingPlaceOffsets text) (a 
         groups-on a (units text) w d s t g false (s.ip + 1) s.pos (slice_set s.groups id (Some (range_swapped_if_leftwards d x s.pos))) (slice_set t.groups id (Some (range_swapped_if_leftwards d y s.pos))) leads (stays d s.pos) g.within
             (length-set s.groups id (Some (range_swapped_if_leftwards d x s.pos)) ∙ g.as_many_groups ∙ sym (length-set t.groups id (Some (range_swapped_if_leftwards d y s.pos))))
             (λ q. ap (λ xs. slice_set xs id (Some (range_swapped_if_leftwards d x s.pos))) (g.groups q)
-            ∙ ap (λ v. slice_set t.groups id (Some (range_swapped_if_leftwards d v s.pos))) (same-start x y (sym e ∙ g.starts id (or-first (a.start s.ip id) (w.starts id) (asks_start q)) ∙ f))),
+            ∙ ap (λ v. slice_set t.groups id (Some (range_swapped_if_leftwards d v s.pos))) (same-start x y (sym e ∙ g.starts id (or_left (a.start s.ip id) (w.starts id) (asks_start q)) ∙ f))),
         tt,
       )))
     where

@@ -1,10 +1,9 @@
 -- Equal key codes imply equal answers to all questions about live loop data.
-use Rattle.std.proofs.Common.{◌≡◌, ◌<◌, ◌≤◌, ℕ, ◌+◌, ◌*◌, min, List, [], ◌∷◌, Option, Some, None, Bool, true, false, ◌&&◌, refl, ap, ◌∙◌, sym, subst}
-use Rattle.std.proofs.Common.{arith, slice_get, length}
+use Rattle.std.proofs.Common.{◌≡◌, ◌<◌, ◌≤◌, ℕ, ◌+◌, ◌*◌, min, List, [], ◌∷◌, Option, Some, None, Bool, true, false, refl, ap, ◌∙◌, sym, subst, arith, slice_get, length}
 use Rattle.std.specs.Prelude.{◌==◌, option_map, unwrap_or}
 use mathlib.Core.Logic.{inl, inr}
 use Rattle.std.proofs.Math.Nat.{mul-le-mul_left}
-use Rattle.std.proofs.lemmas.Bool.{cases_lt, eq-eqb, le-leb, lt-ltb}
+use Rattle.std.proofs.lemmas.Bool.{cases_lt, eq-eqb, le-leb, lt-ltb, and_from}
 use Rattle.regex_meaning.specs.Text.{Text, Direction, rightwards, leftwards}
 use Rattle.regex_meaning.specs.CodeUnitOffsets.{units}
 use Rattle.regex_meaning.specs.CompilationRelation.{Program}
@@ -14,9 +13,7 @@ use Rattle.regress_memo.specs.MemoKeys.{SamePlace}
 use Rattle.regress_memo.specs.DistinctLists.{IsIn}
 use Rattle.regress_memo.specs.MemoSearch.{Key}
 use Rattle.regress_memo.specs.ThreadPotentials.{Shape, is_same_direction, stands_there, has_shape}
-use Rattle.regress_memo.specs.LoopDataKeyCodes.{Question, is_empty, how_many, number_of_possible_answers, bool_as_digit, answer_to_loop_question, code_of, codes_of}
-use Rattle.regress_memo.specs.LoopDataKeyCodes.{plan_code, plan_codes, AsksAll}
-use Rattle.regress_memo.specs.LoopDataKeyCodes.{HasSlotsOfProgram, key_of, shape_of_only_thread_of_key, ThreadHasKey, KeyCodesDistinguishLoopData}
+use Rattle.regress_memo.specs.LoopDataKeyCodes.{Question, is_empty, how_many, number_of_possible_answers, bool_as_digit, answer_to_loop_question, code_of, codes_of, plan_code, plan_codes, AsksAll, HasSlotsOfProgram, key_of, shape_of_only_thread_of_key, ThreadHasKey, KeyCodesDistinguishLoopData}
 use Rattle.regress_memo.proofs.MemoKeyLemmas.{unasked-count}
 
 -- ---- Digits of equal codes
@@ -103,9 +100,6 @@ module _ (questions : ℕ → List Question) (a : Liveness) (asks : AsksAll ques
 
 -- ---- Keys with equal codes
 
-pub and-both : (b c : Bool) → b ≡ true → c ≡ true → (b && c) ≡ true
-and-both b c e f = ap (λ b. b && c) e ∙ f
-
 pub way-same : (w d : Direction) → w ≡ d → is_same_direction w d ≡ true
 way-same rightwards rightwards e = refl
 way-same leftwards leftwards e = refl
@@ -115,21 +109,21 @@ way-same leftwards rightwards e = cc
 pub stands-here : (program : Program) (code : State → ℕ) (x : Shape) (s : State) → HasSlotsOfProgram program s → s.ip ≡ x.ip → s.pos ≡ x.pos → code s ≡ x.code
     → stands_there program code x s ≡ true
 stands-here program code x s is ip pos same =
-    and-both _ _ (eq-eqb s.ip x.ip ip) (and-both _ _ (eq-eqb s.pos x.pos pos) (and-both _ _ (eq-eqb (code s) x.code same)
-    (and-both _ _ (eq-eqb (length s.groups) program.groups is.groups)
-    (and-both _ _ (eq-eqb (length s.starts) program.groups is.starts) (eq-eqb (length s.loops) program.loops is.loops)))))
+    and_from _ _ (eq-eqb s.ip x.ip ip) (and_from _ _ (eq-eqb s.pos x.pos pos) (and_from _ _ (eq-eqb (code s) x.code same)
+    (and_from _ _ (eq-eqb (length s.groups) program.groups is.groups)
+    (and_from _ _ (eq-eqb (length s.starts) program.groups is.starts) (eq-eqb (length s.loops) program.loops is.loops)))))
 
 module _ (program : Program) (text : Text) (a : Liveness) (questions : ℕ → List Question) (way : ℕ → Direction) (ips : List ℕ) (rows : Key → List Shape) (taken : Key → ℕ) where
   thread-has-key : ThreadHasKey program text a questions way ips rows taken
   thread-has-key d s there is_on is sound own =
       let code = plan_code questions in
       let k = key_of code s in
-      let alone : has_shape program code (shape_of_only_thread_of_key k) (running s ∷ []) ≡ true = and-both _ _ (stands-here program code (record { runs = true; ip = k.ip; pos = k.at; code = k.code }) s is refl refl refl) refl in
+      let alone : has_shape program code (shape_of_only_thread_of_key k) (running s ∷ []) ≡ true = and_from _ _ (stands-here program code (record { runs = true; ip = k.ip; pos = k.at; code = k.code }) s is refl refl refl) refl in
       record {
         is_of =
-            and-both _ _ (lt-ltb (code s) (plan_codes questions s.ip) (code-below (questions s.ip) s))
-            (and-both _ _ (le-leb s.pos (units text) sound.within)
-            (and-both _ _ there (and-both _ _ (way-same (way s.ip) d is_on) (ap (λ row. has_shape program code row (running s ∷ [])) own ∙ alone))));
+            and_from _ _ (lt-ltb (code s) (plan_codes questions s.ip) (code-below (questions s.ip) s))
+            (and_from _ _ (le-leb s.pos (units text) sound.within)
+            (and_from _ _ there (and_from _ _ (way-same (way s.ip) d is_on) (ap (λ row. has_shape program code row (running s ∷ [])) own ∙ alone))));
         sound = (sound, tt);
       }
 

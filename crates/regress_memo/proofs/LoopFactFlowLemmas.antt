@@ -1,9 +1,8 @@
 -- Loop facts that flow along an edge make the edge consistent for the liveness analysis.
-use Rattle.std.proofs.Common.{◌≡◌, ◌<◌, ◌≤◌, ℕ, zero, suc, ◌+◌, Bool, true, false, ◌&&◌, ◌||◌, List, [], ◌∷◌, Option, Some, refl, ap, ◌∙◌, sym}
-use Rattle.std.proofs.Common.{subst, arith, length, get_or, slice_get, if◌then◌else◌}
+use Rattle.std.proofs.Common.{◌≡◌, ◌<◌, ◌≤◌, ℕ, zero, suc, ◌+◌, Bool, true, false, ◌&&◌, ◌||◌, List, [], ◌∷◌, Option, Some, refl, ap, ◌∙◌, sym, subst, arith, length, get_or, slice_get, if◌then◌else◌}
 use Rattle.std.specs.Prelude.{◌==◌, nat_le}
 use mathlib.Core.Logic.{inl, inr}
-use Rattle.std.proofs.lemmas.Bool.{cases_lt, eq-eqb, eqb-true, le-leb, lt-leb, and_parts}
+use Rattle.std.proofs.lemmas.Bool.{cases_lt, eq-eqb, eqb-true, le-leb, lt-leb, and_parts, or_left, or_right}
 use Rattle.std.proofs.lemmas.Option.{slice_get-get_or, slice_get_within}
 use Rattle.regex_meaning.specs.Text.{rightwards, leftwards}
 use Rattle.regress_memo.specs.declared.analysis_result.EnclosingLoop.{EnclosingLoop}
@@ -11,17 +10,8 @@ use Rattle.regress_memo.specs.declared.analysis_result.InsnAnalysis.{InsnAnalysi
 use Rattle.regress_memo.specs.declared.analysis_result.MemoAnalysis.{MemoAnalysis}
 use Rattle.regress_memo.specs.declared.analysis_result.LoopProgressFact.{LoopProgressFact}
 use Rattle.regress_memo.specs.declared.analysis_result.LoopProgressFact.TheVariants.{Inside, Moved, Empty}
-use Rattle.regress_memo.specs.AnalysisAsPotentials.{insn_analysis_of, enclosing_loops_of, enclosing_loop_has_fact, states_loop_fact}
-use Rattle.regress_memo.specs.AnalysisAsPotentials.{knows_iteration_reads, groups_stay_unchanged_from}
+use Rattle.regress_memo.specs.AnalysisAsPotentials.{insn_analysis_of, enclosing_loops_of, enclosing_loop_has_fact, states_loop_fact, knows_iteration_reads, groups_stay_unchanged_from}
 use Rattle.regress_memo.specs.AnalysisChecks.{is_entered, LoopFactsFlow, AllLoopFactsFlow, IsConsistentFlow}
-
-or-left : (a b : Bool) → a ≡ true → (a || b) ≡ true
-or-left true b e = refl
-or-left false b e = cc
-
-or-right : (a b : Bool) → b ≡ true → (a || b) ≡ true
-or-right true b e = refl
-or-right false b e = e
 
 -- ---- Rows that state a fact
 
@@ -30,13 +20,13 @@ pub holds-there : (said : LoopProgressFact) (l : ℕ) (rows : List EnclosingLoop
 holds-there said l [] k r there is h = cc
 holds-there said l (x ∷ rows) zero r there is h =
     let same : x ≡ r = cc in
-    or-left ((x.id == l) && enclosing_loop_has_fact said x) (states_loop_fact said l rows)
+    or_left ((x.id == l) && enclosing_loop_has_fact said x) (states_loop_fact said l rows)
     (subst (λ (y : EnclosingLoop). ((y.id == l) && enclosing_loop_has_fact said y) ≡ true) (sym same) (ap (λ b. b && enclosing_loop_has_fact said r) (eq-eqb r.id l is) ∙ h))
 holds-there said l (x ∷ rows) (suc k) r there is h =
-    or-right ((x.id == l) && enclosing_loop_has_fact said x) (states_loop_fact said l rows) (holds-there said l rows k r there is h)
+    or_right ((x.id == l) && enclosing_loop_has_fact said x) (states_loop_fact said l rows) (holds-there said l rows k r there is h)
 
 pub holds-more : (said : LoopProgressFact) (l : ℕ) (r : EnclosingLoop) (rows : List EnclosingLoop) → states_loop_fact said l rows ≡ true → states_loop_fact said l (r ∷ rows) ≡ true
-holds-more said l r rows h = or-right ((r.id == l) && enclosing_loop_has_fact said r) (states_loop_fact said l rows) h
+holds-more said l r rows h = or_right ((r.id == l) && enclosing_loop_has_fact said r) (states_loop_fact said l rows) h
 
 -- One of the rows is of the loop `l` and states the fact.
 pub record Says (said : LoopProgressFact) (l : ℕ) (rows : List EnclosingLoop) : Type 0 where

@@ -1,14 +1,12 @@
 -- States with the same memo key share failure, and no state recurs while a record of it is pending.
-use Rattle.std.proofs.Common.{◌≡◌, ℕ, min, ◌+◌, [], ◌∷◌, ◌++◌, Option, Some, None, Bool, true, false, ◌||◌, refl, ap, ◌∙◌, sym, subst, arith}
-use Rattle.std.proofs.Common.{slice_get}
+use Rattle.std.proofs.Common.{◌≡◌, ℕ, min, ◌+◌, [], ◌∷◌, ◌++◌, Option, Some, None, Bool, true, false, ◌||◌, refl, ap, ◌∙◌, sym, subst, arith, slice_get}
 use Rattle.regex_meaning.specs.Text.{Direction}
 use Rattle.regex_meaning.specs.CodeUnitOffsets.{units}
 use Rattle.regress_machine.specs.Machine.{LoopData, State, running, Found, search}
 use Rattle.regress_machine.proofs.ThreadSimulationLemmas.{simulates-goes, simulates-scans, simulates-fewer, simulates-then, simulates-before}
 use Rattle.regress_memo.specs.ThreadBisimulation.{AlikeAnswers}
 use Rattle.regress_memo.specs.Liveness.{Liveness, outermost, IsSound, SimilarAt, Agree}
-use Rattle.regress_memo.specs.MemoKeys.{IsSoundState, SameKey, NoGroupsAreLive, MemoKeysDecideFailure, PositionsDecideFailure, NoStateRecursWhilePending}
-use Rattle.regress_memo.specs.MemoKeys.{RecordedFailuresAreRight}
+use Rattle.regress_memo.specs.MemoKeys.{IsSoundState, SameKey, NoGroupsAreLive, MemoKeysDecideFailure, PositionsDecideFailure, NoStateRecursWhilePending, RecordedFailuresAreRight}
 use Rattle.regress_memo.proofs.LivenessLemmas.{BothThere, both-there, agreeing-alike}
 use Rattle.regress_memo.proofs.ThreadsThatFailAlone.{splits, failure-shared}
 

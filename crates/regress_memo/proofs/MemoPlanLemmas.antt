@@ -1,6 +1,5 @@
 -- A plan that passes its checks has keys that decide failure, memo steps, and linear work.
-use Rattle.std.proofs.Common.{◌≡◌, ℕ, ◌+◌, ◌*◌, List, [], ◌∷◌, ◌++◌, Option, Some, None, Bool, true, false, refl, ap, ◌∙◌, sym, subst, arith}
-use Rattle.std.proofs.Common.{add-one, slice_get}
+use Rattle.std.proofs.Common.{◌≡◌, ℕ, ◌+◌, ◌*◌, List, [], ◌∷◌, ◌++◌, Option, Some, None, Bool, true, false, refl, ap, ◌∙◌, sym, subst, arith, add-one, slice_get}
 use Rattle.regex_meaning.specs.Text.{Text, Direction, rightwards, leftwards}
 use Rattle.regex_meaning.specs.CodeUnitOffsets.{units, place_at}
 use Rattle.regex_meaning.specs.CompilationRelation.{Program}
@@ -12,8 +11,7 @@ use Rattle.regress_memo.specs.MemoSearch.{Key, Keys, one_thread, key_record, thr
 use Rattle.regress_memo.specs.LoopDataKeyCodes.{Question, plan_code, plan_codes, key_of}
 use Rattle.regress_memo.specs.UnboundedCharLoopMemoKeys.{row_by, plan_rows, plan_keys, char_loop_greediness_at, insn_before}
 use Rattle.regress_memo.specs.SkippedLookarounds.{LookaroundInsn, lookaround_at}
-use Rattle.regress_memo.specs.MemoPlanChecksAndGuarantees.{IsPlan, RecordsNewKey, ThreadGives, LookGives, CheckedMemoPlansAreSound, steps_below_record_of_loop}
-use Rattle.regress_memo.specs.MemoPlanChecksAndGuarantees.{ZeroOrOneStepBelowRecord}
+use Rattle.regress_memo.specs.MemoPlanChecksAndGuarantees.{IsPlan, RecordsNewKey, ThreadGives, LookGives, CheckedMemoPlansAreSound, steps_below_record_of_loop, ZeroOrOneStepBelowRecord}
 use Rattle.regress_memo.proofs.SkippedLookaroundLemmas.{asks-there}
 use Rattle.regress_memo.proofs.LoopDataKeyCodeLemmas.{plans-tell}
 use Rattle.regress_memo.proofs.SharedMemoLookaroundLemmas.{looks-decided}

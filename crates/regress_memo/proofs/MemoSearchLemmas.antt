@@ -2,7 +2,7 @@
 use Rattle.std.proofs.Common.{◌≡◌, ℕ, ◌+◌, ◌≤◌, List, [], ◌∷◌, ◌++◌, Some, false, refl, ap, ◌∙◌, sym, subst, arith, append_assoc, append-nil, sum_by}
 use Rattle.std.proofs.lemmas.List.Sums.{sum_by-cons, sum_by-append}
 use Rattle.regex_meaning.specs.Laws.{Each}
-use Rattle.regex_meaning.proofs.EachElementLemmas.{Each-append, Each-map}
+use Rattle.regex_meaning.proofs.EachElementLemmas.{Each-append, Each-map, Each-left, Each-right}
 use Rattle.regex_meaning.specs.Text.{Text, Direction, rightwards, leftwards}
 use Rattle.regex_meaning.specs.CompilationRelation.{Program}
 use Rattle.regress_machine.specs.Machine.{Thread, Found, search}
@@ -10,17 +10,14 @@ use Rattle.regress_machine.specs.ThreadSimulation.{Within, Simulates, AllFindNot
 use Rattle.regress_machine.proofs.ThreadSimulationLemmas.{within-start, within-simulates, simulates-fewer, simulates-then, simulates-before}
 use Rattle.regress_memo.specs.Liveness.{Liveness, IsLivenessFor}
 use Rattle.regress_memo.specs.DistinctLists.{IsIn, IsNew, AreDistinct, AreIn}
-use Rattle.regress_memo.specs.MemoSearch.{Key, Keys, Entry, one_thread, thread_group, key_record, IsBare, thread_entries, threads_in, keys_in, offset_of_thread, AreOnward, GoesOnward}
-use Rattle.regress_memo.specs.MemoSearch.{entry_potential, Answers, KeyStandsFor, AreKeys, Fails, IsKnown, known_to_fail, IsMemory, AreRightKeyRecords, AreAnswered}
-use Rattle.regress_memo.specs.MemoSearch.{HoldsInvariant}
-use Rattle.regress_memo.specs.MemoSearch.{IsOpened, AreOpened, IsMemoStep, ReachesBySteps, at_first, gives, reaches, learns, PendingRecordsStayRight}
-use Rattle.regress_memo.specs.MemoSearch.{InvariantKeepingSteps, StepsKeepInvariant}
+use Rattle.regress_memo.specs.MemoSearch.{Key, Keys, Entry, one_thread, thread_group, key_record, IsBare, thread_entries, threads_in, keys_in, offset_of_thread, AreOnward, GoesOnward, HoldsInvariant, InvariantKeepingSteps, StepsKeepInvariant}
+use Rattle.regress_memo.specs.MemoSearch.{entry_potential, Answers, KeyStandsFor, AreKeys, Fails, IsKnown, known_to_fail, IsMemory, AreRightKeyRecords, AreAnswered, IsOpened, AreOpened, IsMemoStep, ReachesBySteps, at_first, gives, reaches, learns, PendingRecordsStayRight}
 use Rattle.regress_memo.specs.MemoSearch.{RightwardSearchesNeverMoveLeft, KeepsResultWithinPotential, WorkIsBounded}
 use Rattle.regress_memo.specs.StepSoundness.{IsSoundStep}
 use Rattle.regress_memo.specs.SuccessOfThreadLists.{KeyFailsWhenRecordReached}
 use Rattle.regress_memo.proofs.ThreadsThatFailAlone.{splits}
 use Rattle.regress_memo.proofs.FailingThreadLists.{row-takes, row-shared, same-answers}
-use Rattle.regress_memo.proofs.DistinctListLemmas.{Each-left, Each-right, distinct-moved, in-moved, sum-moved, distinct-joined, price-few}
+use Rattle.regress_memo.proofs.DistinctListLemmas.{distinct-moved, in-moved, sum-moved, distinct-joined, price-few}
 
 -- ---- Rows of entries
 

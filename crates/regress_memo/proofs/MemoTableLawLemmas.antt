@@ -1,11 +1,9 @@
 -- The known keys of a memo table form a list that recording extends, and what is known of them is
 -- true.
-use Rattle.std.proofs.Common.{◌≡◌, ◌<◌, ◌≤◌, ℕ, ◌+◌, Bool, true, false, not, ◌&&◌, ◌||◌, List, [], ◌∷◌, Some, None, length, slice_get, if◌then◌else◌}
-use Rattle.std.proofs.Common.{refl, sym, ap, ◌∙◌, subst, arith}
+use Rattle.std.proofs.Common.{◌≡◌, ◌<◌, ◌≤◌, ℕ, ◌+◌, Bool, true, false, not, ◌&&◌, ◌||◌, List, [], ◌∷◌, Some, None, length, slice_get, if◌then◌else◌, refl, sym, ap, ◌∙◌, subst, arith}
 use Rattle.std.specs.Prelude.{◌==◌, ◌*◌, min, nat_le, nat_lt, option_map, unwrap_or}
 use mathlib.Core.Logic.{inl, inr}
-use Rattle.std.proofs.lemmas.Bool.{both_ways, true≢false, true_from_ne_false, ltb-true, leb-true, or_cases, or_left, or_right, or_from, and_from}
-use Rattle.std.proofs.lemmas.Bool.{not-true, not_from_false}
+use Rattle.std.proofs.lemmas.Bool.{both_ways, true≢false, true_from_ne_false, ltb-true, leb-true, or_cases, or_left, or_right, or_from, and_from, not-true, not_from_false}
 use Rattle.std.proofs.Math.Bool.{or_assoc}
 use Rattle.regex_meaning.proofs.BoolLemmas.{and-left, and-right}
 use Rattle.regex_meaning.specs.Laws.{Each}
@@ -17,9 +15,7 @@ use Rattle.regress_machine.proofs.NearestCharacterLemmas.{moved-zero}
 use Rattle.regress_machine.specs.CharLoopExitStatesByPreference.{behind}
 use Rattle.regress_memo.specs.Liveness.{Agree, outermost}
 use Rattle.regress_memo.specs.DistinctLists.{IsIn, IsNew, AreDistinct}
-use Rattle.regress_memo.specs.LoopDataKeyCodes.{Question, is_empty, how_many, number_of_possible_answers, bool_as_digit, answer_to_loop_question, code_of}
-use Rattle.regress_memo.specs.LoopDataKeyCodes.{plan_code, plan_codes, key_of, shape_of_only_thread_of_key}
-use Rattle.regress_memo.specs.LoopDataKeyCodes.{HasSlotsOfProgram}
+use Rattle.regress_memo.specs.LoopDataKeyCodes.{Question, is_empty, how_many, number_of_possible_answers, bool_as_digit, answer_to_loop_question, code_of, plan_code, plan_codes, key_of, shape_of_only_thread_of_key, HasSlotsOfProgram}
 use Rattle.regress_memo.specs.UnboundedCharLoopMemoKeys.{row_by, plan_rows, char_loop_greediness_at, insn_before, CharLoopRecords, run_key}
 use Rattle.regress_memo.specs.MemoPlanChecksAndGuarantees.{plan_steps_below_record}
 use Rattle.regress_memo.specs.MemoSearch.{Key, KeyStandsFor, IsKnown, known_to_fail, known_to_reach}
@@ -32,8 +28,7 @@ use Rattle.regress_memo.specs.CheckedAnalysis.{IsRecordableMemoKey, IsAnalysisOf
 use Rattle.regress_memo.proofs.CheckedAnalysisLemmas.{recorded-is, not-recorded}
 use Rattle.regress_memo.specs.MemoContractView.{MemoView}
 use Rattle.regress_memo.specs.MemoContents.{same_key, memo_key_at, has_failure, has_success, knows, IsEmptyMemo, RecordsFailure, RecordsSuccess}
-use Rattle.regress_memo.specs.Laws.{analysis_keys, KeyFails, KeySucceeds, IsTrueOf, ListsExactlyKnownKeys, HasMemory, RecordingAddsKnownKeys, MemosAreSound}
-use Rattle.regress_memo.specs.Laws.{KeysAreThoseWithBits}
+use Rattle.regress_memo.specs.Laws.{analysis_keys, KeyFails, KeySucceeds, IsTrueOf, ListsExactlyKnownKeys, HasMemory, RecordingAddsKnownKeys, MemosAreSound, KeysAreThoseWithBits}
 use Rattle.regress_memo.proofs.MemoContentsLemmas.{same-is, same-itself, bit-there, line-there}
 
 -- ---- Lists without repetition

@@ -7,8 +7,7 @@ use Rattle.regress_memo.specs.MemoKeys.{IsSoundState}
 use Rattle.regress_memo.specs.declared.analysis_result.EnclosingLoop.{EnclosingLoop}
 use Rattle.regress_memo.specs.declared.analysis_result.MemoAnalysis.{MemoAnalysis}
 use Rattle.regress_memo.specs.declared.analysis_result.LoopProgressFact.TheVariants.{Inside, Moved}
-use Rattle.regress_memo.specs.AnalysisAsPotentials.{insn_analysis_of, enclosing_loops_of, states_loop_fact, count_bound_of, analysis_as_liveness}
-use Rattle.regress_memo.specs.AnalysisAsPotentials.{insn_direction}
+use Rattle.regress_memo.specs.AnalysisAsPotentials.{insn_analysis_of, enclosing_loops_of, states_loop_fact, count_bound_of, analysis_as_liveness, insn_direction}
 use Rattle.regress_memo.specs.ReachableThreadLoopStates.{direction_from_forward, IsAtMost, ThreadLoopStateFitsAnalysis}
 use Rattle.regress_memo.proofs.LoopFactFlowLemmas.{holds-there, holds-in}
 

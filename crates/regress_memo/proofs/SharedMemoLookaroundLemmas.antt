@@ -1,11 +1,10 @@
 -- Searches of lookaround contents learn keys for the enclosing search, which may decide
 -- lookarounds.
-use Rattle.std.proofs.Common.{◌≡◌, ℕ, ◌+◌, ◌≤◌, List, [], ◌∷◌, ◌++◌, Option, Some, None, Bool, true, false, ◌||◌, refl, ap, ◌∙◌, sym, subst, arith}
-use Rattle.std.proofs.Common.{append_assoc, append-nil, sum_by}
+use Rattle.std.proofs.Common.{◌≡◌, ℕ, ◌+◌, ◌≤◌, List, [], ◌∷◌, ◌++◌, Option, Some, None, Bool, true, false, ◌||◌, refl, ap, ◌∙◌, sym, subst, arith, append_assoc, append-nil, sum_by}
 use Rattle.std.specs.Prelude.{IsSome}
 use Rattle.std.proofs.lemmas.List.Sums.{sum_by-append}
 use Rattle.regex_meaning.specs.Laws.{Each}
-use Rattle.regex_meaning.proofs.EachElementLemmas.{Each-append, Each-map}
+use Rattle.regex_meaning.proofs.EachElementLemmas.{Each-append, Each-map, Each-left, Each-right}
 use Rattle.regex_meaning.specs.Text.{Text, Direction}
 use Rattle.regex_meaning.specs.CodeUnitOffsets.{units}
 use Rattle.regex_meaning.specs.CompilationRelation.{Program}
@@ -20,11 +19,10 @@ use Rattle.regress_memo.specs.Liveness.{Liveness, World, IsLivenessFor, Agree, o
 use Rattle.regress_memo.specs.DistinctLists.{IsIn, IsNew, AreDistinct, AreIn}
 use Rattle.regress_memo.specs.MemoSearch.{Key, Keys, Entry, one_thread, thread_group, key_record, IsBare, thread_entries, threads_in, keys_in, FindEnd, KeyStandsFor, AreKeys, Succeeds}
 use Rattle.regress_memo.specs.MemoSearch.{IsKnown, known_to_reach, AreRightKeyRecords, AreAnswered, HoldsInvariant, ReachesBySteps, at_first, gives, reaches, learns}
-use Rattle.regress_memo.specs.LookaroundsWithSharedMemo.{LookaroundsLearnKeys, FoundEndIsShared, SoundStatesLeaveSoundThreads}
-use Rattle.regress_memo.specs.LookaroundsWithSharedMemo.{KnownResultsDecideLookarounds}
+use Rattle.regress_memo.specs.LookaroundsWithSharedMemo.{LookaroundsLearnKeys, FoundEndIsShared, SoundStatesLeaveSoundThreads, KnownResultsDecideLookarounds}
 use Rattle.regress_memo.proofs.LivenessLemmas.{agree-of, agree-kept}
 use Rattle.regress_memo.proofs.FailingThreadLists.{same-answers, row-ends}
-use Rattle.regress_memo.proofs.DistinctListLemmas.{Each-left, Each-right, distinct-right, distinct-moved}
+use Rattle.regress_memo.proofs.DistinctListLemmas.{distinct-right, distinct-moved}
 use Rattle.regress_memo.proofs.ThreadsThatFailAlone.{splits}
 use Rattle.regress_memo.proofs.MemoSearchLemmas.{threads-joined, noted-below, answered-below, work-is-bounded}
 

@@ -1,15 +1,12 @@
 -- Available states stay equivalent to those of the machine after lookarounds that are not searched.
-use Rattle.std.proofs.Common.{◌≡◌, ◌≤◌, ℕ, ◌+◌, ◌*◌, min, List, [], ◌∷◌, Option, Some, None, Bool, true, false, not, ◌&&◌, refl, ap, ap₂, ◌∙◌, sym}
-use Rattle.std.proofs.Common.{subst, arith, slice_get, length}
+use Rattle.std.proofs.Common.{◌≡◌, ◌≤◌, ℕ, ◌+◌, ◌*◌, min, List, [], ◌∷◌, Option, Some, None, Bool, true, false, not, ◌&&◌, refl, ap, ap₂, ◌∙◌, sym, subst, arith, slice_get, length}
 use Rattle.std.specs.Prelude.{IsSome, ◌==◌, option_map, unwrap_or}
 use mathlib.Core.Logic.{inl, inr}
 use Rattle.regex_meaning.specs.Text.{Text, Direction, rightwards, leftwards}
 use Rattle.regex_meaning.specs.CodeUnitOffsets.{units}
 use Rattle.regex_meaning.specs.CompilationRelation.{Program, Insn, Lookahead, Lookbehind}
 use Rattle.regex_meaning.proofs.OptionLemmas.{some-same}
-use Rattle.regress_machine.specs.Machine.{LoopData, State, Thread, running, waiting, asks, Found, after_lookaround, state_with_ip, state_at_next_ip, act_on, act, search}
-use Rattle.regress_machine.specs.Machine.{Next}
-use Rattle.regress_machine.specs.Machine.{goes, scans, ends, stuck}
+use Rattle.regress_machine.specs.Machine.{LoopData, State, Thread, running, waiting, asks, Found, after_lookaround, state_with_ip, state_at_next_ip, act_on, act, search, Next, goes, scans, ends, stuck}
 use Rattle.regress_machine.proofs.MachineSearchLemmas.{asked-inner}
 use Rattle.regress_machine.specs.ThreadSimulation.{Simulates}
 use Rattle.regress_machine.proofs.ThreadSimulationLemmas.{simulates-asks, simulates-fewer}
@@ -19,8 +16,7 @@ use Rattle.regress_memo.specs.GroupPreservingInsns.{SameGroups}
 use Rattle.regress_memo.specs.DistinctLists.{IsIn}
 use Rattle.regress_memo.specs.ThreadPotentials.{Shape, stands_there, has_shape}
 use Rattle.regress_memo.specs.LoopDataKeyCodes.{Question, is_empty, how_many, number_of_possible_answers, bool_as_digit, answer_to_loop_question, code_of, plan_code}
-use Rattle.regress_memo.specs.SkippedLookarounds.{LookaroundInsn, lookaround_at, GoesOn, SuccessGoesOn, TurnsAtHand, AsksOnly}
-use Rattle.regress_memo.specs.SkippedLookarounds.{ThreadsStayEquivalent}
+use Rattle.regress_memo.specs.SkippedLookarounds.{LookaroundInsn, lookaround_at, AgreesWithStateAfterLookaround, SuccessGoesOn, TurnsAtHand, AsksOnly, ThreadsStayEquivalent}
 use Rattle.regress_memo.proofs.LivenessLemmas.{agree-of, agree-here, agree-inside, contents-world, agree-kept, threads-alike}
 use Rattle.regress_memo.proofs.GroupPreservingInsnLemmas.{groups-stay}
 
@@ -85,7 +81,7 @@ success-goes-on program text a acc silent are w d s look is positive quiet g fou
   where
     by : IsConsistentLookaround a s.ip look.continuation → act program text d s ≡ asks look.inner false (state_at_next_ip s) (state_with_ip look.continuation s)
         → (end : Option State) (n : ℕ) (h : Found) → search program text n look.inner (running (state_at_next_ip s) ∷ []) ≡ Some h → h.end ≡ end → IsSome h.end
-        → GoesOn program text a w d (state_with_ip look.continuation s) s
+        → AgreesWithStateAfterLookaround program text a w d (state_with_ip look.continuation s) s
     by looks asked None n h searches ended some = absurd (none h.end ended some)
       where
         none : (o : Option State) → o ≡ None → IsSome o → ⊥

@@ -1,6 +1,6 @@
 -- Attempts for successive matches begin at each offset at most twice, so their work is bounded.
 use Rattle.std.proofs.Common.{◌≡◌, ◌≤◌, ◌<◌, ℕ, zero, suc, ◌+◌, ◌-◌, List, [], ◌∷◌, Bool, true, false, refl, ap, sym, subst, ◌∙◌, arith, sum_by}
-use Rattle.std.specs.Prelude.{if◌then◌else◌, ◌==◌}
+use Rattle.std.specs.Prelude.{◌==◌}
 use mathlib.Core.Logic.{inl, inr}
 use Rattle.std.proofs.lemmas.Bool.{cases_lt, eqb-true}
 use Rattle.std.proofs.lemmas.List.Sums.{sum_by-cons}
@@ -8,6 +8,7 @@ use Rattle.regex_meaning.specs.NumberListHelpers.{numbers_from}
 use Rattle.regex_meaning.specs.Text.{Text, rightwards}
 use Rattle.regex_meaning.specs.CompilationRelation.{Program}
 use Rattle.regress_machine.specs.Machine.{Thread}
+use Rattle.regress_machine.proofs.WellFormedNodeLemmas.{one_if}
 use Rattle.regress_memo.specs.Liveness.{Liveness}
 use Rattle.regress_memo.specs.MemoSearch.{Key, Keys, one_thread, thread_entries, AreOnward}
 use Rattle.regress_memo.specs.AllMatchesWork.{Searched, at_first as at_start, failed as search-failed, found as search-found}
@@ -48,23 +49,20 @@ before-rises w m n le = let e : m + (n - m) ≡ n = omega (arith, le) in subst (
 
 -- ---- The work at one place
 
-abbrev one-if : Bool → ℕ
-one-if b = if b then 1 else 0
-
 abbrev is-it : (at p : ℕ) → ℕ
-is-it at p = one-if (p == at)
+is-it at p = one_if (p == at)
 
 few-is : (at p : ℕ) → is-it at p ≤ 1
 few-is at p = by (p == at)
   where
-    by : (b : Bool) → one-if b ≤ 1
+    by : (b : Bool) → one_if b ≤ 1
     by true = omega arith
     by false = omega arith
 
 not-it : (at p : ℕ) → (p ≡ at → ⊥) → is-it at p ≡ 0
 not-it at p other = by (p == at) refl
   where
-    by : (b : Bool) → (p == at) ≡ b → one-if b ≡ 0
+    by : (b : Bool) → (p == at) ≡ b → one_if b ≡ 0
     by true e = absurd (other (eqb-true p at e))
     by false e = refl
 

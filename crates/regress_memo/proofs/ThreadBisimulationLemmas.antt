@@ -2,10 +2,8 @@
 use Rattle.std.proofs.Common.{◌≡◌, ℕ, zero, suc, ◌+◌, List, [], ◌∷◌, ◌++◌, Option, Some, None, Bool, refl, ap, subst, arith}
 use Rattle.regex_meaning.specs.Text.{Text, Direction}
 use Rattle.regex_meaning.specs.CompilationRelation.{Program}
-use Rattle.regress_machine.specs.Machine.{State, Thread, running, waiting, Next, goes, scans, ends, asks, stuck, Found, with_steps, after_lookaround}
-use Rattle.regress_machine.specs.Machine.{after_lookaround_search}
-use Rattle.regress_machine.specs.Machine.{search_after_effect, act, search}
-use Rattle.regress_memo.specs.ThreadBisimulation.{Relation, AlikeThreads, AlikeAnswers, AlikeAsked, AlikeNext, IsBisimulation, AlikeThreadsEndAlike}
+use Rattle.regress_machine.specs.Machine.{State, Thread, running, waiting, Next, goes, scans, ends, asks, stuck, Found, with_steps, after_lookaround, after_lookaround_search, search_after_effect, act, search}
+use Rattle.regress_memo.specs.ThreadBisimulation.{Relation, AlikeThreads, AlikeAnswers, AreAlikeLookaroundSearches, AlikeNext, IsBisimulation, AlikeThreadsEndAlike}
 
 module _ (R : Relation) where
   pub alike-append : (ts us vs ws : List Thread) → AlikeThreads R ts us → AlikeThreads R vs ws → AlikeThreads R (ts ++ vs) (us ++ ws)
@@ -25,7 +23,7 @@ module _ {W : Type 0} (R : W → Direction → Relation) (program : Program) (te
   EndAlike n = (w : W) (d : Direction) (ts us : List Thread) → AlikeThreads (R w d) ts us
       → AlikeAnswers (R w d) (search program text n d ts) (search program text n d us)
 
-  asked-alike : (n : ℕ) → EndAlike n → (w : W) (d inner : Direction) (negate : Bool) (u s u' s' : State) (a : AlikeAsked R w d inner negate u s u' s')
+  asked-alike : (n : ℕ) → EndAlike n → (w : W) (d inner : Direction) (negate : Bool) (u s u' s' : State) (a : AreAlikeLookaroundSearches R w d inner negate u s u' s')
       → (ts us : List Thread) → AlikeThreads (R w d) ts us → (x y : Option Found) → AlikeAnswers (R a.world inner) x y
       → AlikeAnswers (R w d) (after_lookaround_search (λ vs. search program text n d vs) negate s ts x) (after_lookaround_search (λ vs. search program text n d vs) negate s' us y)
   asked-alike n later w d inner negate u s u' s' a ts us h None None k = tt
@@ -45,7 +43,7 @@ module _ {W : Type 0} (R : W → Direction → Relation) (program : Program) (te
   after-alike n later w d (ends s) (ends t) k ts us h = record { steps = refl; ends = k }
   after-alike n later w d (asks inner negate u s) (asks inner' negate' u' s') k ts us h = by inner' negate' k.0 (k.1, k.2)
     where
-      by : (i : Direction) (b : Bool) → inner ≡ i → (negate ≡ b) × AlikeAsked R w d inner negate u s u' s'
+      by : (i : Direction) (b : Bool) → inner ≡ i → (negate ≡ b) × AreAlikeLookaroundSearches R w d inner negate u s u' s'
           → AlikeAnswers (R w d) (search_after_effect (λ d vs. search program text n d vs) d (asks inner negate u s) ts) (search_after_effect (λ d vs. search program text n d vs) d (asks i b u' s') us)
       by i b e k =
           subst (λ i. AlikeAnswers (R w d) (search_after_effect (λ d vs. search program text n d vs) d (asks inner negate u s) ts) (search_after_effect (λ d vs. search program text n d vs) d (asks i b u' s') us)) e

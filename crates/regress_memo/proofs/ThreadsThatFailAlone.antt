@@ -1,14 +1,11 @@
 -- A thread that finds nothing alone finds nothing before other threads, and states that agree fail
 -- alike.
-use Rattle.std.proofs.Common.{◌≡◌, ℕ, zero, suc, ◌+◌, ◌≤◌, ◌<◌, List, [], ◌∷◌, ◌++◌, Option, Some, None, Bool, refl, ap, ◌∙◌, sym, subst, arith}
-use Rattle.std.proofs.Common.{append_assoc}
+use Rattle.std.proofs.Common.{◌≡◌, ℕ, zero, suc, ◌+◌, ◌≤◌, ◌<◌, List, [], ◌∷◌, ◌++◌, Option, Some, None, Bool, refl, ap, ◌∙◌, sym, subst, arith, append_assoc}
 use Rattle.std.specs.Prelude.{IsSome}
 use Rattle.regex_meaning.specs.Text.{Text, Direction}
 use Rattle.regex_meaning.specs.CompilationRelation.{Program}
 use Rattle.regex_meaning.specs.CodeUnitOffsets.{units}
-use Rattle.regress_machine.specs.Machine.{State, Thread, running, waiting, Next, goes, scans, ends, asks, stuck, Found, result_without_threads, with_steps}
-use Rattle.regress_machine.specs.Machine.{after_lookaround}
-use Rattle.regress_machine.specs.Machine.{after_lookaround_search, search_after_effect, act, search}
+use Rattle.regress_machine.specs.Machine.{State, Thread, running, waiting, Next, goes, scans, ends, asks, stuck, Found, result_without_threads, with_steps, after_lookaround, after_lookaround_search, search_after_effect, act, search}
 use Rattle.regress_machine.proofs.MachineSearchLemmas.{search_more}
 use Rattle.regress_machine.specs.ThreadSimulation.{FindsNothing}
 use Rattle.regress_machine.proofs.ThreadSimulationLemmas.{nothing-ends}

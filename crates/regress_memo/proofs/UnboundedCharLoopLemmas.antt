@@ -1,6 +1,5 @@
 -- The steps of char loops without a maximum are memo steps with a record for each exit.
-use Rattle.std.proofs.Common.{◌≡◌, ◌≤◌, ◌<◌, ℕ, zero, suc, ◌+◌, ◌-◌, List, [], ◌∷◌, ◌++◌, map, reverse, Bool, true, false, refl, ap, ap₂, ◌∙◌, sym}
-use Rattle.std.proofs.Common.{subst, arith, append-nil}
+use Rattle.std.proofs.Common.{◌≡◌, ◌≤◌, ◌<◌, ℕ, zero, suc, ◌+◌, ◌-◌, List, [], ◌∷◌, ◌++◌, map, reverse, Bool, true, false, refl, ap, ap₂, ◌∙◌, sym, subst, arith, append-nil}
 use Rattle.std.specs.Prelude.{nat_lt}
 use Rattle.std.proofs.lemmas.Bool.{lt-ltb}
 use Rattle.std.proofs.lemmas.List.{reverse-append}
@@ -10,6 +9,7 @@ use Rattle.regex_meaning.specs.CodeUnitOffsets.{HasRisingPlaceOffsets, offset, u
 use Rattle.regex_meaning.specs.CompilationRelation.{Program}
 use Rattle.regex_meaning.proofs.EachElementLemmas.{Each, Each-map, Each-reverse}
 use Rattle.regex_meaning.proofs.CodeUnitOffsetsLemmas.{place_at-offset, offset-place_at}
+use Rattle.regex_meaning.proofs.OutcomeDirectionLemmas.{moved-twice}
 use Rattle.regress_machine.specs.Machine.{State, Thread, running, waiting, scans, first_running_and_others_waiting, act}
 use Rattle.regress_machine.proofs.NearestCharacterLemmas.{moved-zero}
 use Rattle.regress_machine.proofs.CharLoopRepetitions.{numbers_between}
@@ -52,10 +52,6 @@ module _ (R : Relation) where
   alike-first (waiting s ∷ xs) ys h = (h.0, alike-first xs ys h.1)
 
 -- ---- Places of a char loop
-
-pub moved-twice : (text : Text) (d : Direction) (m n p : ℕ) → moved text d n (moved text d m p) ≡ moved text d (m + n) p
-moved-twice text rightwards m n p = omega arith
-moved-twice text leftwards m n p = omega arith
 
 pub place-inside : (text : Text) (d : Direction) (n p : ℕ) → p ≤ last_place text → n ≤ characters_ahead text d p → moved text d n p ≤ last_place text
 place-inside text rightwards n p inside few = omega (arith, few, inside)

@@ -1,6 +1,5 @@
 -- The contents of a memo analysis as liveness, questions, potentials and costs.
-use Rattle.std.specs.Prelude.{ℕ, ◌+◌, ◌*◌, Bool, true, false, if◌then◌else◌, ◌&&◌, ◌||◌, ◌==◌, List, [], ◌∷◌, length, unwrap_or, slice_get}
-use Rattle.std.specs.Prelude.{slice_range, nat_le, nat_lt}
+use Rattle.std.specs.Prelude.{ℕ, ◌+◌, ◌*◌, Bool, true, false, if◌then◌else◌, ◌&&◌, ◌||◌, ◌==◌, List, [], ◌∷◌, length, unwrap_or, slice_get, slice_range, nat_le, nat_lt}
 use Rattle.regex_meaning.specs.Text.{Direction, rightwards, leftwards}
 use Rattle.regress_memo.specs.Liveness.{Liveness}
 use Rattle.regress_memo.specs.LoopDataKeyCodes.{Question, is_empty, how_many}

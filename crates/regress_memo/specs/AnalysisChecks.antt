@@ -1,6 +1,5 @@
 -- The checks of a memo analysis at each instruction.
-use Rattle.std.specs.Prelude.{◌≡◌, ◌≢◌, ◌≤◌, ◌<◌, ℕ, ◌+◌, ◌-◌, ◌*◌, ◌^◌, Bool, true, false, ◌==◌, if◌then◌else◌, [], Option, Some, None, nat_lt}
-use Rattle.std.specs.Prelude.{slice_get}
+use Rattle.std.specs.Prelude.{◌≡◌, ◌≢◌, ◌≤◌, ◌<◌, ℕ, ◌+◌, ◌-◌, ◌*◌, ◌^◌, Bool, true, false, ◌==◌, if◌then◌else◌, [], Option, Some, None, nat_lt, slice_get}
 use Rattle.regex_meaning.specs.Text.{rightwards, leftwards}
 use Rattle.regex_meaning.specs.CompilationRelation.{Program, Insn, EnterLoop}
 use Rattle.regex_meaning.specs.CompilationRelation as layout
@@ -16,10 +15,7 @@ use Rattle.regress_memo.specs.declared.successors.Successors.{Successors}
 use Rattle.regress_memo.specs.declared.successors.Successors.TheVariants.{Ends, One, Two, Enter, Again, Run, LookaroundSuccessor, Same}
 use Rattle.regress_memo.specs.declared.successors.LookaroundSuccessor as look
 use Rattle.regress_memo.specs.declared.successors.CharLoopMinMaxAndGreed as bounds
-use Rattle.regress_memo.specs.AnalysisAsPotentials.{insn_analysis_of, enclosing_loops_of, states_loop_fact}
-use Rattle.regress_memo.specs.AnalysisAsPotentials.{knows_iteration_reads}
-use Rattle.regress_memo.specs.AnalysisAsPotentials.{count_bound_of}
-use Rattle.regress_memo.specs.AnalysisAsPotentials.{analysis_as_liveness, key_code_questions_of, recorded, potentials_of, key_cost_of, insn_direction}
+use Rattle.regress_memo.specs.AnalysisAsPotentials.{insn_analysis_of, enclosing_loops_of, states_loop_fact, knows_iteration_reads, count_bound_of, analysis_as_liveness, key_code_questions_of, recorded, potentials_of, key_cost_of, insn_direction}
 use Rattle.regress_memo.specs.AnalysisAsPotentials.{groups_stay_unchanged_from, memo_codes_before_insn, number_of_memo_codes_at_insn}
 
 -- Whether `l` is the loop that is entered.

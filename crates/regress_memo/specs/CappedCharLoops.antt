@@ -67,7 +67,8 @@ module _ (program : Program) (text : Text) (a : Liveness) (keys : Keys) (d : Dir
     (weight : List Thread → ℕ) where
   -- The search of the contents, its keys, and the step of the lookaround satisfy the conditions
   -- above.
-  pub record IsLooked (now learned : List Key) (front entries rest : List Entry) (us : List Thread) (more : ℕ) : Type 0
+  pub record IsLookaroundContentsSearched (now learned : List Key) (front entries rest : List Entry) (us : List Thread)
+      (more : ℕ) : Type 0
     where
       pub front_bare : IsBare front
       pub learns : AreLearned program text a keys (front ++ rest) now learned
@@ -85,7 +86,7 @@ module _ (program : Program) (text : Text) (a : Liveness) (keys : Keys) (d : Dir
       (memory : List Key) (row : List Entry) (work : ℕ) (now learned : List Key) (front entries rest : List Entry)
       (us : List Thread) (more : ℕ)
       → ReachesBySteps program text a keys d price weight memory row work now (front ++ rest)
-      → IsLooked now learned front entries rest us more
+      → IsLookaroundContentsSearched now learned front entries rest us more
       → ReachesBySteps program text a keys d price weight memory row (work + (1 + more)) (learned ++ now)
       (entries ++ rest)
 

@@ -1,6 +1,5 @@
 -- A checked memo analysis, and the laws that it satisfies.
-use Rattle.std.specs.Prelude.{◌≡◌, ◌≤◌, ◌<◌, ℕ, ◌+◌, ◌*◌, ◌^◌, min, Bool, true, false, ◌==◌, if◌then◌else◌, List, [], Option, Some, None, slice_get}
-use Rattle.std.specs.Prelude.{length}
+use Rattle.std.specs.Prelude.{◌≡◌, ◌≤◌, ◌<◌, ℕ, ◌+◌, ◌*◌, ◌^◌, min, Bool, true, false, ◌==◌, if◌then◌else◌, List, [], Option, Some, None, slice_get, length}
 use Rattle.regex_meaning.specs.Laws.{Each}
 use Rattle.regex_meaning.specs.Text.{Text, Direction, rightwards}
 use Rattle.regex_meaning.specs.CodeUnitOffsets.{HasRisingPlaceOffsets, units}
@@ -16,11 +15,7 @@ use Rattle.regress_memo.specs.MemoSearch.{Key}
 use Rattle.regress_memo.specs.declared.analysis_result.MemoAnalysis.{MemoAnalysis}
 use Rattle.regress_memo.specs.declared.loop_data_key_codes.LoopCountAndIterationStart.{LoopCountAndIterationStart}
 use Rattle.regress_memo.specs.declared.analysis_result.EnclosingLoop.{EnclosingLoop}
-use Rattle.regress_memo.specs.AnalysisAsPotentials.{insn_analysis_of, enclosing_loops_of, analysis_as_liveness, key_code_questions_of, recorded}
-use Rattle.regress_memo.specs.AnalysisAsPotentials.{potentials_of}
-use Rattle.regress_memo.specs.AnalysisAsPotentials.{key_cost_of}
-use Rattle.regress_memo.specs.AnalysisAsPotentials.{insn_direction, groups_stay_unchanged_from, memo_codes_before_insn}
-use Rattle.regress_memo.specs.AnalysisAsPotentials.{number_of_memo_codes_at_insn, memo_bit_index_of_key}
+use Rattle.regress_memo.specs.AnalysisAsPotentials.{insn_analysis_of, enclosing_loops_of, analysis_as_liveness, key_code_questions_of, recorded, potentials_of, key_cost_of, insn_direction, groups_stay_unchanged_from, memo_codes_before_insn, number_of_memo_codes_at_insn, memo_bit_index_of_key}
 use Rattle.regress_memo.specs.AnalysisChecks.{IsCharLoopChecked, IsConsistentAt, max_codes_per_insn}
 use Rattle.regress_memo.specs.Successors.{successors_of_insn_if_any}
 
@@ -54,7 +49,7 @@ module _ (program : Program) (t : MemoAnalysis) where
         → insn_direction t (ip + 1) ≡ look.inner
 
   -- The analysis is a memo plan of the program in a text of fewer than 2^63 code units.
-  pub record Serves (text : Text) : Type 0 where
+  pub record IsMemoPlanForText (text : Text) : Type 0 where
     pub plan : IsPlan program text (analysis_as_liveness t) (key_code_questions_of t) (insn_direction t) (recorded t)
         (plan_steps_below_record program)
     pub serves : PlanServes program text (analysis_as_liveness t) (key_code_questions_of t) (insn_direction t)
@@ -89,7 +84,7 @@ pub record IsRecordableMemoKey (t : MemoAnalysis) (places : ℕ) (k : Key) : Typ
 abbrev pub AnalysesAreMemoPlans : Type 0
 AnalysesAreMemoPlans = (program : Program) (t : MemoAnalysis) → IsAnalysisOf program t
     → (text : Text) → HasRisingPlaceOffsets text → ReadsAsBytes program text → units text < 2 ^ 63
-    → Serves program t text
+    → IsMemoPlanForText program t text
 
 -- The instruction of a thread.
 abbrev pub ip_of : Thread → ℕ

@@ -2,13 +2,10 @@
 pub use Rattle.regress_memo.specs.Liveness.{LiveDataDecideSearchResult, LiveDataDecideThreadLists, LiveDataDecideFailure}
 pub use Rattle.regress_memo.specs.MemoKeys.{MemoKeysDecideFailure, NoStateRecursWhilePending, PositionsDecideFailure, RecordedFailuresAreRight}
 pub use Rattle.regress_memo.specs.LivenessExamples.{LivenessExamplesAreRight}
-pub use Rattle.regress_memo.specs.MemoSearch.{DistinctKeysCostAtMostList, PendingRecordsStayRight, RightwardSearchesNeverMoveLeft, StepsKeepInvariant}
-pub use Rattle.regress_memo.specs.MemoSearch.{WorkIsBounded}
+pub use Rattle.regress_memo.specs.MemoSearch.{DistinctKeysCostAtMostList, PendingRecordsStayRight, RightwardSearchesNeverMoveLeft, StepsKeepInvariant, WorkIsBounded}
 pub use Rattle.regress_memo.specs.AllMatchesWork.{AllMatchesWorkIsLinear, AllMatchesWorkIsBounded}
-pub use Rattle.regress_memo.specs.ThreadPotentials.{OffsetsAndCodesAreKeys, KeysCoverRecordedExits, ThreadsLeftFitInsnPotentials, StepsAreMemoSteps}
-pub use Rattle.regress_memo.specs.ThreadPotentials.{RightwardInsnsNeverMoveLeft}
-pub use Rattle.regress_memo.specs.LookaroundsWithSharedMemo.{KnownResultsDecideLookarounds, LookaroundsLearnKeys, SoundStatesLeaveSoundThreads}
-pub use Rattle.regress_memo.specs.LookaroundsWithSharedMemo.{FoundEndIsShared}
+pub use Rattle.regress_memo.specs.ThreadPotentials.{OffsetsAndCodesAreKeys, KeysCoverRecordedExits, ThreadsLeftFitInsnPotentials, StepsAreMemoSteps, RightwardInsnsNeverMoveLeft}
+pub use Rattle.regress_memo.specs.LookaroundsWithSharedMemo.{KnownResultsDecideLookarounds, LookaroundsLearnKeys, SoundStatesLeaveSoundThreads, FoundEndIsShared}
 pub use Rattle.regress_memo.specs.GroupPreservingInsns.{InsnsKeepGroupsToEnd}
 pub use Rattle.regress_memo.specs.CharLoopExitThreadLists.{LazyCharLoopThreadsUnfold, GreedyThreadsSplit, CharLoopYieldsExits}
 pub use Rattle.regress_memo.specs.LoopDataKeyCodes.{KeyCodesDistinguishLoopData}

@@ -1,11 +1,9 @@
 -- Liveness analysis: which parts of a state an instruction may still need. The parts are groups,
 -- starts of groups, and the data of loops.
-use Rattle.std.specs.Prelude.{◌≡◌, ◌≤◌, ◌<◌, ℕ, ◌+◌, ◌-◌, min, Bool, true, false, ◌||◌, ◌==◌, List, [], ◌∷◌, length, Option, Some, None, IsTrue}
-use Rattle.std.specs.Prelude.{nat_lt, slice_get}
+use Rattle.std.specs.Prelude.{◌≡◌, ◌≤◌, ◌<◌, ℕ, ◌+◌, ◌-◌, min, Bool, true, false, ◌||◌, ◌==◌, List, [], ◌∷◌, length, Option, Some, None, IsTrue, nat_lt, slice_get}
 use Rattle.regex_meaning.specs.Text.{Text, Direction, rightwards, leftwards}
 use Rattle.regex_meaning.specs.CodeUnitOffsets.{HasRisingPlaceOffsets, units}
-use Rattle.regex_meaning.specs.CompilationRelation.{Program, LoopFields, Insn, Goal, JustFail, Char, CharSet, ByteSet, ByteSeq, AsciiBracket, Bracket, MatchAny}
-use Rattle.regex_meaning.specs.CompilationRelation.{MatchAnyExceptLineTerminator, Alt, Jump, EnterLoop, LoopAgain, Loop1CharBody, BeginCaptureGroup}
+use Rattle.regex_meaning.specs.CompilationRelation.{Program, LoopFields, Insn, Goal, JustFail, Char, CharSet, ByteSet, ByteSeq, AsciiBracket, Bracket, MatchAny, MatchAnyExceptLineTerminator, Alt, Jump, EnterLoop, LoopAgain, Loop1CharBody, BeginCaptureGroup}
 use Rattle.regex_meaning.specs.CompilationRelation.{EndCaptureGroup, BackRef, Lookahead, Lookbehind}
 use Rattle.regress_machine.specs.Machine.{Thread, LoopData, State, running, search}
 use Rattle.regress_machine.specs.TextsForBytePrograms.{HasUtf8CharactersAndOffsets}
@@ -70,22 +68,22 @@ module _ (a : Liveness) where
         → LoopCountDecidesExit top f moved
 
   -- The edges from the start of an iteration are consistent.
-  pub record Enters (f : LoopFields) (ip begin : ℕ) : Type 0 where
+  pub record IsConsistentIterationStart (f : LoopFields) (ip begin : ℕ) : Type 0 where
     pub again : IsConsistentEdge false none (λ l. l == f.loop_id) ip (begin + 1)
     pub leave : IsConsistentPlainEdge false ip f.exit
     pub writes : a.writes ip f.loop_id ≡ true
     pub few : a.counted f.loop_id ≡ true → f.max_iters ≤ a.up_to f.loop_id + 1
 
   -- The facts are consistent where an iteration ends and another one may begin.
-  pub record Repeats (top : ℕ) (f : LoopFields) (ip begin : ℕ) : Type 0 where
-    pub enters : Enters f ip begin
+  pub record IsConsistentIterationEnd (top : ℕ) (f : LoopFields) (ip begin : ℕ) : Type 0 where
+    pub enters : IsConsistentIterationStart f ip begin
     pub inside : a.inside ip f.loop_id ≡ true
     pub empty : (a.empty ip f.loop_id || a.moved ip f.loop_id) ≡ true
     pub decides : LoopCountDecidesExit top f (a.moved ip f.loop_id)
 
-  -- `Repeats` for a loop head. Other instructions satisfy it.
+  -- `IsConsistentIterationEnd` for a loop head. Other instructions satisfy it.
   abbrev pub IsRepeated : (top : ℕ) → Option Insn → (ip begin : ℕ) → Type 0
-  IsRepeated top (Some (EnterLoop f)) ip begin = Repeats top f ip begin
+  IsRepeated top (Some (EnterLoop f)) ip begin = IsConsistentIterationEnd top f ip begin
   IsRepeated top _ ip begin = Unit {0}
 
   -- The analysis is sound at a lookaround. Its contents neither need nor change the data of loops
@@ -113,7 +111,7 @@ module _ (a : Liveness) where
   IsSoundLivenessAt top program (Some (Alt secondary)) ip = IsConsistentPlainEdge false ip (ip + 1)
       × IsConsistentPlainEdge false ip secondary
   IsSoundLivenessAt top program (Some (Jump target)) ip = IsConsistentPlainEdge false ip target
-  IsSoundLivenessAt top program (Some (EnterLoop f)) ip = Enters f ip ip
+  IsSoundLivenessAt top program (Some (EnterLoop f)) ip = IsConsistentIterationStart f ip ip
   IsSoundLivenessAt top program (Some (LoopAgain begin)) ip = IsRepeated top (slice_get program.insns begin) ip begin
   IsSoundLivenessAt top program (Some (Loop1CharBody min_iters max_iters greedy)) ip =
       IsConsistentPlainEdge (nat_lt 0 min_iters) ip (ip + 2)

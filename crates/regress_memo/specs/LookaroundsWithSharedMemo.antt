@@ -8,11 +8,10 @@ use Rattle.regress_machine.specs.Machine.{State, Thread, running, goes, scans, e
 use Rattle.regress_machine.specs.SearchFindsFirstOutcomeAtPlace.{state_before_first_insn}
 use Rattle.regress_machine.specs.ThreadSimulation.{Simulates, AllFindNothing}
 use Rattle.regex_meaning.specs.CodeUnitOffsets.{units}
-use Rattle.regress_memo.specs.ThreadBisimulation.{AlikeThreads, AlikeAsked}
+use Rattle.regress_memo.specs.ThreadBisimulation.{AlikeThreads, AreAlikeLookaroundSearches}
 use Rattle.regress_memo.specs.Liveness.{Liveness, World, outermost, Agree, IsLivenessFor}
 use Rattle.regress_memo.specs.DistinctLists.{IsNew, AreDistinct, AreIn}
-use Rattle.regress_memo.specs.MemoSearch.{Key, Keys, Entry, thread_entries, entry_potential, threads_in, keys_in, IsBare, FindEnd, AreKeys, Succeeds, IsKnown, IsMemory}
-use Rattle.regress_memo.specs.MemoSearch.{HoldsInvariant, ReachesBySteps}
+use Rattle.regress_memo.specs.MemoSearch.{Key, Keys, Entry, thread_entries, entry_potential, threads_in, keys_in, IsBare, FindEnd, AreKeys, Succeeds, IsKnown, IsMemory, HoldsInvariant, ReachesBySteps}
 
 module _ (program : Program) (text : Text) (a : Liveness) (keys : Keys) where
   -- The new keys are known, distinct, and not pending in the enclosing search.
@@ -53,7 +52,7 @@ module _ (program : Program) (text : Text) (a : Liveness) where
     -- the contents is sound there, the state that continues after it is sound.
     pub asks : (w : World) (inner : Direction) (negate : Bool) (s u t : State) → Agree a (units text) w d s s
         → act program text d s ≡ asks inner negate u t
-        → AlikeAsked (λ w d. Agree a (units text) w d) w d inner negate u t u t
+        → AreAlikeLookaroundSearches (λ w d. Agree a (units text) w d) w d inner negate u t u t
     -- States that agree in any world agree in the outermost one.
     pub outer : (w : World) (s t : State) → Agree a (units text) w d s t → Agree a (units text) outermost d s t
 

@@ -7,8 +7,7 @@ use Rattle.regex_meaning.specs.CompilationRelation.{Program}
 use Rattle.regress_machine.specs.Machine.{Thread, Found, search}
 use Rattle.regress_machine.specs.ThreadSimulation.{Within, Simulates}
 use Rattle.regress_memo.specs.Liveness.{Liveness, IsLivenessFor}
-use Rattle.regress_memo.specs.MemoSearch.{Key, Keys, Entry, one_thread, thread_group, key_record, thread_entries, threads_in, keys_in, IsBare, KeyStandsFor, AreKeys, Fails, Succeeds}
-use Rattle.regress_memo.specs.MemoSearch.{FindEnd, AreRightKeyRecords, AreAnswered, IsMemoStep}
+use Rattle.regress_memo.specs.MemoSearch.{Key, Keys, Entry, one_thread, thread_group, key_record, thread_entries, threads_in, keys_in, IsBare, KeyStandsFor, AreKeys, Fails, Succeeds, FindEnd, AreRightKeyRecords, AreAnswered, IsMemoStep}
 
 module _ (program : Program) (text : Text) (a : Liveness) (keys : Keys) (d : Direction) where
   -- The entries find the result `f`, and their records are right.
@@ -19,7 +18,7 @@ module _ (program : Program) (text : Text) (a : Liveness) (keys : Keys) (d : Dir
     pub answered : AreAnswered program text d row
 
   -- The threads `us`, followed by others, simulate the threads `ts`.
-  pub record IsComing (ts us : List Thread) : Type 0 where
+  pub record IsSimulatedWithMoreThreads (ts us : List Thread) : Type 0 where
     pub others : List Thread
     pub spent : ℕ
     pub comes : Simulates program text false d spent (us ++ others) ts
@@ -29,7 +28,7 @@ module _ (program : Program) (text : Text) (a : Liveness) (keys : Keys) (d : Dir
   AreComing ts [] = Unit {0}
   AreComing ts (one_thread t ∷ row) = AreComing ts row
   AreComing ts (thread_group us ∷ row) = AreComing ts row
-  AreComing ts (key_record k us ∷ row) = IsComing ts us × AreComing ts row
+  AreComing ts (key_record k us ∷ row) = IsSimulatedWithMoreThreads ts us × AreComing ts row
 
   -- The entries replace the first threads of a list. The threads of the entries simulate these, and
   -- so do the threads of each record.

@@ -32,12 +32,12 @@ lookaround_at _ = None
 module _ (program : Program) (text : Text) (a : Liveness) where
   -- The contents were not searched, so the machine's next state is not available. An available
   -- state agrees with it.
-  pub record GoesOn (w : World) (d : Direction) (at_hand s : State) : Type 0 where
+  pub record AgreesWithStateAfterLookaround (w : World) (d : Direction) (at_hand s : State) : Type 0 where
     pub behind : State
     pub agrees : Agree a (units text) w d at_hand behind
     pub simulates : Simulates program text false d 1 (running behind ∷ []) (running s ∷ [])
 
-  -- `GoesOn` holds for a positive lookaround without groups whose contents are known to find an
+  -- `AgreesWithStateAfterLookaround` holds for a positive lookaround without groups whose contents are known to find an
   -- end.
   abbrev pub SuccessGoesOn : Type 0
   SuccessGoesOn = IsLivenessFor program text a → (silent : ℕ → Bool) → AreGroupPreserving silent program
@@ -46,7 +46,7 @@ module _ (program : Program) (text : Text) (a : Liveness) where
       → look.negate ≡ false → silent (s.ip + 1) ≡ true → Agree a (units text) w d s s
       → FindEnd program text look.inner (running (state_at_next_ip s) ∷ [])
       → (turns : ℕ) (vs : List Thread) (f : Found) → search program text turns d (running s ∷ vs) ≡ Some f
-      → GoesOn w d (state_with_ip look.continuation s) s
+      → AgreesWithStateAfterLookaround w d (state_with_ip look.continuation s) s
 
   -- A step from the available state leaves threads that agree with those of the machine. So an end
   -- has the same offset and, if groups are live, the same groups.

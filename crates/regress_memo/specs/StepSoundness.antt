@@ -7,8 +7,7 @@ use Rattle.regress_machine.specs.Machine.{Thread, Found}
 use Rattle.regress_machine.specs.ThreadSimulation.{Simulates}
 use Rattle.regress_memo.specs.Liveness.{Liveness, IsLivenessFor}
 use Rattle.regress_memo.specs.DistinctLists.{IsNew, AreDistinct}
-use Rattle.regress_memo.specs.MemoSearch.{Key, Keys, Entry, key_record, threads_in, keys_in, IsBare, KeyStandsFor, AreKeys, AreRightKeyRecords, AreOpened, IsMemoStep}
-use Rattle.regress_memo.specs.MemoSearch.{HoldsInvariant}
+use Rattle.regress_memo.specs.MemoSearch.{Key, Keys, Entry, key_record, threads_in, keys_in, IsBare, KeyStandsFor, AreKeys, AreRightKeyRecords, AreOpened, IsMemoStep, HoldsInvariant}
 
 module _ (program : Program) (text : Text) (a : Liveness) (keys : Keys) (d : Direction) where
   -- Like `IsMemoStep`, but without its field `onward`.

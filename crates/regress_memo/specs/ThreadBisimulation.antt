@@ -28,14 +28,14 @@ module _ (R : Relation) where
   AlikeEnds _ _ = ⊥
 
   -- Two results have the same number of steps, and their ends are alike.
-  pub record AlikeFound (f g : Found) : Type 0 where
+  pub record HaveSameStepsAndAlikeEnds (f g : Found) : Type 0 where
     pub steps : f.steps ≡ g.steps
     pub ends : AlikeEnds f.end g.end
 
   -- Both searches have results that are alike, or neither has a result.
   abbrev pub AlikeAnswers : Option Found → Option Found → Type 0
   AlikeAnswers None None = Unit {0}
-  AlikeAnswers (Some f) (Some g) = AlikeFound f g
+  AlikeAnswers (Some f) (Some g) = HaveSameStepsAndAlikeEnds f g
   AlikeAnswers _ _ = ⊥
 
 -- There is a relation for each world and direction, because the search of a lookaround's contents
@@ -43,7 +43,7 @@ module _ (R : Relation) where
 module _ {W : Type 0} (R : W → Direction → Relation) where
   -- The contents are related in some world. If their ends are related there, the states that
   -- continue are related here.
-  pub record AlikeAsked (w : W) (d inner : Direction) (negate : Bool) (u s u' s' : State) : Type 0 where
+  pub record AreAlikeLookaroundSearches (w : W) (d inner : Direction) (negate : Bool) (u s u' s' : State) : Type 0 where
     pub world : W
     pub contents : R world inner u u'
     pub behind : (a b : Option State) → AlikeEnds (R world inner) a b
@@ -55,7 +55,7 @@ module _ {W : Type 0} (R : W → Direction → Relation) where
   AlikeNext w d (scans m ts) (scans n us) = (m ≡ n) × AlikeThreads (R w d) ts us
   AlikeNext w d (ends s) (ends t) = R w d s t
   AlikeNext w d (asks inner negate u s) (asks inner' negate' u' s') = (inner ≡ inner') × (negate ≡ negate')
-      × AlikeAsked w d inner negate u s u' s'
+      × AreAlikeLookaroundSearches w d inner negate u s u' s'
   AlikeNext w d stuck stuck = Unit {0}
   AlikeNext w d _ _ = ⊥
 

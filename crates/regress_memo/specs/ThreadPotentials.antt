@@ -1,7 +1,6 @@
 -- Potentials of threads, given by a table that is checked at each instruction, and the costs of
 -- memo steps.
-use Rattle.std.specs.Prelude.{◌≡◌, ◌≤◌, ℕ, ◌+◌, ◌*◌, Bool, true, false, not, nat_le, nat_lt, ◌&&◌, ◌||◌, ◌==◌, List, [], ◌∷◌, ◌++◌, map, length}
-use Rattle.std.specs.Prelude.{flat_map, Option, Some, None, slice_get}
+use Rattle.std.specs.Prelude.{◌≡◌, ◌≤◌, ℕ, ◌+◌, ◌*◌, Bool, true, false, not, nat_le, nat_lt, ◌&&◌, ◌||◌, ◌==◌, List, [], ◌∷◌, ◌++◌, map, length, flat_map, Option, Some, None, slice_get}
 use Rattle.std.specs.List.{sum_by}
 use Rattle.regex_meaning.specs.Laws.{Each}
 use Rattle.regex_meaning.specs.NumberListHelpers.{numbers_from}
@@ -13,8 +12,7 @@ use Rattle.regress_machine.specs.ThreadSimulation.{Simulates, AllFindNothing}
 use Rattle.regress_memo.specs.Liveness.{Liveness, IsLivenessFor}
 use Rattle.regress_memo.specs.MemoKeys.{IsSoundState, SamePlace, SameKey, NoGroupsAreLive, OnlyPositionsAreLive}
 use Rattle.regress_memo.specs.DistinctLists.{IsNew, AreDistinct}
-use Rattle.regress_memo.specs.MemoSearch.{Key, Keys, Entry, one_thread, key_record, thread_entries, threads_in, keys_in, IsBare, entry_potential, AreOnward, GoesOnward, KeyStandsFor}
-use Rattle.regress_memo.specs.MemoSearch.{AreKeys, IsMemoStep}
+use Rattle.regress_memo.specs.MemoSearch.{Key, Keys, Entry, one_thread, key_record, thread_entries, threads_in, keys_in, IsBare, entry_potential, AreOnward, GoesOnward, KeyStandsFor, AreKeys, IsMemoStep}
 
 -- ---- Potentials
 

@@ -74,7 +74,8 @@ module _ (program : Program) (text : Text) (a : Liveness) (questions : ℕ → L
 
 -- ---- Laws
 
--- What happens when the threads that wait from a place of a lazy char loop are resumed.
+-- If the threads that wait from a place of a lazy char loop are resumed under a new key, the one at that place
+-- runs, those from the next place on wait, and below them is a record of the key.
 abbrev pub LazyRunsComeBack : Type 0
 LazyRunsComeBack =
     (program : Program) (text : Text) (a : Liveness) (questions : ℕ → List Question) (way : ℕ → Direction)

@@ -17,9 +17,7 @@ use Rattle.regress_memo.specs.declared.successors.Successors.{Successors}
 use Rattle.regress_memo.specs.declared.successors.Successors.TheVariants.{Run as AsRun, LookaroundSuccessor as AsLook}
 use Rattle.regress_memo.specs.UnreachedCharLoopBodies.{FlowsPastBodies}
 use Rattle.regress_memo.specs.AnalysisChecks.{unlimited}
-use Rattle.regress_memo.specs.AnalysisAsPotentials.{insn_analysis_of, analysis_as_liveness, key_code_questions_of, recorded, potentials_of}
-use Rattle.regress_memo.specs.AnalysisAsPotentials.{key_cost_of}
-use Rattle.regress_memo.specs.AnalysisAsPotentials.{insn_direction}
+use Rattle.regress_memo.specs.AnalysisAsPotentials.{insn_analysis_of, analysis_as_liveness, key_code_questions_of, recorded, potentials_of, key_cost_of, insn_direction}
 use Rattle.regress_memo.specs.Successors.{successors_of_insn_if_any}
 use Rattle.regress_memo.specs.CheckedAnalysis.{IsAnalysisOf}
 

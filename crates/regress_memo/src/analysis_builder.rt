@@ -201,7 +201,7 @@ impl MemoAnalysis {
             if let Some(fields) = loop_ending_at(insns, ip) {
                 let moved = self.states_loop_fact(ip, LoopProgressFact::Moved, fields.loop_id);
                 if let Some(count) = self.counts.get_mut(usize::from(fields.loop_id)) {
-                    *count = count_for(&fields, moved);
+                    *count = distinguished_count_of_loop(&fields, moved);
                 }
             }
         }
@@ -352,7 +352,7 @@ fn close_ended_scopes(levels: &mut Vec<EnclosingScopeWithEnd>, ip: usize) {
 
 // Computes the count bound of a loop. `moved` says whether each iteration has read a character at
 // its end.
-fn count_for(fields: &LoopFields, moved: bool) -> LoopCountsDistinguishedUpTo {
+fn distinguished_count_of_loop(fields: &LoopFields, moved: bool) -> LoopCountsDistinguishedUpTo {
     let counted = fields.max_iters != usize::MAX;
     let up_to = if counted {
         fields.max_iters.saturating_sub(1)

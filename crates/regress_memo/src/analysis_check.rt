@@ -4,13 +4,9 @@ ghost use Rattle.std.specs.Prelude.{◌≡◌, ◌≤◌, ◌<◌, ◌+◌, ◌^
 ghost use Rattle.regex_meaning.specs.CompilationRelation.{Program};
 ghost use Rattle.regress_program.specs.InsnsAsSpec.{insn_as_spec_insn, loop_fields_as_spec};
 ghost use Rattle.regress_memo.specs.ThreadPotentials.{CoversOne, CoversTwo};
-ghost use Rattle.regress_memo.specs.AnalysisAsPotentials.{enclosing_loops_of, insn_analysis_of, groups_stay_unchanged_from, potentials_of};
-ghost use Rattle.regress_memo.specs.AnalysisAsPotentials.{states_loop_fact};
-ghost use Rattle.regress_memo.specs.AnalysisAsPotentials.{knows_iteration_reads};
+ghost use Rattle.regress_memo.specs.AnalysisAsPotentials.{enclosing_loops_of, insn_analysis_of, groups_stay_unchanged_from, potentials_of, states_loop_fact, knows_iteration_reads};
 ghost use Rattle.regress_memo.specs.Successors.{DeclaredInsnsEqualProgramInsns, successors_of_insn_if_any};
-ghost use Rattle.regress_memo.specs.AnalysisChecks.{is_entered, LoopFactsFlow, AllLoopFactsFlow, IsConsistentFlow, MayBeginIteration, MayRepeatLoop};
-ghost use Rattle.regress_memo.specs.AnalysisChecks.{MayEndIteration, MayRepeatLoopAt};
-ghost use Rattle.regress_memo.specs.AnalysisChecks.{CountDecides, LoopsAreBefore, IsolatesLookaround, IsConsistentAt, IsCoveredAt, IsInsnCostCovered};
+ghost use Rattle.regress_memo.specs.AnalysisChecks.{is_entered, LoopFactsFlow, AllLoopFactsFlow, IsConsistentFlow, MayBeginIteration, MayRepeatLoop, MayEndIteration, MayRepeatLoopAt, CountDecides, LoopsAreBefore, IsolatesLookaround, IsConsistentAt, IsCoveredAt, IsInsnCostCovered};
 ghost use Rattle.regress_memo.specs.AnalysisChecks.{IsCharLoopChecked, IsInsnChecked};
 ghost use Rattle.regress_memo.specs.CheckedAnalysis.{IsAnalysisOf, HasDisjointCodes, FirstInsnForwardOutsideLoops};
 
@@ -23,8 +19,8 @@ use regress_program::instructions::{Insn, LoopFields};
 impl MemoAnalysis {
     // Checks whether the analysis is correct for the program with these instructions.
     pub(crate) fn is_analysis_of_program(&self, insns: &[Insn]) -> bool
-        ensures of { result ≡ true → (program : Program) → DeclaredInsnsEqualProgramInsns program insns.now → IsAnalysisOf
-            program self.now }
+        ensures of { result ≡ true → (program : Program) → DeclaredInsnsEqualProgramInsns program insns.now →
+            IsAnalysisOf program self.now }
         ensures coded { result ≡ true → HasDisjointCodes self.now }
     {
         if !self.starts_outside() {
@@ -126,16 +122,16 @@ impl MemoAnalysis {
     {
         let here = self.insn_analysis_at(edge.ip);
         let next = self.insn_analysis_at(edge.to);
-        is_onward(here, next) && self.rows_lead(edge)
+        is_onward(here, next) && self.all_loop_facts_flow(edge)
     }
 
     // Checks that all entries at the target of an edge follow from those at its source.
-    fn rows_lead(&self, edge: FlowEdge) -> bool
+    fn all_loop_facts_flow(&self, edge: FlowEdge) -> bool
         ensures { result ≡ true → AllLoopFactsFlow self.now edge.reads edge.entered edge.ip edge.to }
     {
         let rows = self.enclosing_loops(edge.to);
         for row in rows {
-            if !self.row_leads(edge, row) {
+            if !self.loop_facts_flow_for_entry(edge, row) {
                 return false;
             }
         }
@@ -143,18 +139,18 @@ impl MemoAnalysis {
     }
 
     // Checks that one entry at the target of an edge follows from those at its source.
-    fn row_leads(&self, edge: FlowEdge, row: &EnclosingLoop) -> bool
+    fn loop_facts_flow_for_entry(&self, edge: FlowEdge, row: &EnclosingLoop) -> bool
         ensures { result ≡ true → LoopFactsFlow self.now edge.reads edge.entered edge.ip row.now }
     {
         if edge_enters_loop(edge, row.id) {
             return !row.moved;
         }
         self.states_loop_fact(edge.ip, LoopProgressFact::Inside, row.id)
-            && (edge.reads || self.row_stays(edge.ip, row))
+            && (edge.reads || self.loop_facts_hold_at_source(edge.ip, row))
     }
 
     // Checks that the facts of an entry hold at the source of an edge that reads no character.
-    fn row_stays(&self, ip: usize, row: &EnclosingLoop) -> bool
+    fn loop_facts_hold_at_source(&self, ip: usize, row: &EnclosingLoop) -> bool
         ensures moved { result ≡ true → row.now.moved ≡ true
             → states_loop_fact LoopProgressFact.Moved row.now.id (enclosing_loops_of self.now ip) ≡ true }
         ensures empty { result ≡ true → row.now.empty ≡ true → knows_iteration_reads row.now.id
@@ -199,14 +195,14 @@ impl MemoAnalysis {
     {
         match successors_at(insns, begin) {
             Successors::Enter(fields) => begin < insns.len()
-                && self.begins_again(&fields, ip, begin),
+                && self.may_begin_next_iteration(&fields, ip, begin),
             _ => true,
         }
     }
 
     // Checks that another iteration may begin.
     // It also checks that an iteration may end at `ip`.
-    fn begins_again(&self, fields: &LoopFields, ip: usize, begin: usize) -> bool
+    fn may_begin_next_iteration(&self, fields: &LoopFields, ip: usize, begin: usize) -> bool
         requires { begin + 1 < 2 ^ 64 }
         ensures { result ≡ true → MayRepeatLoop self.now (loop_fields_as_spec fields.now) ip begin }
     {

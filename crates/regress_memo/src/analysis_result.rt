@@ -1,9 +1,7 @@
 //! The memo analysis of a program: what it states about each instruction and each loop.
 
 ghost use Rattle.std.specs.Prelude.{◌≡◌, true};
-ghost use Rattle.regress_memo.specs.AnalysisAsPotentials.{no_insn_analysis, insn_analysis_of, enclosing_loops_of, undistinguished_count_bound};
-ghost use Rattle.regress_memo.specs.AnalysisAsPotentials.{count_bound_of};
-ghost use Rattle.regress_memo.specs.AnalysisAsPotentials.{enclosing_loop_has_fact, states_loop_fact};
+ghost use Rattle.regress_memo.specs.AnalysisAsPotentials.{no_insn_analysis, insn_analysis_of, enclosing_loops_of, undistinguished_count_bound, count_bound_of, enclosing_loop_has_fact, states_loop_fact};
 
 use regex_pattern_front::types::LoopID;
 
@@ -113,7 +111,7 @@ impl MemoAnalysis {
     {
         let rows = self.enclosing_loops(ip);
         for row in rows {
-            if row.id == id && says_of(said, row) {
+            if row.id == id && entry_states_loop_fact(said, row) {
                 return true;
             }
         }
@@ -152,7 +150,7 @@ pub(crate) fn undistinguished_loop_bound() -> LoopCountsDistinguishedUpTo
 }
 
 // Checks whether an entry states this fact about its loop.
-fn says_of(said: LoopProgressFact, row: &EnclosingLoop) -> bool
+fn entry_states_loop_fact(said: LoopProgressFact, row: &EnclosingLoop) -> bool
     ensures { result ≡ enclosing_loop_has_fact said row.now }
 {
     match said {

@@ -24,9 +24,13 @@ impl MemoAnalysis {
         match successors_at(insns, ip) {
             Successors::Ends => true,
             Successors::One(next) => self.covers_one_successor(ip, next.to),
-            Successors::Two(other) => self.has_two(ip, ip + 1, other),
-            Successors::Enter(fields) => self.has_two(ip, ip + 1, fields.exit as usize),
-            Successors::Again(begin) => self.has_repeated(insns, ip, begin),
+            Successors::Two(other) => self.has_potential_for_two_threads(ip, ip + 1, other),
+            Successors::Enter(fields) => self.has_potential_for_two_threads(
+                ip,
+                ip + 1,
+                fields.exit as usize,
+            ),
+            Successors::Again(begin) => self.has_potential_after_iteration(insns, ip, begin),
             Successors::Run(bounds) => self.run_is_written(bounds, ip),
             Successors::LookaroundSuccessor(look) => self.covers_one_successor(ip, look.past),
             Successors::Same => self.covers_one_successor(ip, ip + 1),
@@ -41,7 +45,7 @@ impl MemoAnalysis {
     }
 
     // Checks that the potential left by an instruction covers two threads, of which one is pending.
-    fn has_two(&self, ip: usize, next: usize, other: usize) -> bool
+    fn has_potential_for_two_threads(&self, ip: usize, next: usize, other: usize) -> bool
         ensures { result ≡ true → CoversTwo (potentials_of self.now) ip next other }
     {
         let ready = u64::from(self.insn_analysis_at(next).ready)
@@ -51,13 +55,14 @@ impl MemoAnalysis {
 
     // Checks that the potential left by an instruction covers the threads after the end of an
     // iteration.
-    fn has_repeated(&self, insns: &[Insn], ip: usize, begin: usize) -> bool
+    fn has_potential_after_iteration(&self, insns: &[Insn], ip: usize, begin: usize) -> bool
         ensures { result ≡ true → (program : Program) → DeclaredInsnsEqualProgramInsns program insns.now
             → CoversRepeat (potentials_of self.now) (slice_get program.insns begin) ip begin }
     {
         match successors_at(insns, begin) {
             Successors::Enter(fields) => {
-                begin < insns.len() && self.has_two(ip, begin + 1, fields.exit as usize)
+                begin < insns.len()
+                    && self.has_potential_for_two_threads(ip, begin + 1, fields.exit as usize)
             }
             _ => true,
         }

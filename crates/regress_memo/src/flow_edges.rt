@@ -35,9 +35,9 @@ pub(crate) fn edges_past_lookarounds(insns: &[Insn], ip: usize) -> [Option<FlowE
         Successors::Ends | Successors::Same => [None, None],
         Successors::One(next) => [plain(ip, next.to, next.reads), None],
         Successors::Two(other) => [plain(ip, ip + 1, false), plain(ip, other, false)],
-        Successors::Enter(fields) => of_loop(ip, ip, &fields),
+        Successors::Enter(fields) => edges_of_loop_head(ip, ip, &fields),
         Successors::Again(begin) => match successors_at(insns, begin) {
-            Successors::Enter(fields) => of_loop(ip, begin, &fields),
+            Successors::Enter(fields) => edges_of_loop_head(ip, begin, &fields),
             _ => [None, None],
         },
         Successors::Run(bounds) => [plain(ip, ip + 2, bounds.least > 0), None],
@@ -66,7 +66,7 @@ fn plain(ip: usize, to: usize, reads: bool) -> Option<FlowEdge> {
 }
 
 // Returns the edges from a loop head to the loop's body and to its exit.
-fn of_loop(ip: usize, begin: usize, fields: &LoopFields) -> [Option<FlowEdge>; 2] {
+fn edges_of_loop_head(ip: usize, begin: usize, fields: &LoopFields) -> [Option<FlowEdge>; 2] {
     let again = FlowEdge {
         ip,
         to: begin.saturating_add(1),

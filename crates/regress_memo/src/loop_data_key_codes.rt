@@ -3,11 +3,9 @@
 ghost use Rattle.std.specs.Prelude.{◌≡◌, ◌≤◌, ◌<◌, ◌+◌, ◌*◌, ◌^◌, true, List, option_map, map, length, slice_get, IfSome};
 ghost use Rattle.regress_machine.specs.Machine.{State, LoopData};
 ghost use Rattle.regress_memo.specs.LoopDataKeyCodes.{code_of, codes_of, plan_codes};
-ghost use Rattle.regress_memo.specs.AnalysisAsPotentials.{insn_analysis_of, count_bound_of, key_code_questions_of, memo_codes_before_insn};
-ghost use Rattle.regress_memo.specs.AnalysisAsPotentials.{number_of_memo_codes_at_insn, memo_bit_index_of_key};
+ghost use Rattle.regress_memo.specs.AnalysisAsPotentials.{insn_analysis_of, count_bound_of, key_code_questions_of, memo_codes_before_insn, number_of_memo_codes_at_insn, memo_bit_index_of_key};
 ghost use Rattle.regress_memo.specs.AnalysisChecks.{HasDisjointCodesAt, max_codes_per_insn};
-ghost use Rattle.regress_memo.specs.CheckedAnalysis.{loop_iteration_state_as_spec, digit_of, radix_of_loop_digit, HasDisjointCodes};
-ghost use Rattle.regress_memo.specs.CheckedAnalysis.{IsRecordableMemoKey};
+ghost use Rattle.regress_memo.specs.CheckedAnalysis.{loop_iteration_state_as_spec, digit_of, radix_of_loop_digit, HasDisjointCodes, IsRecordableMemoKey};
 
 use crate::analysis_result::{EnclosingLoop, MemoAnalysis};
 use regex_pattern_front::types::LoopID;

@@ -3,9 +3,9 @@
 ghost use Rattle.std.specs.Prelude.{◌≡◌, ◌≤◌, ◌<◌, ◌*◌, ◌^◌, ◌↔◌, true, option_map, IfOk, IfSome, IsTrue, MatchOption};
 ghost use Rattle.std.specs.Arc.{arc_value};
 ghost use Rattle.regress_machine.specs.Machine.{State};
-ghost use Rattle.regress_memo.specs.AnalysisAsPotentials.{memo_bit_index_of_key as bit_of_key};
+ghost use Rattle.regress_memo.specs.AnalysisAsPotentials.{memo_bit_index_of_key as spec_memo_bit_index_of_key};
 ghost use Rattle.regress_memo.specs.CheckedAnalysis.{HasDisjointCodes, IsRecordableMemoKey};
-ghost use Rattle.regress_memo.specs.MemoContents.{memo_key_as_spec, memo_key_at as key_of_state, has_failure, has_success, IsEmptyMemo, RecordsFailure, RecordsSuccess};
+ghost use Rattle.regress_memo.specs.MemoContents.{memo_key_as_spec, memo_key_at, has_failure, has_success, IsEmptyMemo, RecordsFailure, RecordsSuccess};
 ghost use Rattle.regress_memo.specs.MemoContractView.{MemoView, HasRoom};
 
 use crate::analysis_result::MemoAnalysis;
@@ -125,7 +125,7 @@ impl MemoTable {
         rounds: &R,
     ) -> Option<ThreadMemoKey>
         ensures key { (s : State) → s.ip ≡ ip → s.pos ≡ at → s.loops ≡ R.rounds rounds.now
-            → option_map memo_key_as_spec result ≡ key_of_state self.now.memo_analysis s }
+            → option_map memo_key_as_spec result ≡ memo_key_at self.now.memo_analysis s }
         ensures bit { at < self.now.places
             → IfSome result (λ key. IsRecordableMemoKey self.now.memo_analysis self.now.places (memo_key_as_spec key)) }
     {
@@ -201,7 +201,7 @@ fn memo_bit_index_of_key(memo_analysis: &MemoAnalysis, places: usize, key: Threa
     requires coded { HasDisjointCodes memo_analysis.now }
     requires key { IsRecordableMemoKey memo_analysis.now places (memo_key_as_spec key) }
     requires fits { memo_analysis.now.codes * places < 2 ^ 64 }
-    ensures bit { result ≡ bit_of_key memo_analysis.now places key.ip key.at key.code }
+    ensures bit { result ≡ spec_memo_bit_index_of_key memo_analysis.now places key.ip key.at key.code }
     ensures below { result < memo_analysis.now.codes * places }
 {
     memo_analysis.key_bit_index_at(places, key.ip, key.at, key.code)

@@ -21,7 +21,7 @@ impl MemoAnalysis {
         alloc: Global,
         insns: &[Insn],
     ) -> Result<(), AllocError> {
-        let mut ways = count_ways(alloc, insns)?;
+        let mut ways = count_incoming_edges(alloc, insns)?;
         for ip in 0..insns.len() {
             let merges = matches!(ways.get(ip), Some(count) if *count > 1);
             match successors_at(insns, ip) {
@@ -62,8 +62,12 @@ impl MemoAnalysis {
     fn weigh(&mut self, insns: &[Insn], ip: usize) -> bool
         requires { ip < length insns.now }
     {
-        let left = self.left_for(insns, ip).min(MAX_POTENTIAL);
-        let ready = self.ready_for(insns, ip, left).min(MAX_POTENTIAL);
+        let left = self
+            .potential_needed_after_insn(insns, ip)
+            .min(MAX_POTENTIAL);
+        let ready = self
+            .potential_needed_at_insn(insns, ip, left)
+            .min(MAX_POTENTIAL);
         let Some(line) = self.lines.get_mut(ip) else {
             return false;
         };
@@ -87,7 +91,7 @@ impl MemoAnalysis {
     }
 
     // Returns the potential needed for the threads that an instruction leaves.
-    fn left_for(&self, insns: &[Insn], ip: usize) -> u64
+    fn potential_needed_after_insn(&self, insns: &[Insn], ip: usize) -> u64
         requires { ip < length insns.now }
     {
         match successors_at(insns, ip) {
@@ -126,7 +130,7 @@ impl MemoAnalysis {
     }
 
     // Returns the potential needed for a thread at an instruction that leaves `left`.
-    fn ready_for(&self, insns: &[Insn], ip: usize, left: u64) -> u64
+    fn potential_needed_at_insn(&self, insns: &[Insn], ip: usize, left: u64) -> u64
         requires { ip < length insns.now }
     {
         match successors_at(insns, ip) {
@@ -145,7 +149,7 @@ impl MemoAnalysis {
 }
 
 // Counts the incoming edges of each instruction.
-fn count_ways(alloc: Global, insns: &[Insn]) -> Result<Vec<u8>, AllocError> {
+fn count_incoming_edges(alloc: Global, insns: &[Insn]) -> Result<Vec<u8>, AllocError> {
     let mut ways = Vec::from_elem(alloc, 0u8, insns.len())?;
     count_flow_edge(&mut ways, 0);
     for ip in 0..insns.len() {

@@ -85,13 +85,13 @@ fn is_sound_by(
     ensures { IsTrue result ↔ LoopDataFitsLoopFacts count moved (direction_from_forward place.forward) place.units
         place.at (loop_iteration_state_as_spec loop_iteration_state) }
 {
-    is_passed(place, loop_iteration_state.entry)
+    is_offset_not_ahead(place, loop_iteration_state.entry)
         && (!moved || loop_iteration_state.entry != place.at)
         && is_possible_iteration_count(count, place, loop_iteration_state)
 }
 
 // Checks that an offset is not ahead of the current one in the direction.
-fn is_passed(place: TextOffsetAndSearchDirection, entry: usize) -> bool
+fn is_offset_not_ahead(place: TextOffsetAndSearchDirection, entry: usize) -> bool
     ensures { IsTrue result ↔ IsNotAheadInDirection (direction_from_forward place.forward) entry place.at }
 {
     if place.forward {

@@ -2,7 +2,7 @@
 
 ghost use Rattle.std.specs.Prelude.{◌≡◌, ◌<◌, ◌^◌, ◌+◌, true, None, map, slice_get};
 ghost use Rattle.regress_program.specs.InsnsAsSpec.{insn_as_spec_insn, literal_bytes_of_insn};
-ghost use Rattle.regress_memo.specs.Successors.{successors_of, successors_of_insn_if_any, is_fall_through_insn, fall_through as next_at};
+ghost use Rattle.regress_memo.specs.Successors.{successors_of, successors_of_insn_if_any, is_fall_through_insn, fall_through};
 
 use regress_program::instructions::{Insn, LoopFields};
 
@@ -68,13 +68,13 @@ fn of_insn(insn: &Insn, ip: usize) -> Successors
     ensures { result ≡ successors_of ip (insn_as_spec_insn insn.now) }
 {
     match insn.bytes_of_literal_insn() {
-        Some(bytes) => to_next(ip, !bytes.is_empty(), true),
-        None => other_step(insn, ip),
+        Some(bytes) => successor_at_next_insn(ip, !bytes.is_empty(), true),
+        None => successors_of_other_insn(insn, ip),
     }
 }
 
 // Returns the successors of an instruction that reads no byte sequence.
-fn other_step(insn: &Insn, ip: usize) -> Successors
+fn successors_of_other_insn(insn: &Insn, ip: usize) -> Successors
     requires { ip + 2 < 2 ^ 64 }
     ensures { literal_bytes_of_insn (insn_as_spec_insn insn.now) ≡ None → result ≡ successors_of ip
         (insn_as_spec_insn insn.now) }
@@ -98,13 +98,13 @@ fn other_step(insn: &Insn, ip: usize) -> Successors
             most: *max_iters,
             greedy: *greedy,
         }),
-        other => plain_step(other, ip),
+        other => successors_of_plain_insn(other, ip),
     }
 }
 
 // Returns the successors of a lookaround, of a backreference, or of an instruction that only
 // continues at the next one.
-fn plain_step(insn: &Insn, ip: usize) -> Successors
+fn successors_of_plain_insn(insn: &Insn, ip: usize) -> Successors
     requires { ip + 2 < 2 ^ 64 }
     ensures { is_fall_through_insn (insn_as_spec_insn insn.now) ≡ true → result ≡ successors_of ip
         (insn_as_spec_insn insn.now) }
@@ -113,27 +113,27 @@ fn plain_step(insn: &Insn, ip: usize) -> Successors
         Insn::StartOfLine { .. }
         | Insn::EndOfLine { .. }
         | Insn::WordBoundary { .. }
-        | Insn::WordBoundaryUnicodeICase { .. } => to_next(ip, false, true),
+        | Insn::WordBoundaryUnicodeICase { .. } => successor_at_next_insn(ip, false, true),
         Insn::BeginCaptureGroup(_) | Insn::EndCaptureGroup(_) | Insn::ResetCaptureGroup(_) => {
-            to_next(ip, false, false)
+            successor_at_next_insn(ip, false, false)
         }
         Insn::BackRef { .. } => Successors::Same,
         Insn::Lookahead {
             negate,
             continuation,
             ..
-        } => around(true, *negate, *continuation),
+        } => lookaround_successors(true, *negate, *continuation),
         Insn::Lookbehind {
             negate,
             continuation,
             ..
-        } => around(false, *negate, *continuation),
-        _ => to_next(ip, true, true),
+        } => lookaround_successors(false, *negate, *continuation),
+        _ => successor_at_next_insn(ip, true, true),
     }
 }
 
 // Returns the successors of a lookaround.
-fn around(forward: bool, negate: bool, continuation: u32) -> Successors
+fn lookaround_successors(forward: bool, negate: bool, continuation: u32) -> Successors
     ensures { result ≡ Successors.LookaroundSuccessor
         (record { forward = forward; negate = negate; past = continuation }) }
 {
@@ -145,9 +145,9 @@ fn around(forward: bool, negate: bool, continuation: u32) -> Successors
 }
 
 // Returns the successors of an instruction that continues at the next one only.
-fn to_next(ip: usize, reads: bool, silent: bool) -> Successors
+fn successor_at_next_insn(ip: usize, reads: bool, silent: bool) -> Successors
     requires { ip + 2 < 2 ^ 64 }
-    ensures { result ≡ next_at ip reads silent }
+    ensures { result ≡ fall_through ip reads silent }
 {
     Successors::One(PlainSuccessor {
         to: ip + 1,

@@ -14,7 +14,7 @@ pub(crate) fn no_char_loop_body_is_reached(insns: &[Insn]) -> bool
         → FlowsPastBodies program (successors_of_insn_if_any ip (slice_get program.insns ip)) ip }
 {
     for ip in 0..insns.len() {
-        if !leads_past(insns, ip) {
+        if !leads_past_char_loop_bodies(insns, ip) {
             return false;
         }
     }
@@ -22,7 +22,7 @@ pub(crate) fn no_char_loop_body_is_reached(insns: &[Insn]) -> bool
 }
 
 // Checks that the instruction `ip` does not lead to the body of a char loop.
-fn leads_past(insns: &[Insn], ip: usize) -> bool
+fn leads_past_char_loop_bodies(insns: &[Insn], ip: usize) -> bool
     requires { ip < length insns.now }
     ensures { result ≡ true → (program : Program) → DeclaredInsnsEqualProgramInsns program insns.now
         → FlowsPastBodies program (successors_of_insn_if_any ip (slice_get program.insns ip)) ip }
@@ -32,7 +32,7 @@ fn leads_past(insns: &[Insn], ip: usize) -> bool
         Successors::One(next) => is_no_body(insns, next.to),
         Successors::Two(other) => are_no_bodies(insns, ip + 1, other),
         Successors::Enter(fields) => are_no_bodies(insns, ip + 1, fields.exit as usize),
-        Successors::Again(begin) => enters_past(insns, begin),
+        Successors::Again(begin) => loop_leads_past_char_loop_bodies(insns, begin),
         Successors::Run(_) => is_no_body(insns, ip + 2),
         Successors::LookaroundSuccessor(look) => are_no_bodies(insns, ip + 1, look.past),
     }
@@ -40,7 +40,7 @@ fn leads_past(insns: &[Insn], ip: usize) -> bool
 
 // If the instruction `begin` is the head of a loop, checks that it does not lead to the body of a
 // char loop.
-fn enters_past(insns: &[Insn], begin: usize) -> bool
+fn loop_leads_past_char_loop_bodies(insns: &[Insn], begin: usize) -> bool
     ensures { result ≡ true → (program : Program) → DeclaredInsnsEqualProgramInsns program insns.now
         → EntersPastBodies program (slice_get program.insns begin) begin }
 {
@@ -54,16 +54,18 @@ fn enters_past(insns: &[Insn], begin: usize) -> bool
 
 // Checks that neither of two instructions is the body of a char loop.
 fn are_no_bodies(insns: &[Insn], ip: usize, other: usize) -> bool
-    ensures one { result ≡ true → (program : Program) → DeclaredInsnsEqualProgramInsns program insns.now → IsNotLoopBody program ip }
-    ensures other { result ≡ true → (program : Program) → DeclaredInsnsEqualProgramInsns program insns.now → IsNotLoopBody
-        program other }
+    ensures one { result ≡ true → (program : Program) → DeclaredInsnsEqualProgramInsns program insns.now → IsNotLoopBody
+        program ip }
+    ensures other { result ≡ true → (program : Program) → DeclaredInsnsEqualProgramInsns program insns.now →
+        IsNotLoopBody program other }
 {
     is_no_body(insns, ip) && is_no_body(insns, other)
 }
 
 // Checks that the instruction before this one is not a char loop.
 fn is_no_body(insns: &[Insn], ip: usize) -> bool
-    ensures { result ≡ true → (program : Program) → DeclaredInsnsEqualProgramInsns program insns.now → IsNotLoopBody program ip }
+    ensures { result ≡ true → (program : Program) → DeclaredInsnsEqualProgramInsns program insns.now → IsNotLoopBody
+        program ip }
 {
     ip == 0 || !runs(successors_at(insns, ip - 1))
 }

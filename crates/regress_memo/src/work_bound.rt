@@ -35,7 +35,7 @@ impl MemoAnalysis {
         let lines = self.lines.as_slice();
         let mut all = 0u64;
         for line in lines {
-            let price = price_of(line)?;
+            let price = cost_of_insn_keys(line)?;
             all = all.checked_add(price)?;
         }
         Some(all)
@@ -76,8 +76,9 @@ impl MemoAnalysis {
             (successors_of_insn_if_any ip (slice_get (map insn_as_spec_insn insns.now) ip)) ip }
     {
         match successors_at(insns, ip) {
-            Successors::LookaroundSuccessor(look) => self.has_both(ip, look.past)
-                && !self.records_within(look, ip),
+            Successors::LookaroundSuccessor(look) => self.has_potential_for_lookaround(
+                ip, look.past,
+            ) && !self.records_within(look, ip),
             Successors::Run(bounds) => {
                 bounds.greedy || bounds.most != usize::MAX || self.insn_analysis_at(ip).forward
             }
@@ -86,7 +87,7 @@ impl MemoAnalysis {
     }
 
     // Checks that the potential left by a lookaround also covers its contents.
-    fn has_both(&self, ip: usize, past: usize) -> bool
+    fn has_potential_for_lookaround(&self, ip: usize, past: usize) -> bool
         requires { ip + 1 < 2 ^ 64 }
         ensures { result ≡ true → (insn_analysis_of self.now (ip + 1)).ready + (insn_analysis_of self.now past).ready
             ≤ (insn_analysis_of self.now ip).left }
@@ -112,7 +113,7 @@ impl MemoAnalysis {
 
 // Returns the cost of an instruction's keys at one position. It is 0 if the instruction does not
 // record. Returns `None` on overflow.
-fn price_of(line: &InsnAnalysis) -> Option<u64>
+fn cost_of_insn_keys(line: &InsnAnalysis) -> Option<u64>
     ensures { IfSome result (λ price. price ≡ insn_keys_cost_per_position line.now) }
 {
     if line.records {

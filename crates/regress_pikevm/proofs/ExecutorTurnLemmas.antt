@@ -1,6 +1,5 @@
 -- After each turn of the executor the remaining states find the end of the search in fewer steps.
-use Rattle.std.proofs.Common.{◌≡◌, inl, inr, ℕ, ◌<◌, ◌≤◌, List, [], ◌∷◌, ◌++◌, Option, Some, None, Bool, refl, ap, sym, ◌∙◌, subst, arith, map}
-use Rattle.std.proofs.Common.{reverse, append-nil, replicate, take, ◌-◌}
+use Rattle.std.proofs.Common.{◌≡◌, inl, inr, ℕ, ◌<◌, ◌≤◌, List, [], ◌∷◌, ◌++◌, Option, Some, None, Bool, refl, ap, sym, ◌∙◌, subst, arith, map, reverse, append-nil, replicate, take, ◌-◌}
 use Rattle.std.proofs.lemmas.List.{map-append, reverse-append}
 use Rattle.std.proofs.lemmas.Simd.{map-map}
 use Rattle.regex_meaning.proofs.ListLemmas.{map-replicate}
@@ -16,10 +15,9 @@ use Rattle.regress_program.specs.CompilationOfTreesAsFunction.{compiled}
 use Rattle.regress_machine.specs.TextsForBytePrograms.{HasUtf8CharactersAndOffsets, tree_contains_byte_nodes}
 use Rattle.regress_machine.specs.Machine as machine
 use Rattle.regress_machine.specs.Machine.{Thread, running, waiting, first_running_and_others_waiting, Next, goes, scans, ends, asks, after_lookaround, act, search}
-use Rattle.regress_machine.specs.SearchFindsFirstOutcomeAtPlace.{state_before_first_insn, end_of}
+use Rattle.regress_machine.specs.SearchFindsFirstOutcomeAtPlace.{state_before_first_insn, end_and_groups_of_state}
 use Rattle.regress_machine.specs.ExecutorLoopInvariantAndSpentSteps.{steps_of}
-use Rattle.regress_machine.proofs.RemainingThreads.{steps_left, Remains, Left, left-waits, remains-can, remains-inside, remains-ends, remains-none}
-use Rattle.regress_machine.proofs.RemainingThreads.{left-goes, left-scans, left-asks}
+use Rattle.regress_machine.proofs.RemainingThreads.{steps_left, Remains, Left, left-waits, remains-can, remains-inside, remains-ends, remains-none, left-goes, left-scans, left-asks}
 use Rattle.regress_pikevm.specs.declared.pikevm.states.State.{State}
 use Rattle.regress_pikevm.specs.declared.pikevm.states.NextStates.{NextStates}
 use Rattle.regress_pikevm.specs.declared.pikevm.states.NextStates.TheVariants.{Dead, Continue, Fork, Lookaround}
@@ -171,7 +169,7 @@ module _ {program : Program} {text : Text} {turns : ℕ} {d : Direction} {top : 
         → Left program text turns d top end ts (l ++ threads_of_stack offset rest)
     turn-resumed turn is forward negate inner after was e = asked-left (turn-ask turn is forward negate inner after was) e
 
-pub map-end : {P : Type 0} (offset : P → ℕ) (o : Option (State P)) → option_map (λ s. end_of (machine_state_of offset s)) o ≡ option_map end_of (option_map (λ s. machine_state_of offset s) o)
+pub map-end : {P : Type 0} (offset : P → ℕ) (o : Option (State P)) → option_map (λ s. end_and_groups_of_state (machine_state_of offset s)) o ≡ option_map end_and_groups_of_state (option_map (λ s. machine_state_of offset s) o)
 map-end offset None = refl
 map-end offset (Some s) = refl
 

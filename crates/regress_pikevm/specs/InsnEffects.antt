@@ -12,7 +12,7 @@ use Rattle.regress_program.specs.InsnsAsSpec.{insn_as_spec_insn}
 use Rattle.regress_program.specs.declared.instructions.Insn.{Insn}
 use Rattle.regress_machine.specs.Machine as machine
 use Rattle.regress_machine.specs.Machine.{Found, Next, act, act_on, read_group, scan, with_some}
-use Rattle.regress_machine.specs.SearchFindsFirstOutcomeAtPlace.{end_of}
+use Rattle.regress_machine.specs.SearchFindsFirstOutcomeAtPlace.{end_and_groups_of_state}
 use Rattle.regress_machine.specs.InsnEffects.{state_after_char_loop_to_offset, end_of_search, IsReached}
 use Rattle.regress_search.specs.AttemptsAndStarts.{search_from}
 use Rattle.regress_search.specs.OffsetsAfterMatchedInsns.{char_test_of_insn}
@@ -64,7 +64,7 @@ module _ {P : Type 0} (offset : P → ℕ) where
   -- The end offset and the groups of the state with which a search ended. `None` if it found no
   -- end.
   abbrev pub end_and_groups : Option (State P) → Option (ℕ × Groups)
-  end_and_groups end = option_map (λ e. end_of (machine_state_of offset e)) end
+  end_and_groups end = option_map (λ e. end_and_groups_of_state (machine_state_of offset e)) end
 
   module _ (text : Text) (forward : Bool) (same : Sameness) where
     -- The effect of a backreference to a range.

@@ -1,5 +1,4 @@
-//! Searches a text with a program: the iterator over matches, and the executor that copies its
-//! states.
+//! The executor that copies its states. `exec`, reexported, has the iterator over matches.
 #![tactic(auto)]
 
 pub mod pikevm;

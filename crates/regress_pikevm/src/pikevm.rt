@@ -79,7 +79,8 @@ fn current_or_popped_state<P: PositionType>(
     next: Option<State<P>>,
     stack: &mut Vec<State<P>>,
 ) -> Option<State<P>>
-    ensures { TakesFirstOfPendingThreads P.offset (pending_threads P.offset next stack.old.items) result stack.new.items }
+    ensures { TakesFirstOfPendingThreads P.offset (pending_threads P.offset next stack.old.items) result
+        stack.new.items }
 {
     match next {
         Some(state) => Some(state),

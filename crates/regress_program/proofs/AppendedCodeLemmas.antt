@@ -1,22 +1,16 @@
 -- The code that the emitter appends for each kind of node has the specified instructions and
 -- length.
-use Rattle.std.proofs.Common.{◌≡◌, ℕ, ◌+◌, ◌-◌, ◌<◌, ◌^◌, Bool, true, false, List, [], ◌∷◌, ◌++◌, length, refl, sym, ap, ◌∙◌, arith, append_assoc}
-use Rattle.std.proofs.Common.{append-nil, length-append, slice_set}
+use Rattle.std.proofs.Common.{◌≡◌, ℕ, ◌+◌, ◌-◌, ◌<◌, ◌^◌, Bool, true, false, List, [], ◌∷◌, ◌++◌, length, refl, sym, ap, ◌∙◌, arith, append_assoc, append-nil, length-append, slice_set}
 use Rattle.std.proofs.Math.Seq.{set-append_seam}
 use Rattle.std.proofs.lemmas.List.{length-map, length-reverse}
 use Rattle.regex_meaning.specs.NumberListHelpers.{numbers_from}
-use Rattle.regex_meaning.specs.Tree.{BracketContents, Quantifier, Lookaround, Node, empty, goal, char, char_set, byte_set, byte_sequence, cat}
-use Rattle.regex_meaning.specs.Tree.{end_of_cat, alt, bracket, string_set, match_any, match_any_except_line_terminator, anchor, word_boundary}
+use Rattle.regex_meaning.specs.Tree.{BracketContents, Quantifier, Lookaround, Node, empty, goal, char, char_set, byte_set, byte_sequence, cat, end_of_cat, alt, bracket, string_set, match_any, match_any_except_line_terminator, anchor, word_boundary}
 use Rattle.regex_meaning.specs.Tree.{capture_group, back_ref, lookaround, loop, loop_1_char_body}
 use Rattle.regex_meaning.specs.Outcomes.{max_iterations, in_intervals}
 use Rattle.regex_meaning.specs.StartPredicate.{bytes_that_pass}
-use Rattle.regex_meaning.specs.CompilationRelation.{Insn, AsciiBracket, Bracket, is_uninverted_ascii_class, Alt, Jump, EnterLoop, LoopAgain, Loop1CharBody, Goal}
-use Rattle.regex_meaning.specs.CompilationRelation.{BeginCaptureGroup, lookaround_insn, EndCaptureGroup, ByteSeq, ResetCaptureGroup, reversed_if_in_lookbehind, chunks}
-use Rattle.regress_program.specs.CompilationOfTreesAsFunction.{node_insn_count, strings_size, loop_count, brackets_of, string_code, strings_code, group_reset_insns}
-use Rattle.regress_program.specs.CompilationOfTreesAsFunction.{code_of}
-use Rattle.regress_program.specs.EmitterStateAndAppendedCode.{EmitterState, HasIndexRoomForNode, with_code, with_insn_appended, with_insns_appended, with_insn_at}
-use Rattle.regress_program.specs.EmitterStateAndAppendedCode.{with_loop}
-use Rattle.regress_program.specs.EmitterStateAndAppendedCode.{with_bracket_table_entry}
+use Rattle.regex_meaning.specs.CompilationRelation.{Insn, AsciiBracket, Bracket, is_uninverted_ascii_class, Alt, Jump, EnterLoop, LoopAgain, Loop1CharBody, Goal, BeginCaptureGroup, lookaround_insn, EndCaptureGroup, ByteSeq, ResetCaptureGroup, reversed_if_in_lookbehind, chunks}
+use Rattle.regress_program.specs.CompilationOfTreesAsFunction.{node_insn_count, strings_size, loop_count, brackets_of, string_code, strings_code, group_reset_insns, code_of}
+use Rattle.regress_program.specs.EmitterStateAndAppendedCode.{EmitterState, HasIndexRoomForNode, with_code, with_insn_appended, with_insns_appended, with_insn_at, with_loop, with_bracket_table_entry}
 use Rattle.regex_meaning.proofs.ListLemmas.{length-numbers_from}
 
 -- ---- States
@@ -200,12 +194,6 @@ room-rest u d s t a b r e = record { insns = omega (arith, r.insns, ap (λ x. le
 length-with_insn : (x : Insn) (s : EmitterState) → length (with_insn_appended x s).insns ≡ length s.insns + 1
 length-with_insn x s = length-append s.insns (x ∷ [])
 
--- Before the right arm, the code has the left arm and two instructions more.
-pub length-left : (u d : Bool) (a : Node) (s s1 s2 s3 : EmitterState) (x y : Insn)
-    → s1 ≡ with_insn_appended x s → s2 ≡ with_code u d a s1 → s3 ≡ with_insn_appended y s2 → length s3.insns ≡ length s.insns + node_insn_count a + 2
-length-left u d a s s1 s2 s3 x y e1 e2 e3 =
-    omega (arith, ap (λ z. length z.insns) e1, length-with_insn x s, ap (λ z. length z.insns) e2, length-with_code u d a s1, ap (λ z. length z.insns) e3, length-with_insn y s2)
-
 -- ---- Code between a head and a tail
 
 -- The code of a node follows the instruction before it.
@@ -247,7 +235,8 @@ with_code-loop_1_char_body u d q n s s1 s2 e1 e2 =
 
 pub length-between : (u d : Bool) (n : Node) (s s1 s2 s3 : EmitterState) (x y : Insn) → s1 ≡ with_insn_appended x s → s2 ≡ with_code u d n s1 → s3 ≡ with_insn_appended y s2
     → length s3.insns ≡ length s.insns + node_insn_count n + 2
-length-between u d n s s1 s2 s3 x y e1 e2 e3 = length-left u d n s s1 s2 s3 x y e1 e2 e3
+length-between u d n s s1 s2 s3 x y e1 e2 e3 =
+    omega (arith, ap (λ z. length z.insns) e1, length-with_insn x s, ap (λ z. length z.insns) e2, length-with_code u d n s1, ap (λ z. length z.insns) e3, length-with_insn y s2)
 
 -- The code of a lookaround is right once its head is replaced by one with the known length.
 pub with_code-lookaround : (u d : Bool) (l : Lookaround) (n : Node) (s s1 s2 s3 s4 : EmitterState) (x : Insn)

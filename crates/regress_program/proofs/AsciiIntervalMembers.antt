@@ -1,22 +1,19 @@
 -- A loop over intervals collects exactly their members below 128.
-use Rattle.std.proofs.Common.{◌≡◌, ℕ, ◌+◌, ◌<◌, ◌≤◌, min, Bool, true, false, List, [], ◌∷◌, map, length, take, get_or, inl, inr, ⊎_elim, refl, sym}
-use Rattle.std.proofs.Common.{◌∙◌, arith}
-use Rattle.std.proofs.lemmas.Bool.{cases_lt, lt-ltb, le-ltb, lt-leb, or_cases}
+use Rattle.std.proofs.Common.{◌≡◌, ℕ, ◌+◌, ◌<◌, ◌≤◌, min, Bool, true, false, List, [], ◌∷◌, map, length, take, get_or, inl, inr, ⊎_elim, refl, sym, ◌∙◌, arith}
+use Rattle.std.proofs.lemmas.Bool.{cases_lt, lt-ltb, le-ltb, lt-leb, or_cases, and_left, and_right, and_from}
 use borrow.Author.Tests.{ltb-true}
 use Rattle.std.specs.Prelude.{nat_lt, nat_le, ◌||◌, ◌&&◌}
 use Rattle.std.specs.List.{list_all}
 use Rattle.std.specs.Int.{is_in_range}
 use Rattle.regex_meaning.specs.Outcomes.{in_intervals}
 use Rattle.regex_meaning.specs.StartPredicate.{bytes_that_pass}
-use Rattle.regex_pattern_front.proofs.ByteSetMemberLemmas.{bytes_where-same, bytes_where-none}
+use Rattle.regex_pattern_front.proofs.ByteSetMemberLemmas.{bytes_where-same, bytes_where-none, contains-bytes_where}
 use Rattle.std.proofs.lemmas.List.{length-map}
 use Rattle.regex_meaning.proofs.BoolLemmas.{and-left, and-right}
-use Rattle.std.proofs.lemmas.Bool.{and_left, and_right, and_from}
 use Rattle.std.proofs.lemmas.List.Folds.{list_any_more}
 use Rattle.std.proofs.Math.ListN.{get_or-map}
 use Rattle.regex_meaning.specs.NumberListHelpers.{contains}
 use Rattle.regex_meaning.proofs.FirstByteOfCharacter.{in_range-below, in_range-true}
-use Rattle.regex_pattern_front.proofs.ByteSetMemberLemmas.{contains-bytes_where}
 
 -- An interval that is empty or below 128 contains no number from 128 on.
 not_inside : (first last b : ℕ) → 128 ≤ b → (nat_lt last 128 || nat_lt last first) ≡ true → is_in_range first last b ≡ false

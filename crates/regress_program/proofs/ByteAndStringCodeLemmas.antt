@@ -1,7 +1,5 @@
 -- The loops that emit byte sequences and string sets append the specified instructions.
-use Rattle.std.proofs.Common.{◌≡◌, ℕ, zero, suc, ◌+◌, ◌-◌, ◌*◌, ◌/◌, ◌%◌, ◌<◌, ◌≤◌, min, Bool, true, false, List, [], ◌∷◌, ◌++◌, map, length, take}
-use Rattle.std.proofs.Common.{drop, get_or, slice_get, Some, Vec, refl, sym, ap, ◌∙◌, arith, append_assoc, append-nil, length-append, length-drop}
-use Rattle.std.proofs.Common.{drop-cons, ◌==◌, if◌then◌else◌}
+use Rattle.std.proofs.Common.{◌≡◌, ℕ, zero, suc, ◌+◌, ◌-◌, ◌*◌, ◌/◌, ◌%◌, ◌<◌, ◌≤◌, min, Bool, true, false, List, [], ◌∷◌, ◌++◌, map, length, take, drop, get_or, slice_get, Some, Vec, refl, sym, ap, ◌∙◌, arith, append_assoc, append-nil, length-append, length-drop, drop-cons, ◌==◌, if◌then◌else◌}
 use Rattle.std.proofs.Math.Seq.{drop-nil}
 use Rattle.regex_meaning.specs.NumberListHelpers.{numbers_from}
 use Rattle.std.proofs.lemmas.List.{length-map, get_or-reverse, drop-map, drop_all}
@@ -202,10 +200,6 @@ pub resets-past : (g e : ℕ) → e ≤ g → group_reset_insns g e ≡ []
 resets-past g e h = let n : e - g ≡ 0 = omega arith in ap (λ k. map ResetCaptureGroup (numbers_from g k)) n
 
 -- ---- Empty lists
-
-pub no_length : {A : Type 0} → (xs : List A) → length xs ≡ 0 → xs ≡ []
-no_length [] h = refl
-no_length (x ∷ xs) h = absurd (omega arith)
 
 pub ne_zero : {A : Type 0} → (xs : List A) → false ≡ (length xs == 0) → 0 < length xs
 ne_zero [] h = cc

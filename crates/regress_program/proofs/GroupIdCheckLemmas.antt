@@ -1,16 +1,13 @@
 -- The check of a tree accepts exactly the trees that are well formed, with distinct group ids.
-use Rattle.std.proofs.Common.{◌≡◌, ℕ, zero, suc, ◌+◌, ◌-◌, ◌/◌, ◌^◌, ◌<◌, ◌≤◌, min, max, Bool, true, false, not, ◌&&◌, ◌||◌, List, [], ◌∷◌, ◌++◌}
-use Rattle.std.proofs.Common.{length, replicate, refl, sym, ap, ap₂, ◌∙◌, arith, ⊎_elim, length-append, length-set}
+use Rattle.std.proofs.Common.{◌≡◌, ℕ, zero, suc, ◌+◌, ◌-◌, ◌/◌, ◌^◌, ◌<◌, ◌≤◌, min, max, Bool, true, false, not, ◌&&◌, ◌||◌, List, [], ◌∷◌, ◌++◌, length, replicate, refl, sym, ap, ap₂, ◌∙◌, arith, ⊎_elim, length-append, length-set}
 use Rattle.std.specs.Prelude.{if◌then◌else◌, nat_eq, nat_lt, nat_le, ◌==◌, count_by}
 use Rattle.std.specs.List.{list_all}
-use Rattle.std.proofs.lemmas.Bool.{cases_eq, cases_lt, ne_eqb, eq-eqb, eqb-true, lt-ltb, le-ltb, le-leb, leb-true, and_from, or_right, or_left}
-use Rattle.std.proofs.lemmas.Bool.{or_cases, or_from, not-true, false_from_ne_true}
+use Rattle.std.proofs.lemmas.Bool.{cases_eq, cases_lt, ne_eqb, eq-eqb, eqb-true, lt-ltb, le-ltb, le-leb, leb-true, and_from, or_right, or_left, or_cases, or_from, not-true, false_from_ne_true, false≢true}
 use Rattle.std.proofs.lemmas.List.{length-replicate}
 use Rattle.std.proofs.lemmas.List.Sums.{sum_by-cons}
 use Rattle.regex_meaning.specs.NumberListHelpers.{contains, numbers_from}
 use Rattle.regex_meaning.specs.Tree.{Node, cat, alt, capture_group, lookaround, loop, loop_1_char_body, group_ids, every_node_passes}
-use Rattle.regex_meaning.specs.WellFormedTrees.{range_is_ids_of_enclosed_groups, each_id_stands_once, IsWellFormed, only_goal_node_is_last, has_exact_group_range, refers_to_a_group}
-use Rattle.regex_meaning.specs.WellFormedTrees.{has_order_in_quantifier, has_one_character_body, has_text_in_sequence, set_sizes_and_characters_fit_instructions}
+use Rattle.regex_meaning.specs.WellFormedTrees.{range_is_ids_of_enclosed_groups, each_id_stands_once, IsWellFormed, only_goal_node_is_last, has_exact_group_range, refers_to_a_group, has_order_in_quantifier, has_one_character_body, has_text_in_sequence, set_sizes_and_characters_fit_instructions}
 use Rattle.regex_meaning.proofs.WellFormedTreesLemmas.{clauses, by_clauses}
 use Rattle.regex_meaning.proofs.StartPredicateLemmas.{all-contains}
 use Rattle.regex_pattern_front.proofs.BitmapLemmas.{has_bit, with_bit, no-bits, bit-set}
@@ -18,20 +15,15 @@ use Rattle.regex_pattern_front.proofs.ByteSetMemberLemmas.{contains-numbers_from
 use Rattle.regress_program.specs.LeafNodesAndOptimizableLoops.{is_leaf}
 use Rattle.regress_program.specs.GroupIdSpans.{group_id_span_as_numbers}
 use Rattle.regress_program.specs.declared.emit.group_id_and_range_check.GroupIdCountAndBounds as spans
-use Rattle.regress_program.specs.GroupIdCheck.{is_outside_bitmap, is_group_id_seen, are_distinct_unseen, least_group_id, end_of_group_ids}
-use Rattle.regress_program.specs.GroupIdCheck.{GroupIdCountAndSpanNumbers, count_and_span_of_group_ids, joined, has_exact_group_ids}
-use Rattle.regress_program.specs.GroupIdCheck.{is_well_formed_node}
+use Rattle.regress_program.specs.GroupIdCheck.{is_outside_bitmap, is_group_id_seen, are_distinct_unseen, least_group_id, end_of_group_ids, GroupIdCountAndSpanNumbers, count_and_span_of_group_ids, joined, has_exact_group_ids, is_well_formed_node}
 use Rattle.regex_meaning.proofs.BoolLemmas.{or-false-left, or-false-right, same-truth, and-left, and-right}
 use Rattle.std.proofs.Math.Bool.{or-false, or_assoc, and-true, and_assoc}
-use Rattle.regex_meaning.proofs.ListLemmas.{list_all-members}
+use Rattle.regex_meaning.proofs.ListLemmas.{list_all-members, contains-append}
 
 -- ---- Tests
 
 nat_eq-refl : (n : ℕ) → nat_eq n n ≡ true
 nat_eq-refl n = eq-eqb n n refl
-
-pub false_is_true : false ≡ true → ⊥
-false_is_true h = cc
 
 four : (a b c d : Bool) → ((a && b) && (c && d)) ≡ ((a && c) && (b && d))
 four true true c d = refl
@@ -77,10 +69,6 @@ fresh-append f (x ∷ xs) ys =
     ap (λ b. not (f x) && b) (fresh-append g xs ys ∙ ap (λ b. are_distinct_unseen g xs && b)
     (fresh-same (λ k. g k || contains xs k) (λ k. f k || contains (x ∷ xs) k) ys (λ k. or_assoc (f k) (k == x) (contains xs k))))
     ∙ sym (and_assoc (not (f x)) (are_distinct_unseen g xs) (are_distinct_unseen (λ k. f k || contains (x ∷ xs) k) ys))
-
-pub contains-append : (xs ys : List ℕ) (k : ℕ) → contains (xs ++ ys) k ≡ (contains xs k || contains ys k)
-contains-append [] ys k = refl
-contains-append (x ∷ xs) ys k = ap (λ b. nat_eq k x || b) (contains-append xs ys k) ∙ sym (or_assoc (nat_eq k x) (contains xs k) (contains ys k))
 
 fresh-unseen : (ids : List ℕ) (f : ℕ → Bool) (k : ℕ) → are_distinct_unseen f ids ≡ true → contains ids k ≡ true → f k ≡ false
 unfolding are_distinct_unseen
@@ -287,7 +275,7 @@ all_there ids f s e q fresh low high enough above below = by_test (contains ids 
     by_test false g =
         let seen = λ (k : ℕ). nat_lt k s in
         let unseen : (k : ℕ) → contains ids k ≡ true → (nat_lt k s || k == q) ≡ false =
-        λ k c. or_from (nat_lt k s) (k == q) (le-ltb k s (omega (arith, least-le ids k c))) (ne_eqb k q (λ (same : k ≡ q). false_is_true (g ∙ ap (contains ids) (sym same) ∙ c))) in
+        λ k c. or_from (nat_lt k s) (k == q) (le-ltb k s (omega (arith, least-le ids k c))) (ne_eqb k q (λ (same : k ≡ q). false≢true (g ∙ ap (contains ids) (sym same) ∙ c))) in
         let rest : are_distinct_unseen (λ k. nat_lt k s || k == q) ids ≡ true = fresh-change ids f (λ k. nat_lt k s || k == q) fresh unseen in
         let whole : are_distinct_unseen seen (q ∷ ids) ≡ true = and_from (not (nat_lt q s)) (are_distinct_unseen (λ k. nat_lt k s || k == q) ids) (ap not (le-ltb q s above)) rest in
         absurd (omega (arith, fresh-length (q ∷ ids) seen e whole (omega arith), count-below s e))
@@ -353,7 +341,7 @@ count-one q (id ∷ ids) f h c =
   where
     by_test : (t : Bool) → t ≡ nat_eq q id → (contains ids q ≡ true → (f q || q == id) ≡ false) → (contains ids q ≡ true → count_by (nat_eq q) ids ≡ 1) → count_by (nat_eq q) (id ∷ ids) ≡ 1
     by_test true e unseen go =
-        let gone : contains ids q ≡ false = false_from_ne_true (contains ids q) (λ there. false_is_true (sym (unseen there) ∙ or_right (f q) (q == id) (sym e))) in
+        let gone : contains ids q ≡ false = false_from_ne_true (contains ids q) (λ there. false≢true (sym (unseen there) ∙ or_right (f q) (q == id) (sym e))) in
         count_by-first q id ids ∙ rw (← e) (omega (arith, count-none q ids gone))
     by_test false e unseen go =
         let there : contains ids q ≡ true = ap (λ t. t || contains ids q) e ∙ c in

@@ -1,6 +1,5 @@
 -- Adding the intervals of a bracket one by one keeps its read lengths right for each key.
-use Rattle.std.proofs.Common.{◌≡◌, ◌≢◌, ◌<◌, ◌≤◌, ℕ, suc, ◌+◌, Bool, true, false, ◌||◌, Some, List, length, map, take, get_or, set, get_or-set_same}
-use Rattle.std.proofs.Common.{get_or-set_other, refl, sym, ap, ◌∙◌, subst, arith, inl, inr}
+use Rattle.std.proofs.Common.{◌≡◌, ◌≢◌, ◌<◌, ◌≤◌, ℕ, suc, ◌+◌, Bool, true, false, ◌||◌, Some, List, length, map, take, get_or, set, get_or-set_same, get_or-set_other, refl, sym, ap, ◌∙◌, subst, arith, inl, inr}
 use mathlib.Core.Logic.{◌⊎◌}
 use Rattle.std.specs.Prelude.{min, max}
 use Rattle.std.specs.Int.{is_in_range}
@@ -13,8 +12,7 @@ use Rattle.regex_pattern_front.specs.Intervals.{interval_of}
 use Rattle.regex_pattern_front.specs.declared.codepointset.Interval.{Interval}
 use Rattle.regress_machine.specs.FirstSetTables.{is_character_in_encoding, first_unit_key}
 use Rattle.regress_program.specs.TableKeysOfUnits.{key, is_16_bit_encoding, first_utf8_byte, IsSurrogatePairOf, HasKeysBetween, is_read_length_right}
-use Rattle.regress_program.specs.ClassReadLengths.{IsReadLengthRightForKey, IsReadLengthWithInterval, LacksPairsOfKey}
-use Rattle.regress_program.specs.ClassReadLengths.{IntervalKeepsLength}
+use Rattle.regress_program.specs.ClassReadLengths.{IsReadLengthRightForKey, IsReadLengthWithInterval, LacksPairsOfKey, IntervalKeepsLength}
 use Rattle.regress_program.proofs.TableKeysOfUnitsLemmas.{first-key-at, first-key-below, key_of_first}
 use Rattle.regress_program.proofs.RangeAcceptanceLemmas.{ascii-key, no_interval}
 use Rattle.regress_program.proofs.ClassReadLengthsLemmas.{more-intervals}

@@ -1,6 +1,5 @@
 -- A leap with a certificate is sound, so no match starts where the goal is not reached.
-use Rattle.std.proofs.Common.{◌≡◌, ◌<◌, ◌≤◌, ℕ, zero, suc, ◌+◌, ◌-◌, min, List, [], ◌∷◌, map, reverse, length, Option, Some, None, Bool, true, false}
-use Rattle.std.proofs.Common.{not, ◌&&◌, ◌||◌, refl, ap, ◌∙◌, sym, subst, arith, slice_get, inl, inr}
+use Rattle.std.proofs.Common.{◌≡◌, ◌<◌, ◌≤◌, ℕ, zero, suc, ◌+◌, ◌-◌, min, List, [], ◌∷◌, map, reverse, length, Option, Some, None, Bool, true, false, not, ◌&&◌, ◌||◌, refl, ap, ◌∙◌, sym, subst, arith, slice_get, inl, inr}
 use Rattle.std.specs.Prelude.{◌==◌, encode_utf8_all}
 use Rattle.std.specs.List.{prefix_len}
 use Rattle.std.proofs.lemmas.Bool.{cases_lt, eqb-true, not-false, and_right, or_from, true≢false}
@@ -13,10 +12,8 @@ use Rattle.regex_meaning.specs.FirstAndAllMatches.{match_at}
 use Rattle.regex_meaning.specs.OutcomesWithStepTicks.{nearest_first}
 use Rattle.regex_meaning.specs.NumberListHelpers.{numbers_from}
 use Rattle.regex_meaning.specs.CodeUnits.{Encoding, utf8, utf16, ucs2}
-use Rattle.regex_meaning.specs.CompilationRelation.{Program, Insn, Goal, JustFail, Char, CharSet, ByteSet, ByteSeq, AsciiBracket, Bracket, MatchAny}
-use Rattle.regex_meaning.specs.CompilationRelation.{MatchAnyExceptLineTerminator, Alt, Jump, EnterLoop, LoopAgain, ResetCaptureGroup, Loop1CharBody}
-use Rattle.regex_meaning.specs.CompilationRelation.{StartOfLine, EndOfLine, WordBoundary, WordBoundaryUnicodeICase}
-use Rattle.regex_meaning.specs.CompilationRelation.{BeginCaptureGroup, EndCaptureGroup, BackRef, Lookahead, Lookbehind}
+use Rattle.regex_meaning.specs.CompilationRelation.{Program, Insn, Goal, JustFail, Char, CharSet, ByteSet, ByteSeq, AsciiBracket, Bracket, MatchAny, MatchAnyExceptLineTerminator, Alt, Jump, EnterLoop, LoopAgain, ResetCaptureGroup, Loop1CharBody}
+use Rattle.regex_meaning.specs.CompilationRelation.{StartOfLine, EndOfLine, WordBoundary, WordBoundaryUnicodeICase, BeginCaptureGroup, EndCaptureGroup, BackRef, Lookahead, Lookbehind}
 use Rattle.regex_meaning.proofs.EachElementLemmas.{Each, Each-map, Each-image, Each-reverse}
 use Rattle.regex_meaning.proofs.CodeUnitOffsetsLemmas.{offset-place_at}
 use Rattle.regress_machine.specs.Machine.{State, running, Next, with_some, go_if, scan, act, act_on, test_of, next_insn_at_place, read_one, read_bytes, char_loop_states, occurs_beside_offset}
@@ -26,16 +23,14 @@ use Rattle.regress_machine.specs.ThreadSimulation.{FindsNothing}
 use Rattle.regress_machine.specs.FailingInsnsAtOffset.{may_repeat, insn_may_find}
 use Rattle.regress_machine.specs.FirstSetTables.{is_character_in_encoding, HasUnitsForTables, unit_key_at}
 use Rattle.regress_machine.specs.RequiredPrefixes.{unit_is_allowed}
-use Rattle.regress_machine.proofs.FailureByStepInduction.{NothingBelow, Drops, NothingNext, EachNothing, turn-nothing, nothing-go, nothing-goes, nothing-in_turn}
-use Rattle.regress_machine.proofs.FailureByStepInduction.{nothing-below-none, finds-nothing}
+use Rattle.regress_machine.proofs.FailureByStepInduction.{NothingBelow, Drops, NothingNext, EachNothing, turn-nothing, nothing-go, nothing-goes, nothing-in_turn, nothing-below-none, finds-nothing}
 use Rattle.regress_machine.proofs.FailingInsnLemmas.{insn-nothing}
 use Rattle.regress_machine.proofs.RequiredPrefixLemmas.{nothing-below}
 use Rattle.regress_machine.proofs.ExcludedMatchStartLemmas.{nothing-no-match}
 use Rattle.regress_machine.proofs.FirstUnitsOfCharacters.{passes-one}
 use Rattle.regress_program.specs.PrefixesAndPrefilters.{PrefixAt}
 use Rattle.regress_program.specs.TableKeysOfUnits.{key, is_16_bit_encoding}
-use Rattle.regress_program.specs.Leaps.{LeapToGoal, may_read_before_goal, goal_occurs_at, ReachesGoalAt, ReachesNoGoal, GoalIsAbsentBetween, GoalIsAbsentFrom}
-use Rattle.regress_program.specs.Leaps.{HasBarrierBetween, IsSoundLeap}
+use Rattle.regress_program.specs.Leaps.{LeapToGoal, may_read_before_goal, goal_occurs_at, ReachesGoalAt, ReachesNoGoal, GoalIsAbsentBetween, GoalIsAbsentFrom, HasBarrierBetween, IsSoundLeap}
 use Rattle.regress_program.specs.LeapCertificates.{AcceptsOnlyPassedUnits, ReadsBytesOver, RepeatsLoop, LookaheadReachesGoal, InsnReachesGoal, CertifiesLeap}
 use Rattle.regress_program.proofs.LeapPassedUnits.{place-behind, char-over, run-to, bytes-over}
 

@@ -1,6 +1,5 @@
 -- A leap that passes the check of a plan's operations is sound for the program.
-use Rattle.std.proofs.Common.{◌≡◌, ◌<◌, ◌≤◌, ℕ, zero, suc, ◌+◌, ◌-◌, ◌/◌, ◌%◌, Bool, true, false, ◌||◌, Option, Some, None, List, [], ◌∷◌, length}
-use Rattle.std.proofs.Common.{slice_get, get_or, refl, ap, ◌∙◌, sym, subst, arith, inl, inr, append-nil}
+use Rattle.std.proofs.Common.{◌≡◌, ◌<◌, ◌≤◌, ℕ, zero, suc, ◌+◌, ◌-◌, ◌/◌, ◌%◌, Bool, true, false, ◌||◌, Option, Some, None, List, [], ◌∷◌, length, slice_get, get_or, refl, ap, ◌∙◌, sym, subst, arith, inl, inr, append-nil}
 use mathlib.Core.Logic.{◌⊎◌}
 use Rattle.std.specs.Prelude.{min, nat_le, if◌then◌else◌, slice_index_or}
 use Rattle.std.specs.Char.{encode_utf8 as encode}
@@ -13,6 +12,7 @@ use Rattle.regex_meaning.specs.CompilationRelation as layout
 use Rattle.regex_meaning.proofs.FirstByteOfCharacter.{scalar-below}
 use Rattle.regress_machine.specs.Machine.{test_of}
 use Rattle.regress_machine.specs.FirstSetTables.{is_character_in_encoding}
+use Rattle.regress_machine.proofs.GroupAndAssertionOutcomes.{slice_get_some}
 use Rattle.regress_program.specs.InsnsAsSpec.{insn_as_spec_insn}
 use Rattle.regress_program.specs.declared.leap.Leap.{Leap}
 use Rattle.regress_program.specs.declared.char_class_tables.Class.{Class}
@@ -31,8 +31,9 @@ use Rattle.regress_program.specs.Leaps.{is_goal_key, is_passed_key, leap_to_goal
 use Rattle.regress_program.specs.LeapCertificatesOfPlans.{AreAllGoalKeys, PassesUnits, PassesReadLengths, PassesClass, ArrivesAtGoal, LoopStaysOnWay, OpReachesGoal, OpsOnWayReachGoal}
 use Rattle.regress_program.proofs.TableKeysOfUnitsLemmas.{key_of_first, first-key-at, first-key-below, key-low}
 use Rattle.regress_program.proofs.ClosedFirstSetsLemmas.{told-some}
-use Rattle.regress_program.proofs.AppendedEntryLemmas.{get-below}
 use Rattle.regress_program.proofs.RequiredPrefixLemmas.{insn-of, less-prefix, units-there}
+use Rattle.regress_program.proofs.ClassReadLengthsLemmas.{key-past}
+use Rattle.regress_program.proofs.RangeAcceptanceLemmas.{ascii-key}
 
 -- An element of a list is the same whatever the default.
 pub get-default : (xs : List ℕ) (i d e : ℕ) → i < length xs → get_or xs i d ≡ get_or xs i e
@@ -116,24 +117,6 @@ high-key : (wide : Bool) (u : ℕ) → 128 ≤ u → u < (if wide then 0x1_0000 
 high-key false u high below = (high, below)
 high-key true u high below = rw (le-ltb u 128 high) (omega arith, omega (arith, below))
 
--- The key of the first unit of an ASCII character is the character.
-first-low : (wide : Bool) (c : ℕ) → c < 128 → key_of_first wide c ≡ c
-first-low false c low = rw (lt-ltb c 0x80 low) refl
-first-low true c low = rw (lt-ltb c 0x1_0000 (omega (arith, low))) (sym (key-low-is true c low))
-
-first-high : (wide : Bool) (c : ℕ) → 128 ≤ c → 128 ≤ key_of_first wide c
-first-high false c high = elim (cases_lt c 0x800) [
-  | inl b ↦ rw (le-ltb c 0x80 high, lt-ltb c 0x800 b) (omega arith)
-  | inr b ↦ elim (cases_lt c 0x1_0000) [
-    | inl d ↦ rw (le-ltb c 0x80 high, le-ltb c 0x800 b, lt-ltb c 0x1_0000 d) (omega arith)
-    | inr d ↦ rw (le-ltb c 0x80 high, le-ltb c 0x800 b, le-ltb c 0x1_0000 d) (omega arith)
-  ]
-]
-first-high true c high = elim (cases_lt c 0x1_0000) [
-  | inl one ↦ rw (lt-ltb c 0x1_0000 one, le-ltb c 128 high) (omega arith)
-  | inr two ↦ rw (le-ltb c 0x1_0000 two, le-ltb (0xD800 + (c - 0x1_0000) / 0x400) 128 (omega arith)) (omega arith)
-]
-
 -- ---- Characters that the leap passes
 
 module _ (leap : Leap) (alike : AreHighKeysAlike leap) where
@@ -160,11 +143,11 @@ module _ (leap : Leap) (alike : AreHighKeysAlike leap) where
       → is_passed_key leap (key_of_first wide c) ≡ true → list_all (λ u. is_passed_key leap (key wide u)) (code_units_of_character e c) ≡ true
   char-passed e wide w c is passed = cut-passed e wide w c is (elim (cases_lt c 128) [
     | inl low ↦
-        subst (λ k. is_passed_key leap k ≡ true) (let same : c ≡ min c 128 = omega (arith, low) in first-low wide c low ∙ same) passed
+        subst (λ k. is_passed_key leap k ≡ true) (let same : c ≡ min c 128 = omega (arith, low) in ascii-key wide c low ∙ same) passed
     | inr high ↦
         let one : 128 ≡ min c 128 = omega (arith, high) in
         subst (λ k. is_passed_key leap k ≡ true) one
-        (high-passed (key_of_first wide c) 128 (first-high wide c high) (first-key-below e wide w c is) passed (omega arith) (omega arith))
+        (high-passed (key_of_first wide c) 128 (key-past wide c high) (first-key-below e wide w c is) passed (omega arith) (omega arith))
   ])
 
   -- If the leap passes the read lengths of a class, it passes the characters of that class.
@@ -325,7 +308,7 @@ certified wide program plan leap way ops alike first all = record { first = firs
     past ip none None at e = tt
     past ip none (Some insn) at e =
         let same = ops.as_many in
-        let o = get-below plan.ops.items ip (let below = slice_get_within program.insns ip insn at in omega (arith, below, same)) in
+        let o = slice_get_some plan.ops.items ip (let below = slice_get_within program.insns ip insn at in omega (arith, below, same)) in
         let no : Some o.0 ≡ None = sym o.1 ∙ none in
         cc
 

@@ -1,6 +1,5 @@
 -- The code units that a match reads before the goal of a leap have keys that the leap passes.
-use Rattle.std.proofs.Common.{◌≡◌, ◌<◌, ◌≤◌, ℕ, zero, suc, ◌+◌, ◌-◌, List, [], ◌∷◌, ◌++◌, Some, Bool, true, refl, ap, ◌∙◌, sym, subst, arith}
-use Rattle.std.proofs.Common.{slice_get, length, drop, get_or, inl, inr}
+use Rattle.std.proofs.Common.{◌≡◌, ◌<◌, ◌≤◌, ℕ, zero, suc, ◌+◌, ◌-◌, List, [], ◌∷◌, ◌++◌, Some, Bool, true, ap, ◌∙◌, sym, subst, arith, slice_get, length, drop, get_or, inl, inr}
 use Rattle.std.specs.Prelude.{flat_map, option_map, nat_eq, encode_utf8_all}
 use Rattle.std.specs.List.{list_all, starts_with, prefix_len}
 use Rattle.std.proofs.lemmas.Bool.{eqb-true, cases_lt}
@@ -11,16 +10,13 @@ use Rattle.regex_meaning.specs.OutcomesWithStepTicks.{nearest_first}
 use Rattle.regex_meaning.specs.Outcomes.{is_some_and}
 use Rattle.regex_meaning.specs.CodeUnits.{Encoding, utf8, code_units_of_character, text_units_in_encoding}
 use Rattle.regex_meaning.proofs.BoolLemmas.{and-left, and-right}
+use Rattle.regex_meaning.proofs.ListLemmas.{get-behind, get-front}
+use Rattle.regex_meaning.proofs.CodeUnitLengthLemmas.{has-unit}
 use Rattle.regress_machine.specs.FirstSetTables.{is_character_in_encoding, HasUnitsForTables, unit_key_at}
 use Rattle.regress_machine.proofs.ExcludedCharLoopExits.{one-of-run, slice_get-behind, inside-of}
-use Rattle.regress_machine.proofs.FirstUnitsOfCharacters.{passes-one, widths, offsets-from, offset-behind, behind-prefix, some-units, units-bytes}
+use Rattle.regress_machine.proofs.FirstUnitsOfCharacters.{passes-one, widths, offsets-from, offset-behind, units-bytes}
 
 -- ---- Lists
-
-get-front : (xs ys : List ℕ) (i : ℕ) → i < length xs → slice_get (xs ++ ys) i ≡ slice_get xs i
-get-front [] ys i less = absurd (omega (arith, less))
-get-front (x ∷ xs) ys zero less = refl
-get-front (x ∷ xs) ys (suc i) less = get-front xs ys i (omega (arith, less))
 
 -- ---- Characters and their units
 
@@ -40,7 +36,7 @@ module _ (units : ℕ → List ℕ) (some : (c : ℕ) → 0 < length (units c)) 
       let rest = n - length (units d) in
       let whole : n + i ≡ length (units d) + (n - length (units d) + i) = omega (arith, least, e) in
       ap (slice_get (units d ++ flat_map units cs)) whole
-      ∙ behind-prefix (units d) (flat_map units cs) (n - length (units d) + i)
+      ∙ get-behind (units d) (flat_map units cs) (n - length (units d) + i)
       ∙ units-of cs (at + length (units d)) (n - length (units d)) p c i there (e ∙ (let f : at + n ≡ at + length (units d) + (n - length (units d)) = omega (arith, least, e) in f)) less
 
 module _ (e : Encoding) (key : ℕ → ℕ) (text : Text) (has : HasUnitsForTables e text) (over : ℕ → Bool) where
@@ -53,13 +49,13 @@ module _ (e : Encoding) (key : ℕ → ℕ) (text : Text) (has : HasUnitsForTabl
   place-behind p c there =
       ap (offset text) (let n : p + 1 ≡ suc p = omega arith in n)
       ∙ ap (λ (os : List ℕ). get_or os (suc p) 0) has.spelled.offsets
-      ∙ offset-behind (code_units_of_character e) (some-units e) text.characters 0 p c there
+      ∙ offset-behind (code_units_of_character e) (has-unit e) text.characters 0 p c there
       ∙ ap (λ (os : List ℕ). get_or os p 0 + length (code_units_of_character e c)) (sym has.spelled.offsets)
 
   unit-there : (p c i : ℕ) → slice_get text.characters p ≡ Some c → i < length (code_units_of_character e c)
       → slice_get (text_units_in_encoding e text) (offset text p + i) ≡ slice_get (code_units_of_character e c) i
   unit-there p c i there less =
-      units-of (code_units_of_character e) (some-units e) text.characters 0 (offset text p) p c i there
+      units-of (code_units_of_character e) (has-unit e) text.characters 0 (offset text p) p c i there
       (ap (λ (os : List ℕ). get_or os p 0) (sym has.spelled.offsets) ∙ (let z : offset text p ≡ 0 + offset text p = omega arith in z)) less
 
   -- If all units of a character are in the set, each unit at its offsets is.

@@ -1,7 +1,6 @@
 -- The tree of a list of nodes has the properties of its first and last node.
 pub use Rattle.regex_pattern_front.proofs.AstToSpecTreeLemmas.{spec_node_of-Cat}
-use Rattle.std.proofs.Common.{◌≡◌, ℕ, ◌+◌, ◌<◌, ◌-◌, suc, true, false, List, [], ◌∷◌, length, slice_get, Some, None, get_or, drop, drop-cons}
-use Rattle.std.proofs.Common.{add-one, sym, ap, ◌∙◌, refl, arith}
+use Rattle.std.proofs.Common.{◌≡◌, ℕ, ◌+◌, ◌<◌, ◌-◌, suc, true, false, List, [], ◌∷◌, length, slice_get, Some, None, get_or, drop, drop-cons, add-one, sym, ap, ◌∙◌, refl, arith}
 use Rattle.regex_meaning.specs.Tree as tree
 use Rattle.regex_pattern_front.specs.AstToSpecTree.{spec_node_of}
 use Rattle.regex_pattern_front.specs.declared.ir.Node.{Node}

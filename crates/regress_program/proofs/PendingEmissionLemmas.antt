@@ -1,6 +1,5 @@
 -- Emitting the pending parts one by one emits the code of the tree and decreases the measure.
-use Rattle.std.proofs.Common.{◌≡◌, ℕ, ◌+◌, ◌*◌, ◌-◌, ◌<◌, ◌≤◌, ◌^◌, Bool, true, ◌&&◌, List, [], ◌∷◌, ◌++◌, length, refl, sym, ap, ◌∙◌, arith}
-use Rattle.std.proofs.Common.{length-append, length-set, le_refl}
+use Rattle.std.proofs.Common.{◌≡◌, ℕ, ◌+◌, ◌*◌, ◌-◌, ◌<◌, ◌≤◌, ◌^◌, Bool, true, ◌&&◌, List, [], ◌∷◌, ◌++◌, length, refl, sym, ap, ◌∙◌, arith, length-append, length-set, le_refl}
 use Rattle.std.specs.Prelude.{nat_lt}
 use Rattle.std.proofs.lemmas.Bool.{and_from, lt-ltb, ltb-true}
 use Rattle.regex_meaning.specs.Tree.{Quantifier, Lookaround, Node as TreeNode, alt, lookaround, loop, every_node_passes}
@@ -12,17 +11,13 @@ use Rattle.regex_pattern_front.specs.AstToSpecTree.{spec_node_of}
 use Rattle.regex_pattern_front.specs.declared.ir.Node as ir
 use Rattle.regress_program.specs.InnerNodeCountMeasure.{inner_node_count}
 use Rattle.regress_program.specs.CompilationOfTreesAsFunction.{group_reset_insns}
-use Rattle.regress_program.specs.EmitterStateAndAppendedCode.{EmitterState, HasIndexRoomForNode, node_with_char_loops_if_enabled, with_code, with_insn_appended}
-use Rattle.regress_program.specs.EmitterStateAndAppendedCode.{with_insns_appended}
-use Rattle.regress_program.specs.EmitterStateAndAppendedCode.{with_insn_at, with_loop}
+use Rattle.regress_program.specs.EmitterStateAndAppendedCode.{EmitterState, HasIndexRoomForNode, node_with_char_loops_if_enabled, with_code, with_insn_appended, with_insns_appended, with_insn_at, with_loop}
 use Rattle.regress_program.specs.LeafNodesAndOptimizableLoops.{spec_cat_of_children, is_leaf}
-use Rattle.regress_program.specs.PendingEmission.{EmitWork, FitsIndexWidths, CanEmitPendingPart, ExpandsPending, with_arm_end, with_jump}
-use Rattle.regress_program.specs.PendingEmission.{with_alternatives_emitted, with_lookaround_end, with_loop_end}
+use Rattle.regress_program.specs.PendingEmission.{EmitWork, FitsIndexWidths, CanEmitPendingPart, ExpandsPending, with_arm_end, with_jump, with_alternatives_emitted, with_lookaround_end, with_loop_end}
 use Rattle.regress_program.specs.PendingEmission.{with_pending, with_all_pending, is_emittable, are_emittable, node_measure, pending_measure, total_measure}
 use Rattle.regress_program.specs.declared.emit.nested_nodes.UnemittedCodePart.{UnemittedCodePart}
 use Rattle.regress_program.specs.declared.emit.nested_nodes.UnemittedCodePart.TheVariants.{Node, Row, Others, Jump as JumpLeft, GroupEnd, LookaroundEnd, LoopEnd}
-use Rattle.regress_program.proofs.AppendedCodeLemmas.{length-with_code, with_code-alt, with_code-loop, with_code-lookaround, with_code-cat}
-use Rattle.regress_program.proofs.AppendedCodeLemmas.{with_code-end_of_cat, room-first, room-rest}
+use Rattle.regress_program.proofs.AppendedCodeLemmas.{length-with_code, with_code-alt, with_code-loop, with_code-lookaround, with_code-cat, with_code-end_of_cat, room-first, room-rest}
 use Rattle.regress_program.proofs.CharLoopNodeLemmas.{shaped-leaf}
 use Rattle.regex_meaning.proofs.BoolLemmas.{and-left, and-right}
 

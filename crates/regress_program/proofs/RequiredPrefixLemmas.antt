@@ -1,19 +1,16 @@
 -- The prefix that the analysis derives from the operations is required where a match starts.
-use Rattle.std.proofs.Common.{◌≡◌, ◌≢◌, ◌<◌, ◌≤◌, ℕ, zero, suc, ◌+◌, ◌-◌, ◌*◌, ◌/◌, ◌%◌, ◌^◌, min, max, Bool, true, false, not, ◌&&◌, ◌||◌, Option}
-use Rattle.std.proofs.Common.{Some, None, List, length, slice_get, slice_set, get_or, refl, sym, ap, ◌∙◌, subst, arith, bit_and, div-add-mod'}
-use Rattle.std.proofs.Common.{pow_pos}
+use Rattle.std.proofs.Common.{◌≡◌, ◌≢◌, ◌<◌, ◌≤◌, ℕ, zero, suc, ◌+◌, ◌-◌, ◌*◌, ◌/◌, ◌%◌, ◌^◌, min, max, Bool, true, false, not, ◌&&◌, ◌||◌, Option, Some, None, List, length, slice_get, slice_set, get_or, refl, sym, ap, ◌∙◌, subst, arith, bit_and, div-add-mod', pow_pos}
 use mathlib.Core.Logic.{◌⊎◌, inl, inr}
 use Rattle.std.specs.Prelude.{◌==◌, if◌then◌else◌, slice_index, slice_index_or}
 use Rattle.std.specs.Int.{bit_at}
-use Rattle.std.proofs.lemmas.Bool.{cases_lt, lt-ltb, le-ltb, eqb-true, eq-eqb, ne_eqb}
+use Rattle.std.proofs.lemmas.Bool.{cases_lt, lt-ltb, le-ltb, eqb-true, eq-eqb, ne_eqb, and_right}
 use Rattle.std.proofs.lemmas.Nat.Bits.{bit_at_or, bit_at_and, bit_at_ones, bit_at_ones_above, bit_at_cat_low, bit_at_cat_high, bit_at-lt, bit_at-zero}
 use Rattle.std.proofs.lemmas.Grind.{get_or-set_at}
 use Rattle.std.proofs.lemmas.List.{get_or_past, get_or-set_other, length-set}
 use Rattle.std.proofs.lemmas.Option.{slice_get-get_or, slice_get_within}
 use Rattle.regex_meaning.specs.Text.{Text}
 use Rattle.regex_meaning.specs.CodeUnits.{Encoding, code_units_of_character}
-use Rattle.regex_meaning.specs.CompilationRelation.{Program, Insn, Char, CharSet, ByteSet, AsciiBracket, Bracket, MatchAny, MatchAnyExceptLineTerminator}
-use Rattle.regex_meaning.specs.CompilationRelation.{StartOfLine, WordBoundary, WordBoundaryUnicodeICase, Jump, EnterLoop, Loop1CharBody, ResetCaptureGroup}
+use Rattle.regex_meaning.specs.CompilationRelation.{Program, Insn, Char, CharSet, ByteSet, AsciiBracket, Bracket, MatchAny, MatchAnyExceptLineTerminator, StartOfLine, WordBoundary, WordBoundaryUnicodeICase, Jump, EnterLoop, Loop1CharBody, ResetCaptureGroup}
 use Rattle.regex_meaning.specs.CompilationRelation.{BeginCaptureGroup, EndCaptureGroup, Lookahead, Lookbehind}
 use Rattle.regex_meaning.proofs.OptionLemmas.{some-same}
 use Rattle.regress_machine.specs.Machine.{test_of}
@@ -22,6 +19,7 @@ use Rattle.regress_machine.specs.FailingInsnsAtOffset.{insn_may_find}
 use Rattle.regress_machine.specs.FirstSetTables.{is_character_in_encoding, first_unit_key}
 use Rattle.regress_machine.specs.RequiredPrefixes.{AllowedUnitsAhead, unit_is_allowed}
 use Rattle.regress_machine.proofs.RequiredPrefixLemmas.{prefix-none, prefix-less, prefix-on, prefix-either, AreUnits, Reads, prefix-reads, prefix-run}
+use Rattle.regress_machine.proofs.GroupAndAssertionOutcomes.{slice_get_some}
 use Rattle.regress_program.specs.declared.first_set_type.FirstSet.{FirstSet}
 use Rattle.regress_program.specs.declared.char_class_tables.Class.{Class}
 use Rattle.regress_program.specs.declared.required_prefix_types.Prefix.{Prefix}
@@ -38,12 +36,11 @@ use Rattle.regress_program.specs.declared.plan.Plan.{Plan}
 use Rattle.regress_program.specs.TableKeysOfUnits.{key, is_16_bit_encoding, is_read_length_right, read_length_at_key, unit_table_of_set}
 use Rattle.regress_program.specs.Plans.{IsClassRightForProgram, reads_class_char, op_as_char_loop, IsOpOf}
 use Rattle.regress_program.specs.PrefixesAndPrefilters.{units_allowed_by_prefix, PrefixAt, IsRequiredPrefixFromInsn, ExcludesKeys}
-use Rattle.regress_program.specs.RequiredPrefixAnalysis.{joined_masks, allowed_first_then_after, allows_only_key, units_allowed_by_first_set, falls_through}
-use Rattle.regress_program.specs.RequiredPrefixAnalysis.{ExtendsPrefix, AllowsEitherPrefix, IsPrefixSoFar, AreOpsOfProgram, PrefixAfter}
+use Rattle.regress_program.specs.RequiredPrefixAnalysis.{joined_masks, allowed_first_then_after, allows_only_key, units_allowed_by_first_set, falls_through, ExtendsPrefix, AllowsEitherPrefix, IsPrefixSoFar, AreOpsOfProgram, PrefixAfter}
 use Rattle.regress_program.specs.RequiredPrefixAnalysis.{PrefixBeginsWith, FollowsFromSuccessors, IsOpPrefixContributionOf, IsPrefixOfCharLoop}
 use Rattle.regress_program.proofs.TableKeysOfUnitsLemmas.{first-key-at, first-key-below, key_of_first}
 use Rattle.regress_program.proofs.ClosedFirstSetsLemmas.{told-some}
-use Rattle.regress_program.proofs.AppendedEntryLemmas.{get-below, runs-of}
+use Rattle.regress_program.proofs.AppendedEntryLemmas.{runs-of}
 use Rattle.regress_program.proofs.RangeAcceptanceLemmas.{ascii-key}
 use Rattle.regress_program.proofs.ClassReadLengthsLemmas.{one-unit}
 
@@ -363,7 +360,7 @@ module _ (plan : Plan) {wide : Bool} (program : Program) (ops : AreOpsOfProgram 
   pub insn-of : (o : Op) (ip : ℕ) → slice_get plan.ops.items ip ≡ Some o → (insn : Insn) × (slice_get program.insns ip ≡ Some insn) × IsOpOf program plan o ip insn
   insn-of o ip there =
       let same = ops.as_many in
-      let insn = get-below program.insns ip (let below = slice_get_within plan.ops.items ip o there in omega (arith, below, same)) in
+      let insn = slice_get_some program.insns ip (let below = slice_get_within plan.ops.items ip o there in omega (arith, below, same)) in
       (insn.0, insn.1, ops.each ip o insn.0 there insn.1)
 
 -- A row that was read is the row of its table.
@@ -390,14 +387,10 @@ led-on wide program ip to insn form there is leads len allowed prefix =
     let P : Option Insn → Type 0 = λ o. insn_may_find program text at may o ip ≡ false in
     subst P (sym (there ∙ ap Some is)) (leads may never text at))
 
-and-never : (a b : Bool) → b ≡ false → (a && b) ≡ false
-and-never true b h = h
-and-never false b h = refl
-
 said-line : (plan : Plan) (ip : ℕ) (multiline : Bool) → IsOpPrefixContributionOf plan (op.LineStart multiline) ip (ahead.SameAs (ip + 1))
 said-line plan ip multiline wide program ops there =
     let i = insn-of plan program ops (op.LineStart multiline) ip there in
-    led-on wide program ip (ip + 1) i.0 (StartOfLine multiline) i.1 i.2 (λ may never text at. and-never _ (may (ip + 1)) never)
+    led-on wide program ip (ip + 1) i.0 (StartOfLine multiline) i.1 i.2 (λ may never text at. and_right _ (may (ip + 1)) never)
 
 said-open : (plan : Plan) (ip slot : ℕ) → IsOpPrefixContributionOf plan (op.OpenGroup slot) ip (ahead.SameAs (ip + 1))
 said-open plan ip slot wide program ops there =
@@ -420,8 +413,8 @@ said-edge plan ip e wide program ops there =
   where
     by : (icase : Bool) (insn : Insn) → slice_get program.insns ip ≡ Some insn → insn ≡ (if icase then WordBoundaryUnicodeICase e.invert else WordBoundary e.invert)
         → FollowsFromSuccessors wide program ip (ahead.SameAs (ip + 1))
-    by true insn there is = led-on wide program ip (ip + 1) insn (WordBoundaryUnicodeICase e.invert) there is (λ may never text at. and-never _ (may (ip + 1)) never)
-    by false insn there is = led-on wide program ip (ip + 1) insn (WordBoundary e.invert) there is (λ may never text at. and-never _ (may (ip + 1)) never)
+    by true insn there is = led-on wide program ip (ip + 1) insn (WordBoundaryUnicodeICase e.invert) there is (λ may never text at. and_right _ (may (ip + 1)) never)
+    by false insn there is = led-on wide program ip (ip + 1) insn (WordBoundary e.invert) there is (λ may never text at. and_right _ (may (ip + 1)) never)
 
 -- An operation that falls through has the same prefix as the next one.
 pub said-on : (plan : Plan) (ip : ℕ) (o : Op) → falls_through o ≡ true → IsOpPrefixContributionOf plan o ip (ahead.SameAs (ip + 1))

@@ -3,14 +3,12 @@ use Rattle.std.proofs.Common.{◌≡◌, ℕ, List, [], ◌∷◌, Bool, true, f
 use Rattle.std.specs.Prelude.{if◌then◌else◌}
 use Rattle.regex_meaning.specs.Tree.{Tree}
 use Rattle.regex_meaning.specs.StartPredicate as predicate
-use Rattle.regex_meaning.specs.StartPredicate.{AbstractStartPredicate, open_ended, arbitrary, sequence, one_of, abstract_start_predicate, resolved_start_predicate}
-use Rattle.regex_meaning.specs.StartPredicate.{start_anchored, start_predicate}
+use Rattle.regex_meaning.specs.StartPredicate.{AbstractStartPredicate, open_ended, arbitrary, sequence, one_of, abstract_start_predicate, resolved_start_predicate, start_anchored, start_predicate}
 use Rattle.regex_pattern_front.specs.declared.ir.Regex.{Regex}
 use Rattle.regress_program.specs.CompilationOfTreesAsFunction.{compiled}
 use Rattle.regress_program.specs.StartPredicates.{IsCopyOfPredicate, IsStartPredicateOfTree, is_anchored_predicate, is_anchored_tree}
 use Rattle.regress_program.specs.declared.insn.start_predicate_type.StartPredicate.{StartPredicate}
-use Rattle.regress_program.specs.declared.insn.start_predicate_type.StartPredicate.TheVariants.{Arbitrary, ByteSet1, ByteSet2, ByteSet3, ByteSeq, ByteBracket}
-use Rattle.regress_program.specs.declared.insn.start_predicate_type.StartPredicate.TheVariants.{StartAnchored}
+use Rattle.regress_program.specs.declared.insn.start_predicate_type.StartPredicate.TheVariants.{Arbitrary, ByteSet1, ByteSet2, ByteSet3, ByteSeq, ByteBracket, StartAnchored}
 
 again : (p copy : StartPredicate) (re : Regex) → copy ≡ p → IsStartPredicateOfTree p re → IsStartPredicateOfTree copy re
 again p copy re same is = let P : StartPredicate → Type 0 = λ s. IsStartPredicateOfTree s re in subst P (sym same) is

@@ -1,11 +1,9 @@
 -- Storing the group names of each node by id yields the names of the tree by id.
-use Rattle.std.proofs.Common.{◌≡◌, ℕ, ◌+◌, ◌*◌, ◌<◌, ◌≤◌, Bool, true, false, IsTrue, List, [], ◌∷◌, ◌++◌, length, map, get_or, set, take, drop}
-use Rattle.std.proofs.Common.{replicate, refl, sym, ap, ◌∙◌, arith, get_or-set_same, get_or-set_other}
+use Rattle.std.proofs.Common.{◌≡◌, ℕ, ◌+◌, ◌*◌, ◌<◌, ◌≤◌, Bool, true, false, IsTrue, List, [], ◌∷◌, ◌++◌, length, map, get_or, set, take, drop, replicate, refl, sym, ap, ◌∙◌, arith, get_or-set_same, get_or-set_other}
 use Rattle.std.specs.Prelude.{if◌then◌else◌, nat_eq, ◌==◌, count_by}
 use Rattle.std.specs.List.{AllZip}
-use Rattle.std.proofs.lemmas.Bool.{eqb-true, eq-eqb}
-use Rattle.std.proofs.lemmas.List.{length-map, length-set, length-replicate, get_or-replicate, ext_get_or, take-append-le, take_all, map-set}
-use Rattle.std.proofs.lemmas.List.{set_past}
+use Rattle.std.proofs.lemmas.Bool.{eqb-true, eq-eqb, false≢true}
+use Rattle.std.proofs.lemmas.List.{length-map, length-set, length-replicate, get_or-replicate, ext_get_or, take-append-le, take_all, map-set, set_past}
 use Rattle.regex_meaning.specs.NumberListHelpers.{numbers_from}
 use Rattle.regex_meaning.specs.Tree.{Node, group_ids}
 use Rattle.regex_meaning.specs.MatchGroupsByNumberAndName.{capturing_group_ids_and_names, group_name_of_id, group_names_by_id}
@@ -17,11 +15,10 @@ use Rattle.regex_pattern_front.specs.AstToSpecTree.{spec_node_of}
 use Rattle.regex_pattern_front.specs.declared.ir.Node as ir
 use Rattle.regress_program.specs.LeafNodesAndOptimizableLoops.{spec_cat_of_children, is_leaf}
 use Rattle.regress_program.specs.InnerNodeCountMeasure.{inner_node_count}
-use Rattle.regress_program.specs.StoringGroupNamesById.{StoresNamesOrPushesNodes, with_names_stored_by_id, pending_names_stored, tree_has_no_named_groups, naming_measure_of_node}
-use Rattle.regress_program.specs.StoringGroupNamesById.{naming_measure_of_part, total_naming_measure, naming_measure_of_nodes, names_in_pending_part}
+use Rattle.regress_program.specs.StoringGroupNamesById.{StoresNamesOrPushesNodes, with_names_stored_by_id, pending_names_stored, tree_has_no_named_groups, naming_measure_of_node, naming_measure_of_part, total_naming_measure, naming_measure_of_nodes, names_in_pending_part}
 use Rattle.regress_program.specs.declared.emit.storing_group_names_by_id.NodeOrListWithUnstoredNames.{NodeOrListWithUnstoredNames}
 use Rattle.regress_program.proofs.NodeKindLemmas.{leaf-bare}
-use Rattle.regress_program.proofs.GroupIdCheckLemmas.{false_is_true, count_by-first}
+use Rattle.regress_program.proofs.GroupIdCheckLemmas.{count_by-first}
 use Rattle.regex_meaning.proofs.BoolLemmas.{same-truth}
 use Rattle.regex_meaning.proofs.ListLemmas.{length-numbers_from}
 
@@ -161,7 +158,7 @@ set-at names i id name h = by (i == id) refl
   where
     by : (t : Bool) → t ≡ (i == id) → get_or (set names i name) id [] ≡ (if t then name else get_or names id [])
     by true e = let same : i ≡ id = eqb-true i id (sym e) in rw same (get_or-set_same names id name [] h)
-    by false e = get_or-set_other names i id name [] (λ same. false_is_true (e ∙ eq-eqb i id (sym same)))
+    by false e = get_or-set_other names i id name [] (λ same. false≢true (e ∙ eq-eqb i id (sym same)))
 
 filed-at : (named : List (ℕ × List ℕ)) (names : List (List ℕ)) (id : ℕ) → id < length names → get_or (with_names_stored_by_id named names) id [] ≡ last_name named id (get_or names id [])
 unfolding last_name

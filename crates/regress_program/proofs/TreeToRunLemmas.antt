@@ -50,26 +50,26 @@ unfolding compiled
 brackets-planned wide t = planned-same brackets_of wide t (brackets-optimized t.root)
 
 -- If the flags turn optimizing off, the tree to run is the given tree.
-pub to_run-plain : (t : Tree) → t.flags.no_opt ≡ true → optimized_tree_unless_no_opt t ≡ t
-to_run-plain t h = rw h refl
+pub tree_to_compile-plain : (t : Tree) → t.flags.no_opt ≡ true → optimized_tree_unless_no_opt t ≡ t
+tree_to_compile-plain t h = rw h refl
 
 -- If the flags leave optimizing on, the tree to run has the optimized root.
-pub to_run-optimized : (t : Tree) → t.flags.no_opt ≡ false → (optimized_tree_unless_no_opt t).root ≡ optimized t.root
-to_run-optimized t h = rw h refl
+pub tree_to_compile-optimized : (t : Tree) → t.flags.no_opt ≡ false → (optimized_tree_unless_no_opt t).root ≡ optimized t.root
+tree_to_compile-optimized t h = rw h refl
 
-pub to_run-same : (t : Tree) → optimized t.root ≡ t.root → optimized_tree_unless_no_opt t ≡ t
-to_run-same t same = go t.flags.no_opt
+pub tree_to_compile-same : (t : Tree) → optimized t.root ≡ t.root → optimized_tree_unless_no_opt t ≡ t
+tree_to_compile-same t same = go t.flags.no_opt
   where
     go : (b : Bool) → (record { root = if b then t.root else optimized t.root; flags = t.flags }) ≡ t
     go true = refl
     go false = ap (λ (n : Node). record { root = n; flags = t.flags }) same
 
 -- If the flags leave optimizing on, the tree with char loops is the tree to run.
-pub to_run-shaped : (t : Tree) → t.flags.no_opt ≡ false → tree_with_char_loops true t ≡ optimized_tree_unless_no_opt t
-to_run-shaped t h = ap (λ (n : Node). record { root = n; flags = t.flags }) (shaped-narrow t.root ∙ sym (to_run-optimized t h))
+pub tree_to_compile-shaped : (t : Tree) → t.flags.no_opt ≡ false → tree_with_char_loops true t ≡ optimized_tree_unless_no_opt t
+tree_to_compile-shaped t h = ap (λ (n : Node). record { root = n; flags = t.flags }) (shaped-narrow t.root ∙ sym (tree_to_compile-optimized t h))
 
-pub size-to_run : (t : Tree) → node_insn_count (optimized_tree_unless_no_opt t).root ≤ node_insn_count t.root
-size-to_run t = go t.flags.no_opt
+pub size-tree_to_compile : (t : Tree) → node_insn_count (optimized_tree_unless_no_opt t).root ≤ node_insn_count t.root
+size-tree_to_compile t = go t.flags.no_opt
   where
     go : (b : Bool) → node_insn_count (if b then t.root else optimized t.root) ≤ node_insn_count t.root
     go true = le_refl _
@@ -96,4 +96,4 @@ run-well_formed t u is h = subst (λ (x : Tree). IsTrue (is_well_formed x.root))
 -- If the tree needs fewer than 2^32 instructions, the code of the tree to run does, too.
 pub run-fits : (t : Tree) (code : EmittedCode) → IsCodeOfTree (optimized_tree_unless_no_opt t) code → node_insn_count t.root < 2 ^ 32 → length code.insns.items < 2 ^ 32
 run-fits t code is fits =
-    omega (arith, fits, size-to_run t, ap (λ (l : List Insn). length l) is.insns, length-map code.insns.items insn_as_spec_insn, compiled-length (optimized_tree_unless_no_opt t))
+    omega (arith, fits, size-tree_to_compile t, ap (λ (l : List Insn). length l) is.insns, length-map code.insns.items insn_as_spec_insn, compiled-length (optimized_tree_unless_no_opt t))

@@ -6,7 +6,7 @@ use Rattle.regex_pattern_front.specs.declared.ir.Node as declared
 use Rattle.regress_program.specs.LeafNodesAndOptimizableLoops.{spec_cat_of_children}
 use Rattle.regress_program.specs.TryFoldOverTreeNodes.{continued_by, in_sequence, try_fold_tree_nodes, step_of_test}
 
-none-of : {S : Type 0} (o : Option S) → false ≡ is_some o → o ≡ None
+pub none-of : {S : Type 0} (o : Option S) → false ≡ is_some o → o ≡ None
 none-of None h = refl
 none-of (Some s) h = cc
 

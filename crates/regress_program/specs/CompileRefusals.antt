@@ -5,8 +5,7 @@ use Rattle.regex_meaning.specs.WellFormedTrees.{IsWellFormed}
 use Rattle.regex_meaning.specs.CompilationRelation.{tree_contains_byte_nodes}
 use Rattle.regress_program.specs.CompilationOfTreesAsFunction.{node_insn_count, loop_count}
 use Rattle.regress_program.specs.declared.emit.EmitError.{EmitError}
-use Rattle.regress_program.specs.declared.emit.EmitError.TheVariants.{NotWellFormed, BytesInUnits, TooManyGroups, TooManyLoops, TooManyInstructions}
-use Rattle.regress_program.specs.declared.emit.EmitError.TheVariants.{Memory}
+use Rattle.regress_program.specs.declared.emit.EmitError.TheVariants.{NotWellFormed, BytesInUnits, TooManyGroups, TooManyLoops, TooManyInstructions, Memory}
 
 -- The tree is well formed, and its program is within the limits.
 pub record IsWellFormedWithinLimits (tree : Tree) : Type 0 where

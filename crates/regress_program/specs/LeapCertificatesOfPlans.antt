@@ -9,8 +9,7 @@ use Rattle.regress_program.specs.declared.ops.CountedLoop.{CountedLoop}
 use Rattle.regress_program.specs.declared.ops.SpanOfPlanBytes.{SpanOfPlanBytes}
 use Rattle.regress_program.specs.declared.ops.LookaroundAndNextOp as look
 use Rattle.regress_program.specs.declared.ops.Op.{Op}
-use Rattle.regress_program.specs.declared.ops.Op.TheVariants.{Goal, Fail, UnitChar, Char, Bytes, One, LineStart, LineEnd, WordEdge, Goto, Either, Enter}
-use Rattle.regress_program.specs.declared.ops.Op.TheVariants.{LoopEnd, OpenGroup, CloseGroup, ResetGroup, MatchBackref, Look}
+use Rattle.regress_program.specs.declared.ops.Op.TheVariants.{Goal, Fail, UnitChar, Char, Bytes, One, LineStart, LineEnd, WordEdge, Goto, Either, Enter, LoopEnd, OpenGroup, CloseGroup, ResetGroup, MatchBackref, Look}
 use Rattle.regress_program.specs.declared.plan.Plan.{Plan}
 use Rattle.regress_program.specs.Leaps.{is_goal_key, is_passed_key, leap_to_goal}
 use Rattle.regress_program.specs.PrefixesAndPrefilters.{PrefixAt}
@@ -40,8 +39,8 @@ PassesByteSeq plan leap number = (part : SpanOfPlanBytes) → slice_get plan.par
     → PassesUnits leap (plan_bytes_in_span plan part)
 
 -- Whether an operation is on the way, according to a list with an entry for each operation.
-abbrev pub is_on_way : List Bool → (ip : ℕ) → Bool
-is_on_way on_way ip = slice_index_or on_way ip false
+abbrev pub is_op_on_way : List Bool → (ip : ℕ) → Bool
+is_op_on_way on_way ip = slice_index_or on_way ip false
 
 -- The unit that an operation reads first is the goal.
 abbrev pub ArrivesAtGoal : Plan → Leap → (ip : ℕ) → Type 0

@@ -9,8 +9,7 @@ use Rattle.regex_pattern_front.specs.declared.ir.Node as ir
 use Rattle.regress_program.specs.declared.instructions.LoopFields.{LoopFields}
 use Rattle.regress_program.specs.LeafNodesAndOptimizableLoops.{spec_cat_of_children}
 use Rattle.regress_program.specs.InnerNodeCountMeasure.{inner_node_count}
-use Rattle.regress_program.specs.EmitterStateAndAppendedCode.{EmitterState, emitter_state, with_code, with_insn_appended, with_insn_at, node_with_char_loops_if_enabled}
-use Rattle.regress_program.specs.EmitterStateAndAppendedCode.{lookaround_as_spec}
+use Rattle.regress_program.specs.EmitterStateAndAppendedCode.{EmitterState, emitter_state, with_code, with_insn_appended, with_insn_at, node_with_char_loops_if_enabled, lookaround_as_spec}
 use Rattle.regress_program.specs.declared.emit.emitter.Emitter.{Emitter}
 use Rattle.regress_program.specs.declared.emit.emitter.EmitMode.{EmitMode}
 use Rattle.regress_program.specs.declared.emit.nested_nodes.UnemittedCodePart.{UnemittedCodePart}

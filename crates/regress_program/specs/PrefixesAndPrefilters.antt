@@ -1,6 +1,5 @@
 -- Required prefixes: the units that may occur where a match begins, and the prefilters of a search.
-use Rattle.std.specs.Prelude.{◌≡◌, ◌<◌, ◌≤◌, ℕ, ◌==◌, ◌%◌, Bool, true, false, ◌&&◌, List, length, Some, bit_and, slice_get, slice_index, ◌+◌, zero, suc}
-use Rattle.std.specs.Prelude.{IfSome}
+use Rattle.std.specs.Prelude.{◌≡◌, ◌<◌, ◌≤◌, ℕ, ◌==◌, ◌%◌, Bool, true, false, ◌&&◌, List, length, Some, bit_and, slice_get, slice_index, ◌+◌, zero, suc, IfSome}
 use Rattle.std.specs.Int.{bit_at}
 use Rattle.regex_meaning.specs.CodeUnits.{Encoding}
 use Rattle.regex_meaning.specs.CompilationRelation.{Program}

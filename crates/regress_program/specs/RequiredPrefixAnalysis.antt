@@ -1,6 +1,5 @@
 -- How the required prefix of a program is computed from its operations.
-use Rattle.std.specs.Prelude.{◌≡◌, ◌==◌, ◌≤◌, ◌<◌, ℕ, ◌+◌, ◌-◌, ◌*◌, ◌%◌, ◌^◌, min, bit_and, bit_or, Bool, true, false, Option, Some, None, length}
-use Rattle.std.specs.Prelude.{if◌then◌else◌, nat_lt, slice_get, ⊤}
+use Rattle.std.specs.Prelude.{◌≡◌, ◌==◌, ◌≤◌, ◌<◌, ℕ, ◌+◌, ◌-◌, ◌*◌, ◌%◌, ◌^◌, min, bit_and, bit_or, Bool, true, false, Option, Some, None, length, if◌then◌else◌, nat_lt, slice_get, ⊤}
 use Rattle.regex_meaning.specs.CompilationRelation.{Program, Insn}
 use Rattle.regress_machine.specs.RequiredPrefixes.{AllowedUnitsAhead}
 use Rattle.regress_program.specs.declared.first_set_type.FirstSet.{FirstSet}

@@ -5,8 +5,7 @@ ghost use Rattle.std.specs.Arc.{arc_value};
 ghost use Rattle.regex_meaning.specs.{Tree.{group_ids}, CompilationRelation.{IsByteProgramOfTree, Is16BitProgramOfTree}};
 ghost use Rattle.regex_pattern_front.specs.AstToSpecTree.{tree_of};
 ghost use Rattle.regex_pattern_front.specs.declared.ir.Regex.{Regex};
-ghost use Rattle.regress_program.specs.{CompilationOfTreesAsFunction.{compiled, node_insn_count}, EmitterStateAndAppendedCode.{tree_with_char_loops}};
-ghost use Rattle.regress_program.specs.{ProgramFieldsMatchTree.{IsCodeOfTree, Is16BitPlanAndCodeOf}, OptimizedTreeUnlessNoOpt.{optimized_tree_unless_no_opt}};
+ghost use Rattle.regress_program.specs.{CompilationOfTreesAsFunction.{compiled, node_insn_count}, EmitterStateAndAppendedCode.{tree_with_char_loops}, ProgramFieldsMatchTree.{IsCodeOfTree, Is16BitPlanAndCodeOf}, OptimizedTreeUnlessNoOpt.{optimized_tree_unless_no_opt}};
 ghost use Rattle.regress_program.specs.CompileRefusals.{TreeHasByteCompileErrorCause, Is16BitUnitCompileErrorCause, IsCompileErrorCause, IsWellFormedWithinLimits};
 
 mod brackets;
@@ -139,7 +138,7 @@ pub fn emit_both(
     let code = code_to_run(alloc, &re, &program)?;
     let run = unit_plan_of(alloc, code.clone()?, program.groups())?;
     let anchored = matches_at_left_end(&re);
-    let tree = to_run(re);
+    let tree = tree_to_compile(re);
     let optimized = program.with_code_of_tree_to_run(code, &tree)?;
     let cr = byte_program_of(alloc, &tree, optimized)?;
     let units = CompiledRegexFor16BitUnits {
@@ -170,7 +169,7 @@ fn byte_program_of(
 }
 
 // Returns the tree to run: the optimized tree, or the tree itself if the flag `no_opt` is set.
-fn to_run(mut tree: ir::Regex) -> ir::Regex
+fn tree_to_compile(mut tree: ir::Regex) -> ir::Regex
     ensures { tree_of result ≡ optimized_tree_unless_no_opt (tree_of tree) }
 {
     if tree.flags.no_opt {

@@ -9,8 +9,7 @@ ghost use Rattle.regex_meaning.specs.CompilationRelation.{Program};
 ghost use Rattle.regress_program.specs.RequiredPrefixAnalysis.{AreOpsOfProgram};
 ghost use Rattle.regress_program.specs.TableKeysOfUnits.{is_16_bit_width, unit_table_of_set};
 ghost use Rattle.regress_program.specs.Leaps.{is_goal_key, is_passed_key, AreHighKeysAlike, AreGoalsFewAscii, IsLeapRightForProgram};
-ghost use Rattle.regress_program.specs.LeapCertificatesOfPlans.{is_on_way, AreAllGoalKeys, PassesUnits, PassesReadLengths, ArrivesAtGoal, PassesByteSeq};
-ghost use Rattle.regress_program.specs.LeapCertificatesOfPlans.{PassesClass, LoopStaysOnWay, LookaroundStaysOnWay, OpReachesGoal, OpOnWayReachesGoal, OpsOnWayReachGoal};
+ghost use Rattle.regress_program.specs.LeapCertificatesOfPlans.{is_op_on_way, AreAllGoalKeys, PassesUnits, PassesReadLengths, ArrivesAtGoal, PassesByteSeq, PassesClass, LoopStaysOnWay, LookaroundStaysOnWay, OpReachesGoal, OpOnWayReachesGoal, OpsOnWayReachGoal};
 
 use crate::char_class_tables::Class;
 use crate::first_set_type::FirstSet;
@@ -152,7 +151,7 @@ struct LeapCheck<'p> {
 impl LeapCheck<'_> {
     // Checks whether an operation is on the way.
     fn has(self, ip: usize) -> bool
-        ensures { result ≡ is_on_way self.entry.on_way.now ip }
+        ensures { result ≡ is_op_on_way self.entry.on_way.now ip }
     {
         match self.on_way.get(ip) {
             Some(on_way) => *on_way,
@@ -217,7 +216,7 @@ impl LeapCheck<'_> {
     // A loop has to iterate if `entered` is set and its minimum is not 0.
     fn loop_leads(self, number: u32, entered: bool) -> bool
         ensures { result ≡ true
-            → LoopStaysOnWay self.entry.plan.now (is_on_way self.entry.on_way.now) number
+            → LoopStaysOnWay self.entry.plan.now (is_op_on_way self.entry.on_way.now) number
             (λ c. if entered then c.min else 0) }
     {
         match self.plan.counted.get(number as usize) {
@@ -233,7 +232,7 @@ impl LeapCheck<'_> {
     // first operation of its contents may be instead.
     fn lookaround_leads(self, look: LookaroundAndNextOp, ip: usize) -> bool
         requires { ip + 1 < 2 ^ 64 }
-        ensures { result ≡ true → LookaroundStaysOnWay (is_on_way self.entry.on_way.now) look ip }
+        ensures { result ≡ true → LookaroundStaysOnWay (is_op_on_way self.entry.on_way.now) look ip }
     {
         self.has(look.past as usize) || look.forward && !look.negate && self.has(ip + 1)
     }
@@ -244,7 +243,7 @@ impl LeapCheck<'_> {
         requires { ip < length self.plan.now.ops.items }
         ensures { (op : Op) → slice_get self.entry.plan.now.ops.items ip ≡ Some op → result ≡ true
             → OpReachesGoal (is_16_bit_width self.entry.units) self.entry.plan.now self.entry.leap.now
-            (is_on_way self.entry.on_way.now) op ip }
+            (is_op_on_way self.entry.on_way.now) op ip }
     {
         let op = self.plan.ops[ip];
         if let Some(run) = op.as_char_loop() {
@@ -278,7 +277,7 @@ impl LeapCheck<'_> {
         requires { ip < length self.plan.now.ops.items }
         ensures { (op : Op) → slice_get self.entry.plan.now.ops.items ip ≡ Some op → result ≡ true
             → OpOnWayReachesGoal (is_16_bit_width self.entry.units) self.entry.plan.now self.entry.leap.now
-            (is_on_way self.entry.on_way.now) op ip }
+            (is_op_on_way self.entry.on_way.now) op ip }
     {
         !self.has(ip) || self.leads(ip) || self.arrives(ip)
     }
@@ -287,7 +286,7 @@ impl LeapCheck<'_> {
     // the way.
     fn every_op_on_way_reaches_goal(self) -> bool
         ensures { result ≡ true → OpsOnWayReachGoal (is_16_bit_width self.entry.units) self.entry.plan.now
-            self.entry.leap.now (is_on_way self.entry.on_way.now) }
+            self.entry.leap.now (is_op_on_way self.entry.on_way.now) }
     {
         for ip in 0..self.plan.ops.len() {
             if !self.leads_if_on_way(ip) {
@@ -300,7 +299,8 @@ impl LeapCheck<'_> {
     // Checks whether each match reaches the goal.
     fn is_leap(self) -> bool
         ensures { let wide = is_16_bit_width self.entry.units in result ≡ true → (program : Program)
-            → AreOpsOfProgram wide program self.entry.plan.now → IsLeapRightForProgram wide program self.entry.leap.now }
+            → AreOpsOfProgram wide program self.entry.plan.now → IsLeapRightForProgram wide program
+            self.entry.leap.now }
     {
         if !self.has(0) {
             return false;
@@ -331,7 +331,7 @@ fn is_rare(key: usize) -> bool {
 /// A walk over all operations to which the first one leads. It stops at each one that reads only a
 /// few rare units, which become the goal.
 #[derive(Drop)]
-struct Walk<'p> {
+struct LeapWalk<'p> {
     plan: &'p Plan,
     // Whether the walk enters the contents of positive lookaheads, and omits what comes after them.
     into_lookaheads: bool,
@@ -341,10 +341,10 @@ struct Walk<'p> {
     ahead: Vec<usize>,
 }
 
-impl<'p> Walk<'p> {
+impl<'p> LeapWalk<'p> {
     // Returns a walk that has only reached the first operation.
     fn new(alloc: Global, plan: &'p Plan, into_lookaheads: bool) -> Result<Self, AllocError> {
-        let mut walk = Walk {
+        let mut walk = LeapWalk {
             plan,
             into_lookaheads,
             leap: Leap {
@@ -355,12 +355,12 @@ impl<'p> Walk<'p> {
             on_way: Vec::from_elem(alloc, false, plan.ops.len())?,
             ahead: Vec::new(alloc),
         };
-        walk.reach(0)?;
+        walk.mark_op_on_way(0)?;
         Ok(walk)
     }
 
     // Records that an operation is on the way.
-    fn reach(&mut self, ip: usize) -> Result<(), AllocError> {
+    fn mark_op_on_way(&mut self, ip: usize) -> Result<(), AllocError> {
         if let Some(on_way) = self.on_way.get_mut(ip) {
             if !*on_way {
                 *on_way = true;
@@ -441,16 +441,16 @@ impl<'p> Walk<'p> {
         if self.add_class_to_goal_or_pass(run.class, reads) {
             Ok(())
         } else {
-            self.reach(ip.saturating_add(2))
+            self.mark_op_on_way(ip.saturating_add(2))
         }
     }
 
     // Walks into the body of a loop and over the loop.
     fn step_over_loop(&mut self, number: u32, entered: bool) -> Result<(), AllocError> {
         if let Some(counted) = self.plan.counted.get(number as usize).copied() {
-            self.reach(counted.begin as usize + 1)?;
+            self.mark_op_on_way(counted.begin as usize + 1)?;
             if !entered || counted.min == 0 {
-                self.reach(counted.exit as usize)?;
+                self.mark_op_on_way(counted.exit as usize)?;
             }
         }
         Ok(())
@@ -463,9 +463,9 @@ impl<'p> Walk<'p> {
         ip: usize,
     ) -> Result<(), AllocError> {
         if self.into_lookaheads && look.forward && !look.negate {
-            self.reach(ip.saturating_add(1))
+            self.mark_op_on_way(ip.saturating_add(1))
         } else {
-            self.reach(look.past as usize)
+            self.mark_op_on_way(look.past as usize)
         }
     }
 
@@ -482,28 +482,28 @@ impl<'p> Walk<'p> {
             Op::Goal | Op::MatchBackref(_) => return Ok(false),
             Op::UnitChar(c) | Op::Char(c) => {
                 if !self.add_char_to_goal_or_pass(c) {
-                    self.reach(ip.saturating_add(1))?;
+                    self.mark_op_on_way(ip.saturating_add(1))?;
                 }
             }
             Op::One(number) => {
                 if !self.add_class_to_goal_or_pass(number, true) {
-                    self.reach(ip.saturating_add(1))?;
+                    self.mark_op_on_way(ip.saturating_add(1))?;
                 }
             }
             Op::Bytes(number) => {
                 self.pass_bytes(number);
-                self.reach(ip.saturating_add(1))?;
+                self.mark_op_on_way(ip.saturating_add(1))?;
             }
-            Op::Goto(to) => self.reach(to as usize)?,
+            Op::Goto(to) => self.mark_op_on_way(to as usize)?,
             Op::Either(other) => {
-                self.reach(ip.saturating_add(1))?;
-                self.reach(other as usize)?;
+                self.mark_op_on_way(ip.saturating_add(1))?;
+                self.mark_op_on_way(other as usize)?;
             }
             Op::Enter(number) => self.step_over_loop(number, true)?,
             Op::LoopEnd(number) => self.step_over_loop(number, false)?,
             Op::Look(look) => self.step_over_lookaround(look, ip)?,
             Op::Fail => {}
-            _ => self.reach(ip.saturating_add(1))?,
+            _ => self.mark_op_on_way(ip.saturating_add(1))?,
         }
         Ok(true)
     }
@@ -593,7 +593,7 @@ fn leap_of_walk(
     ensures { let wide = is_16_bit_width units in IfOk result (λ found. IfSome found (λ leap.
         (program : Program) → AreOpsOfProgram wide program plan.now → IsLeapRightForProgram wide program leap)) }
 {
-    let mut walk = Walk::new(alloc, plan, into_lookaheads)?;
+    let mut walk = LeapWalk::new(alloc, plan, into_lookaheads)?;
     if !walk.walk()? {
         return Ok(None);
     }

@@ -3,7 +3,7 @@
 ghost use Rattle.std.specs.Prelude.{◌≡◌, true, Some, slice_get, IfSome};
 ghost use Rattle.regex_meaning.specs.CompilationRelation.{Program};
 ghost use Rattle.regress_program.specs.LookbehindFilter.{IsLookbehindFilter};
-ghost use Rattle.regress_program.specs.PrecedingCharFilterFromOps.{FilterIncludesAllKeysOfSet, LookbehindReadsCharOfSet, reads_character as reads_one_character};
+ghost use Rattle.regress_program.specs.PrecedingCharFilterFromOps.{FilterIncludesAllKeysOfSet, LookbehindReadsCharOfSet, reads_character as spec_reads_character};
 ghost use Rattle.regress_program.specs.TableKeysOfUnits.{is_16_bit_width};
 ghost use Rattle.regress_program.specs.RequiredPrefixAnalysis.{AreOpsOfProgram};
 
@@ -49,7 +49,7 @@ impl Plan {
             Some(Op::LineStart { multiline }) if *multiline => {
                 PrecedingCharFilter::of(&FirstSet::line_end_first_set(true, units), true, units)
             }
-            Some(Op::Look(look)) => self.before_look(*look, units),
+            Some(Op::Look(look)) => self.filter_before_lookaround(*look, units),
             _ => None,
         }
     }
@@ -57,7 +57,7 @@ impl Plan {
     // Returns the filter of a plan that begins with this lookaround. Not inlined: this case is
     // rare, and the buffers of sets are cleared in the function that makes them.
     #[inline(never)]
-    fn before_look(
+    fn filter_before_lookaround(
         &self,
         look: LookaroundAndNextOp,
         units: UnitWidth,
@@ -89,7 +89,7 @@ impl Plan {
 
 // Checks whether an operation reads one character.
 fn reads_character(op: Op) -> bool
-    ensures { result ≡ reads_one_character op }
+    ensures { result ≡ spec_reads_character op }
 {
     matches!(op, Op::UnitChar(_) | Op::Char(_) | Op::One(_))
 }

@@ -9,11 +9,7 @@ ghost use Rattle.std.specs.Int.{bit_at};
 ghost use Rattle.regex_meaning.specs.CompilationRelation.{Program};
 ghost use Rattle.regress_program.specs.declared.ops.Op.TheVariants.{UnitChar, One, Enter};
 ghost use Rattle.regress_program.specs.PrefixesAndPrefilters.{units_allowed_by_prefix, IsRequiredPrefixFromInsn, AllowsOnlyAsciiAt, ExcludesKeys};
-ghost use Rattle.regress_program.specs.RequiredPrefixAnalysis.{allows_only_key, units_allowed_by_first_set, joined_masks, falls_through as leads_on_op};
-ghost use Rattle.regress_program.specs.RequiredPrefixAnalysis.{ExtendsPrefix, AllowsEitherPrefix, AreOpsOfProgram};
-ghost use Rattle.regress_program.specs.RequiredPrefixAnalysis.{FollowsFromSuccessors};
-ghost use Rattle.regress_program.specs.RequiredPrefixAnalysis.{IsOpPrefixContributionOf};
-ghost use Rattle.regress_program.specs.RequiredPrefixAnalysis.{IsPrefixOfCharLoop};
+ghost use Rattle.regress_program.specs.RequiredPrefixAnalysis.{allows_only_key, units_allowed_by_first_set, joined_masks, falls_through, ExtendsPrefix, AllowsEitherPrefix, AreOpsOfProgram, FollowsFromSuccessors, IsOpPrefixContributionOf, IsPrefixOfCharLoop};
 
 use crate::first_set_type::FirstSet;
 use crate::ops::{CharLoop, Op};
@@ -63,7 +59,7 @@ impl Prefix {
         requires { self.old.len < 15 }
         ensures { ExtendsPrefix self.old 1 (allows_only_key key) self.new }
     {
-        self.masks[usize::from(key)] &= all_but(self.len, 1);
+        self.masks[usize::from(key)] &= mask_without_bits(self.len, 1);
         self.len += 1;
     }
 
@@ -72,7 +68,7 @@ impl Prefix {
         ensures { ExtendsPrefix self.old count (units_allowed_by_first_set set.now) self.new }
     {
         let more = count.min(MOST - self.len);
-        let kept = all_but(self.len, more);
+        let kept = mask_without_bits(self.len, more);
         for key in 0..KEYS {
             self.masks[key] &= if set.keys[key] { kept } else { u16::MAX };
         }
@@ -153,7 +149,7 @@ fn join_masks(first: u16, count: usize, behind: u16) -> u16
 
 // Returns a mask with all bits set except `count` bits from `from` on.
 #[inline(always)]
-fn all_but(from: usize, count: usize) -> u16
+fn mask_without_bits(from: usize, count: usize) -> u16
     requires { from + count < 16 }
     ensures { (ahead : ℕ) → from ≤ ahead → ahead < from + count → bit_at result ahead ≡ 0 }
 {
@@ -248,7 +244,7 @@ fn prefix_step_of_op(plan: &Plan, op: Op, ip: usize) -> OpPrefixContribution
 
 // Checks whether an operation reads nothing, and continues at the next one or fails.
 fn falls_through_silently(op: Op) -> bool
-    ensures { result ≡ leads_on_op op }
+    ensures { result ≡ falls_through op }
 {
     matches!(
         op,

@@ -1,8 +1,7 @@
 //! Prefilters: what is searched for before the units of a required prefix are checked.
 
 ghost use Rattle.std.specs.Prelude.{◌≡◌, ◌<◌, ◌≤◌, ◌↔◌, ℕ, true, IsTrue, IfSome};
-ghost use Rattle.regress_program.specs.PrefixesAndPrefilters.{units_allowed_by_prefix, unit_passes_probe as has_bits, IsOnlyUnitAllowedAtPosition};
-ghost use Rattle.regress_program.specs.PrefixesAndPrefilters.{IsLiteralForcedByPrefix, ProbePassesPrefix, ProbesPassPrefix, IsPrefilterOfPrefix};
+ghost use Rattle.regress_program.specs.PrefixesAndPrefilters.{units_allowed_by_prefix, unit_passes_probe, IsOnlyUnitAllowedAtPosition, IsLiteralForcedByPrefix, ProbePassesPrefix, ProbesPassPrefix, IsPrefilterOfPrefix};
 ghost use Rattle.regress_program.specs.TableKeysOfUnits.{is_16_bit_width};
 
 use crate::required_prefix_types::{
@@ -23,7 +22,7 @@ impl MaskedUnitProbe {
     /// Checks whether a unit passes the test.
     #[inline(always)]
     pub fn passes_bit_probe(&self, unit: u32) -> bool
-        ensures { result ≡ has_bits self.now unit }
+        ensures { result ≡ unit_passes_probe self.now unit }
     {
         (unit % 256) as u8 & self.mask == self.bits
     }
@@ -276,7 +275,7 @@ impl Prefix {
     fn ascii_passes(&self, probe: MaskedUnitProbe) -> bool
         requires { probe.ahead < 16 }
         ensures { result ≡ true → (k : ℕ) → k < 128
-            → units_allowed_by_prefix self.now probe.ahead k ≡ true → has_bits probe k ≡ true }
+            → units_allowed_by_prefix self.now probe.ahead k ≡ true → unit_passes_probe probe k ≡ true }
     {
         let mut others = false;
         for key in 0..128 {

@@ -2,13 +2,12 @@
 #![tactic(auto, unfolding(regex_pattern_front::specs::AstToSpecTree::spec_node_of, crate::specs::InnerNodeCountMeasure::inner_node_count))]
 
 ghost use Rattle.std.specs.Prelude.{◌≡◌, ◌&&◌, not, false, IfOk, IsOk};
-ghost use Rattle.regex_meaning.specs.StartPredicate.{IsSoundStartPredicateOf, is_anchored, start_predicate, resolved_start_predicate as predicate_of, sequence, one_of};
+ghost use Rattle.regex_meaning.specs.StartPredicate.{IsSoundStartPredicateOf, is_anchored, start_predicate, resolved_start_predicate, sequence, one_of};
 ghost use Rattle.regex_meaning.specs.WellFormedTrees.{IsWellFormed};
 ghost use Rattle.regex_pattern_front.specs.ByteSetMembers.{member_bytes_of_byte_bitmap};
 ghost use Rattle.regex_pattern_front.specs.AstToSpecTree.{spec_node_of, tree_of};
 ghost use Rattle.regress_program.specs.{JoinedStarts.{abstract_start_as_spec}, InsnsAsSpec.{start_predicate_as_spec}};
-ghost use Rattle.regress_program.specs.StartPredicates.{HasOverThreeBytes, is_anchored_tree, predicate_is_byte_sequence};
-ghost use Rattle.regress_program.specs.StartPredicates.{start_predicate_may_allocate};
+ghost use Rattle.regress_program.specs.StartPredicates.{HasOverThreeBytes, is_anchored_tree, predicate_is_byte_sequence, start_predicate_may_allocate};
 
 mod abstract_start;
 mod first_bytes_of_chars_and_classes;
@@ -54,7 +53,7 @@ fn beginning_predicate(
     alloc: Global,
     beginning: AbstractStartPredicate<'_>,
 ) -> Result<StartPredicate, AllocError>
-    ensures predicate { IfOk result (λ p. start_predicate_as_spec p ≡ predicate_of
+    ensures predicate { IfOk result (λ p. start_predicate_as_spec p ≡ resolved_start_predicate
         (abstract_start_as_spec beginning.entry)) }
     ensures over_three { IfOk result HasOverThreeBytes }
     ensures no_memory { predicate_is_byte_sequence (abstract_start_as_spec beginning.entry) ≡ false →
@@ -71,7 +70,7 @@ fn beginning_predicate(
 
 // Returns the predicate that a text starts with these bytes.
 fn bytes_predicate(alloc: Global, bytes: &[u8]) -> Result<StartPredicate, AllocError>
-    ensures predicate { IfOk result (λ p. start_predicate_as_spec p ≡ predicate_of (sequence bytes.now)) }
+    ensures predicate { IfOk result (λ p. start_predicate_as_spec p ≡ resolved_start_predicate (sequence bytes.now)) }
     ensures over_three { IfOk result HasOverThreeBytes }
 {
     match bytes {
@@ -83,7 +82,8 @@ fn bytes_predicate(alloc: Global, bytes: &[u8]) -> Result<StartPredicate, AllocE
 
 // Returns the predicate that a text starts with a byte of the set.
 fn set_predicate(set: ByteBitmap) -> StartPredicate
-    ensures predicate { start_predicate_as_spec result ≡ predicate_of (one_of (member_bytes_of_byte_bitmap set)) }
+    ensures predicate { start_predicate_as_spec result
+        ≡ resolved_start_predicate (one_of (member_bytes_of_byte_bitmap set)) }
     ensures over_three { HasOverThreeBytes result }
 {
     let Some(a) = least_byte_in_set_from(&set, 0) else {

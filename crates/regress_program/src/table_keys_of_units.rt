@@ -5,9 +5,8 @@
 
 ghost use Rattle.std.specs.Prelude.{◌≡◌, ◌<◌, ◌+◌, ◌/◌, ◌&&◌, ◌||◌, ℕ, min, true, false, is_some};
 ghost use Rattle.regex_meaning.specs.CodeUnits.{Encoding};
-ghost use Rattle.regress_machine.specs.FirstSetTables.{is_character_in_encoding, first_unit_key as first_key_in};
-ghost use Rattle.regress_program.specs.TableKeysOfUnits.{key as key_of, is_16_bit_encoding, begins_utf8_character, is_16_bit_width, may_begin_surrogate_pair as is_high};
-ghost use Rattle.regress_program.specs.TableKeysOfUnits.{KeyCharsLieInRangeOrPairs, HasKeysBetween, first_utf8_byte, first_utf16_unit};
+ghost use Rattle.regress_machine.specs.FirstSetTables.{is_character_in_encoding, first_unit_key};
+ghost use Rattle.regress_program.specs.TableKeysOfUnits.{key as spec_key, is_16_bit_encoding, begins_utf8_character, is_16_bit_width, may_begin_surrogate_pair as spec_may_begin_surrogate_pair, KeyCharsLieInRangeOrPairs, HasKeysBetween, first_utf8_byte, first_utf16_unit};
 
 use regex_pattern_front::codepointset::Interval;
 
@@ -33,7 +32,7 @@ pub struct CharRangeOfKey {
 /// Returns the key of a 16-bit unit.
 #[inline(always)]
 pub fn bucket_key_of_u16(unit: u16) -> usize
-    ensures is { result ≡ key_of true unit }
+    ensures is { result ≡ spec_key true unit }
     ensures inside { result < 256 }
 {
     if unit < 128 {
@@ -46,7 +45,7 @@ pub fn bucket_key_of_u16(unit: u16) -> usize
 /// Checks whether units of this key may begin a surrogate pair: those from 0xD800 to 0xDBFF.
 #[inline(always)]
 pub fn may_begin_surrogate_pair(key: u8, units: UnitWidth) -> bool
-    ensures { result ≡ (is_16_bit_width units && is_high key) }
+    ensures { result ≡ (is_16_bit_width units && spec_may_begin_surrogate_pair key) }
 {
     match units {
         UnitWidth::Bytes => false,
@@ -62,14 +61,14 @@ pub fn characters_of_key(key: u8, units: UnitWidth) -> Option<CharRangeOfKey>
     ensures leads { is_some result ≡ (is_16_bit_width units || begins_utf8_character key) }
 {
     match units {
-        UnitWidth::Bytes => spelled_from(key),
+        UnitWidth::Bytes => chars_with_first_utf8_byte(key),
         UnitWidth::Wide => Some(single_units_of(key)),
     }
 }
 
 // Returns the characters whose UTF-8 encoding begins with this byte.
 #[inline(always)]
-fn spelled_from(byte: u8) -> Option<CharRangeOfKey>
+fn chars_with_first_utf8_byte(byte: u8) -> Option<CharRangeOfKey>
     ensures begun { KeyCharsLieInRangeOrPairs false byte result }
     ensures leads { is_some result ≡ begins_utf8_character byte }
 {
@@ -114,7 +113,7 @@ fn single_units_of(key: u8) -> CharRangeOfKey
 /// unspecified.
 pub fn key_of_first_unit(c: u32, units: UnitWidth) -> usize
     ensures is { (e : Encoding) → is_16_bit_encoding e ≡ is_16_bit_width units → is_character_in_encoding e c ≡ true
-        → first_key_in e (key_of (is_16_bit_width units)) c ≡ Some result }
+        → first_unit_key e (spec_key (is_16_bit_width units)) c ≡ Some result }
     ensures inside { result < 256 }
 {
     let key = match units {

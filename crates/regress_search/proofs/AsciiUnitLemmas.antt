@@ -1,6 +1,5 @@
 -- A code unit below 128 is a whole character, and is its own key.
-use Rattle.std.proofs.Common.{◌≡◌, ℕ, zero, suc, ◌+◌, ◌-◌, ◌/◌, ◌%◌, ◌<◌, ◌≤◌, Bool, true, false, not, ◌&&◌, List, [], ◌∷◌, ◌++◌, length, take}
-use Rattle.std.proofs.Common.{Option, Some, None, refl, ap, sym, ◌∙◌, subst, arith, slice_get}
+use Rattle.std.proofs.Common.{◌≡◌, ℕ, zero, suc, ◌+◌, ◌-◌, ◌/◌, ◌%◌, ◌<◌, ◌≤◌, Bool, true, false, not, ◌&&◌, List, [], ◌∷◌, ◌++◌, length, take, Option, Some, None, refl, ap, sym, ◌∙◌, subst, arith, slice_get}
 use Rattle.std.specs.Prelude.{option_map, flat_map, nat_le, nat_lt, if◌then◌else◌}
 use Rattle.std.proofs.lemmas.Bool.{cases_lt, lt-ltb, le-ltb, lt-leb}
 use Rattle.std.proofs.lemmas.Option.{slice_get-map}
@@ -11,15 +10,15 @@ use Rattle.regex_meaning.specs.CodeUnitOffsets.{IsBoundary}
 use Rattle.regex_meaning.specs.CodeUnits.{Encoding, utf8, utf16, ucs2, code_units_of_character, text_units_in_encoding, surrogate_pair}
 use Rattle.regex_meaning.proofs.OptionLemmas.{some-same}
 use Rattle.regex_meaning.proofs.CodeUnitOffsetsLemmas.{offset-IsBoundary}
+use Rattle.regex_meaning.proofs.ListLemmas.{get-front, get-behind}
 use Rattle.regress_input.proofs.UnitsAtBoundaries.{boundary-byte, offset-units}
-use Rattle.regress_input.proofs.ListRangeLemmas.{get-front, get-behind}
 use Rattle.regress_machine.specs.FirstSetTables.{HasUnitsForTables}
 use Rattle.regress_machine.specs.RequiredPrefixes.{unit_is_allowed}
 use Rattle.regress_program.specs.declared.required_prefix_types.Prefix.{Prefix}
 use Rattle.regress_program.specs.PrefixesAndPrefilters.{units_allowed_by_prefix, AllowsOnlyAsciiAt, PrefixAllowsOnlyAsciiFirst}
 use Rattle.regress_program.specs.TableKeysOfUnits.{key, is_16_bit_encoding}
 use Rattle.regress_search.specs.TreePlanAndText.{SearchInput}
-use Rattle.regress_search.specs.StartSearch.{keys_in, prefix_fits_at}
+use Rattle.regress_search.specs.StartSearch.{unit_keys_of_text, prefix_fits_at}
 use Rattle.regress_search.proofs.PrefixUnitLemmas.{fits-each}
 use Rattle.regress_search.proofs.NextCharByUnit.{unit-fits}
 
@@ -122,7 +121,7 @@ module _ (w : SearchInput) (has : HasUnitsForTables w.encoding w.text) (prefix :
   fit-unit ahead less ascii =
       by (slice_get (text_units_in_encoding w.encoding w.text) (at + ahead)) refl
       (sym (ap (unit_is_allowed (units_allowed_by_prefix prefix) ahead) (slice_get-map (key (is_16_bit_encoding w.encoding)) (text_units_in_encoding w.encoding w.text) (at + ahead)))
-      ∙ fits-each (units_allowed_by_prefix prefix) (keys_in w) at prefix.len ahead less fit)
+      ∙ fits-each (units_allowed_by_prefix prefix) (unit_keys_of_text w) at prefix.len ahead less fit)
     where
       by : (o : Option ℕ) → slice_get (text_units_in_encoding w.encoding w.text) (at + ahead) ≡ o → unit_is_allowed (units_allowed_by_prefix prefix) ahead (option_map (key (is_16_bit_encoding w.encoding)) o) ≡ true
           → (u : ℕ) × (slice_get (text_units_in_encoding w.encoding w.text) (at + ahead) ≡ Some u) × (u < 128) × (units_allowed_by_prefix prefix ahead u ≡ true)

@@ -9,7 +9,7 @@ use Rattle.regex_meaning.specs.OutcomesWithStepTicks.{items_at}
 use Rattle.regex_meaning.proofs.CodeUnitOffsetsLemmas.{offset-place_at}
 use Rattle.regress_program.specs.CompilationOfTreesAsFunction.{compiled}
 use Rattle.regress_machine.specs.Machine.{running, search}
-use Rattle.regress_machine.specs.SearchFindsFirstOutcomeAtPlace.{state_before_first_insn, end_of, first_outcome_among_ticks, end_in_offsets, TreeProgramCanSearchText, sufficient_turns_at}
+use Rattle.regress_machine.specs.SearchFindsFirstOutcomeAtPlace.{state_before_first_insn, end_and_groups_of_state, first_outcome_among_ticks, end_in_offsets, TreeProgramCanSearchText, sufficient_turns_at}
 use Rattle.regress_machine.proofs.TreeCodeOutcomes.{searches-find}
 use Rattle.regress_machine.specs.InsnEffects.{end_of_search}
 use Rattle.regress_search.specs.AttemptsAndStarts.{match_end_and_groups_at, steps_for_attempt, search_from}
@@ -17,7 +17,7 @@ use Rattle.regress_search.specs.AttemptsAndStarts.{match_end_and_groups_at, step
 -- The search from the first state of an attempt ends as the attempt at that offset does.
 pub record Begins (tree : Tree) (text : Text) (at : ℕ) : Type 0 where
   pub answers : IsSome (search_from tree text at rightwards (state_before_first_insn (compiled tree) at))
-  pub end : option_map end_of (end_of_search (search_from tree text at rightwards (state_before_first_insn (compiled tree) at))) ≡ match_end_and_groups_at tree text at
+  pub end : option_map end_and_groups_of_state (end_of_search (search_from tree text at rightwards (state_before_first_insn (compiled tree) at))) ≡ match_end_and_groups_at tree text at
 
 pub begins : (tree : Tree) (text : Text) (at : ℕ) → TreeProgramCanSearchText (compiled tree) tree text → IsBoundary text at → Begins tree text at
 begins tree text at can on = by (place_at text at) refl on
@@ -34,6 +34,6 @@ begins tree text at can on = by (place_at text at) refl on
         record {
           answers = ap is_some searches;
           end =
-              ap (λ o. option_map end_of (end_of_search o)) searches ∙ first.end
+              ap (λ o. option_map end_and_groups_of_state (end_of_search o)) searches ∙ first.end
               ∙ sym (ap (λ o. option_and_then (λ place. option_map (end_in_offsets text) (first_outcome_among_ticks (items_at tree text place))) o) e);
         }

@@ -1,32 +1,21 @@
 -- The ends of a node's outcomes do not depend on the groups if the program has no backreference.
-use Rattle.std.proofs.Common.{◌≡◌, ℕ, zero, suc, ◌+◌, ◌-◌, Bool, true, false, List, [], ◌∷◌, map, refl, sym, ◌∙◌, slice_get, slice_set, Some}
-use Rattle.std.proofs.Common.{min, max}
-use Rattle.std.specs.Prelude.{if◌then◌else◌, nat_le, nat_lt, nat_eq, chars, flat_map, filter, length, ◌&&◌, ◌++◌}
+use Rattle.std.proofs.Common.{◌≡◌, ℕ, zero, suc, ◌+◌, ◌-◌, Bool, true, false, List, [], ◌∷◌, map, refl, sym, ◌∙◌, slice_get, slice_set, Some, min, max}
+use Rattle.std.specs.Prelude.{if◌then◌else◌, nat_le, nat_lt, nat_eq, chars, flat_map, filter, length, ◌&&◌}
 use lib.Pointwise.{pointwise}
 use Rattle.regex_meaning.specs.Laws.{Each}
-use Rattle.regex_meaning.specs.Tree.{Sameness, Node, empty, goal, char, char_set, byte_set, byte_sequence, cat, end_of_cat, alt}
-use Rattle.regex_meaning.specs.Tree.{bracket, string_set, match_any, match_any_except_line_terminator, anchor, word_boundary, capture_group, back_ref, lookaround}
-use Rattle.regex_meaning.specs.Tree.{loop, loop_1_char_body}
+use Rattle.regex_meaning.specs.Tree.{Sameness, Node, empty, goal, char, char_set, byte_set, byte_sequence, cat, end_of_cat, alt, bracket, string_set, match_any, match_any_except_line_terminator, anchor, word_boundary, capture_group, back_ref, lookaround, loop, loop_1_char_body}
 use Rattle.regex_meaning.specs.Text.{Text, Direction, next_character, characters_ahead, next_characters, moved}
-use Rattle.regex_meaning.specs.Outcomes.{Groups, Outcome, Repetition, accepts, is_some_and, captured, cleared, exclusive_or, anchor_holds, is_at_word_boundary}
+use Rattle.regex_meaning.specs.Outcomes.{Groups, Outcome, Repetition, accepts, is_some_and, captured, with_groups_cleared, exclusive_or, anchor_holds, is_at_word_boundary}
 use Rattle.regex_meaning.specs.Outcomes.{bounded_repeat, preferred, passes_empty_check, repetition, lookaround_outcomes, direction_of, is_case_variant, spelled, outcomes}
 use Rattle.regex_meaning.specs.CompilationRelation.{Program, Counters, counters_after_insn, IsCode, BackRef}
-use Rattle.regex_meaning.proofs.EachElementLemmas.{Each-append, Each-map, Each-image, Each-flat_map}
+use Rattle.regex_meaning.proofs.EachElementLemmas.{Each-append, Each-map, Each-image, Each-flat_map, Each-left, Each-right}
 
 -- ---- Lists
-
-pub each-first : {A : Type 0} (P : A → Type 0) (xs ys : List A) → Each P (xs ++ ys) → Each P xs
-each-first P [] ys h = tt
-each-first P (x ∷ xs) ys h = (h.0, each-first P xs ys h.1)
-
-pub each-last : {A : Type 0} (P : A → Type 0) (xs ys : List A) → Each P (xs ++ ys) → Each P ys
-each-last P [] ys h = h
-each-last P (x ∷ xs) ys h = each-last P xs ys h.1
 
 -- A fact of all elements of joined lists holds of the elements of each list.
 pub each-apart : {A B : Type 0} (P : B → Type 0) (f : A → List B) (xs : List A) → Each P (flat_map f xs) → Each (λ x. Each P (f x)) xs
 each-apart P f [] h = tt
-each-apart P f (x ∷ xs) h = (each-first P (f x) (flat_map f xs) h, each-apart P f xs (each-last P (f x) (flat_map f xs) h))
+each-apart P f (x ∷ xs) h = (Each-left P (f x) (flat_map f xs) h, each-apart P f xs (Each-right P (f x) (flat_map f xs) h))
 
 pub each-together : {A B : Type 0} (P : B → Type 0) (f : A → List B) (xs : List A) → Each (λ x. Each P (f x)) xs → Each P (flat_map f xs)
 each-together P f xs h = Each-flat_map (λ x. Each P (f x)) P f (λ x k. k) xs h
@@ -68,8 +57,8 @@ if-free true e g h P any x = (any e g h x.0, tt)
 if-free false e g h P any x = tt
 
 preferred-apart : (P : Outcome → Type 0) (greedy : Bool) (again leave : List Outcome) → Each P (preferred greedy again leave) → Each P again × Each P leave
-preferred-apart P true again leave x = (each-first P again leave x, each-last P again leave x)
-preferred-apart P false again leave x = (each-last P leave again x, each-first P leave again x)
+preferred-apart P true again leave x = (Each-left P again leave x, Each-right P again leave x)
+preferred-apart P false again leave x = (Each-right P leave again x, Each-left P leave again x)
 
 preferred-together : (P : Outcome → Type 0) (greedy : Bool) (again leave : List Outcome) → Each P again × Each P leave → Each P (preferred greedy again leave)
 preferred-together P true again leave x = Each-append P again leave x.0 x.1
@@ -149,23 +138,23 @@ module _ (program : Program) (text : Text) (none : HasNoBackrefs program) where
       (each-apart P further (outcomes text first d p g) x))
   node-free behind (alt left right) m n code d p g h P any x =
       Each-append P (outcomes text left d p h) (outcomes text right d p h)
-      (node-free behind left (counters_after_insn m) code.0 code.2 d p g h P any (each-first P (outcomes text left d p g) (outcomes text right d p g) x))
-      (node-free behind right (counters_after_insn code.0) n code.4 d p g h P any (each-last P (outcomes text left d p g) (outcomes text right d p g) x))
+      (node-free behind left (counters_after_insn m) code.0 code.2 d p g h P any (Each-left P (outcomes text left d p g) (outcomes text right d p g) x))
+      (node-free behind right (counters_after_insn code.0) n code.4 d p g h P any (Each-right P (outcomes text left d p g) (outcomes text right d p g) x))
   node-free behind (anchor type multiline) m n code d p g h P any x = if-free (anchor_holds text type multiline p) p g h P any x
   node-free behind (word_boundary invert icase) m n code d p g h P any x = if-free (exclusive_or invert (is_at_word_boundary text icase p)) p g h P any x
   node-free behind (capture_group id name contents) m n code d p g h P any x =
-      Each-image (λ o. P (captured id p o)) P (captured id p) (λ o y. y) (outcomes text contents d p (cleared id 1 h))
-      (node-free behind contents (counters_after_insn m) code.0 code.2 d p (cleared id 1 g) (cleared id 1 h) (λ o. P (captured id p o))
+      Each-image (λ o. P (captured id p o)) P (captured id p) (λ o y. y) (outcomes text contents d p (with_groups_cleared id 1 h))
+      (node-free behind contents (counters_after_insn m) code.0 code.2 d p (with_groups_cleared id 1 g) (with_groups_cleared id 1 h) (λ o. P (captured id p o))
       (λ e g h y. any e (slice_set g id (Some (min p e, max p e))) (slice_set h id (Some (min p e, max p e))) y)
-      (each-mapped P (captured id p) (outcomes text contents d p (cleared id 1 g)) x))
+      (each-mapped P (captured id p) (outcomes text contents d p (with_groups_cleared id 1 g)) x))
   node-free behind (back_ref group same) m n code d p g h P any x = absurd (none m.insn (group - 1) same code.0)
   node-free behind (lookaround l contents) m n code d p g h P any x =
       let free : (g h : Groups) → Each (λ o. ⊥) (outcomes text contents (direction_of l) p g) → Each (λ o. ⊥) (outcomes text contents (direction_of l) p h) =
       λ g h y. node-free l.backwards contents (counters_after_insn m) code.0 code.2 (direction_of l) p g h (λ o. ⊥) (λ e g h z. z) y in
       look-free l.negate (outcomes text contents (direction_of l) p g) (outcomes text contents (direction_of l) p h) (free g h) (free h g) p g h P any x
   node-free behind (loop q first end loopee) m n code d p g h P any x =
-      let r = repetition q (λ p g. outcomes text loopee d p (cleared first (end - first) g)) in
-      turns-free r (λ p g h P any y. node-free behind loopee code.0 code.1 code.3 d p (cleared first (end - first) g) (cleared first (end - first) h) P any y)
+      let r = repetition q (λ p g. outcomes text loopee d p (with_groups_cleared first (end - first) g)) in
+      turns-free r (λ p g h P any y. node-free behind loopee code.0 code.1 code.3 d p (with_groups_cleared first (end - first) g) (with_groups_cleared first (end - first) h) P any y)
       (q.min - 0 + characters_ahead text d p + 1) 0 p g h P any x
   node-free behind (loop_1_char_body q loopee) m n code d p g h P any x =
       turns-free (repetition q (outcomes text loopee d)) (λ p g h P any y. node-free behind loopee (counters_after_insn m) n code.1 d p g h P any y)

@@ -1,7 +1,6 @@
 -- The iterators over groups yield the group or name at an index, and then those from the next index
 -- on.
-use Rattle.std.proofs.Common.{◌≡◌, ℕ, zero, suc, ◌+◌, ◌<◌, ◌≤◌, Bool, true, false, not, ◌||◌, ◌==◌, List, [], ◌∷◌, ◌++◌, length, map, take, drop}
-use Rattle.std.proofs.Common.{get_or, None, bytes_eq, refl, sym, ap, ◌∙◌, arith, if◌then◌else◌}
+use Rattle.std.proofs.Common.{◌≡◌, ℕ, zero, suc, ◌+◌, ◌<◌, ◌≤◌, Bool, true, false, not, ◌||◌, ◌==◌, List, [], ◌∷◌, ◌++◌, length, map, take, drop, get_or, None, bytes_eq, refl, sym, ap, ◌∙◌, arith, if◌then◌else◌}
 use Rattle.std.specs.List.{list_any}
 use Rattle.std.proofs.lemmas.List.{drop_more, map_more, take-map}
 use Rattle.std.proofs.lemmas.List.Folds.{list_any-append}
@@ -12,7 +11,7 @@ use Rattle.regress_search.specs.GroupIterators.{all_groups, is_new_group_name, d
 use Rattle.regress_search.proofs.NamedGroupLookup.{images-here}
 
 module _ (m : Answer) where
-  group-at : (idx : ℕ) → get_or (all_groups m) idx None ≡ group m idx
+  pub group-at : (idx : ℕ) → get_or (all_groups m) idx None ≡ group m idx
   group-at zero = refl
   group-at (suc id) = sym (unwrap_or-slice_get m.captures id None)
 

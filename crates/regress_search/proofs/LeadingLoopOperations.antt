@@ -1,6 +1,5 @@
 -- The char loop that a plan names as leading begins each match, so a failure extends to its end.
-use Rattle.std.proofs.Common.{◌≡◌, ℕ, ◌+◌, ◌-◌, ◌<◌, ◌≤◌, Bool, true, false, Option, Some, None, List, length, refl, ap, sym, ◌∙◌, subst, arith, slice_get}
-use Rattle.std.proofs.Common.{unwrap_or, le_refl}
+use Rattle.std.proofs.Common.{◌≡◌, ℕ, ◌+◌, ◌-◌, ◌<◌, ◌≤◌, Bool, true, false, Option, Some, None, List, length, refl, ap, sym, ◌∙◌, subst, arith, slice_get, unwrap_or, le_refl}
 use Rattle.std.specs.Prelude.{IsSome, IsTrue, option_and_then, if◌then◌else◌}
 use Rattle.std.specs.Option.{option_map_or}
 use Rattle.std.proofs.lemmas.Bool.{cases_lt}
@@ -18,9 +17,9 @@ use Rattle.regress_machine.specs.SearchFindsFirstOutcomeAtPlace.{TreeProgramCanS
 use Rattle.regress_machine.specs.Machine.{test_of}
 use Rattle.regress_machine.specs.InsnEffects.{is_byte_sequence_insn}
 use Rattle.regress_machine.specs.FirstSetTables.{HasUnitsForTables}
+use Rattle.regress_machine.proofs.GroupAndAssertionOutcomes.{slice_get_some}
 use Rattle.regress_program.specs.SearchableTexts.{IsByteText}
 use Rattle.regress_program.specs.InsnsAsSpec.{insn_as_spec_insn}
-use Rattle.regress_program.proofs.AppendedEntryLemmas.{get-below}
 use Rattle.regress_program.specs.TableKeysOfUnits.{is_16_bit_encoding}
 use Rattle.regress_program.specs.Plans.{IsPlanOf, IsOpOf, IsClassRightForProgram, HasClass, op_as_char_loop, reads_class_char}
 use Rattle.regress_program.specs.declared.char_class_tables.Class.{Class}
@@ -89,7 +88,7 @@ module _ (w : SearchInput) (plan : IsPlanOf (is_16_bit_encoding w.encoding) (pro
   -- Each operation of the plan has an instruction.
   pub insn-of-op : (ip : ℕ) (op : Op) → slice_get w.plan.ops.items ip ≡ Some op → (insn : Insn) × (insn_at w ip ≡ Some insn) × IsOpOf (program_of w) w.plan op ip insn
   insn-of-op ip op is =
-      let some = get-below (program_of w).insns ip (let less = slice_get_within w.plan.ops.items ip op is in omega (arith, less, plan.as_many)) in
+      let some = slice_get_some (program_of w).insns ip (let less = slice_get_within w.plan.ops.items ip op is in omega (arith, less, plan.as_many)) in
       (some.0, some.1, plan.each ip op some.0 is some.1)
 
 module _ (w : SearchInput) (has : HasUnitsForTables w.encoding w.text) (plan : IsPlanOf (is_16_bit_encoding w.encoding) (program_of w) w.plan)
@@ -97,7 +96,7 @@ module _ (w : SearchInput) (has : HasUnitsForTables w.encoding w.text) (plan : I
   -- Each instruction has its operation.
   op-of : (ip : ℕ) (insn : Insn) → insn_at w ip ≡ Some insn → (op : Op) × (slice_get w.plan.ops.items ip ≡ Some op) × IsOpOf (program_of w) w.plan op ip insn
   op-of ip insn is =
-      let some = get-below w.plan.ops.items ip (let less = slice_get_within (program_of w).insns ip insn is in omega (arith, less, plan.as_many)) in
+      let some = slice_get_some w.plan.ops.items ip (let less = slice_get_within (program_of w).insns ip insn is in omega (arith, less, plan.as_many)) in
       (some.0, some.1, plan.each ip some.0 insn some.1 is)
 
   opened : (i : ℕ) → i < opens → (id : ℕ) × (insn_at w i ≡ Some (BeginCaptureGroup id))

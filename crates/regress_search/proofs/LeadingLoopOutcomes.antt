@@ -1,6 +1,5 @@
 -- No match begins within a leading char loop if none begins at the loop's start.
-use Rattle.std.proofs.Common.{◌≡◌, ℕ, zero, suc, ◌+◌, ◌-◌, ◌<◌, ◌≤◌, min, List, [], ◌∷◌, flat_map, drop, take, slice_range, Option, Some, None, unwrap_or}
-use Rattle.std.proofs.Common.{Bool, true, false, refl, ap, ◌∙◌, sym, subst, arith, append-nil, cond, reverse, slice_get, length}
+use Rattle.std.proofs.Common.{◌≡◌, ℕ, zero, suc, ◌+◌, ◌-◌, ◌<◌, ◌≤◌, min, List, [], ◌∷◌, flat_map, drop, take, slice_range, Option, Some, None, unwrap_or, Bool, true, false, refl, ap, ◌∙◌, sym, subst, arith, append-nil, cond, reverse, slice_get, length}
 use Rattle.std.specs.Prelude.{if◌then◌else◌, nat_le, ◌&&◌, MatchBool, IsSome, ◌⊎◌}
 use Rattle.std.specs.List.{prefix_len}
 use Rattle.std.proofs.lemmas.Bool.{cases_lt, le-leb}
@@ -11,26 +10,22 @@ use Rattle.std.proofs.lemmas.List.{drop-drop, reverse-reverse}
 use lib.Pointwise.{pointwise}
 use Rattle.regex_meaning.specs.NumberListHelpers.{numbers_from}
 use Rattle.regex_meaning.specs.Laws.{Each}
-use Rattle.regex_meaning.specs.Tree.{Quantifier, BracketContents, Lookaround, start_of_line, end_of_line, Node, empty, goal, char, char_set}
-use Rattle.regex_meaning.specs.Tree.{byte_set, byte_sequence, cat, end_of_cat, alt, bracket, string_set, match_any, match_any_except_line_terminator}
+use Rattle.regex_meaning.specs.Tree.{Quantifier, BracketContents, Lookaround, start_of_line, end_of_line, Node, empty, goal, char, char_set, byte_set, byte_sequence, cat, end_of_cat, alt, bracket, string_set, match_any, match_any_except_line_terminator}
 use Rattle.regex_meaning.specs.Tree.{anchor, word_boundary, capture_group, back_ref, lookaround, loop, loop_1_char_body, Tree}
 use Rattle.regex_meaning.specs.Text.{Text, rightwards, last_place, expand_code_point}
-use Rattle.regex_meaning.specs.Outcomes.{Groups, Outcome, accepts, captured, cleared, in_intervals, max_iterations, repetition, spelled, is_case_variant, outcomes}
+use Rattle.regex_meaning.specs.Outcomes.{Groups, Outcome, accepts, captured, with_groups_cleared, in_intervals, max_iterations, repetition, spelled, is_case_variant, outcomes}
 use Rattle.regex_meaning.specs.StartPredicate.{bytes_that_pass}
 use Rattle.regex_meaning.specs.WellFormedTrees.{is_one_character}
 use Rattle.regex_meaning.specs.FirstAndAllMatches.{match_at, first_outcome, no_groups}
 use Rattle.regex_meaning.specs.OutcomesWithStepTicks.{nearest_first}
-use Rattle.regex_meaning.specs.CompilationRelation.{Program, Insn, Counters, counters_after_insn, counters_at_start, HasInsnAt, HasInsnsBetween, IsCode, IsStringCode}
-use Rattle.regex_meaning.specs.CompilationRelation.{AreStringsCode, case_variants_insn}
-use Rattle.regex_meaning.specs.CompilationRelation.{char_set_insn, lookaround_insn, is_uninverted_ascii_class}
-use Rattle.regex_meaning.specs.CompilationRelation.{Loop1CharBody, Goal, JustFail, Char, ByteSet, ByteSeq, AsciiBracket, Bracket, MatchAny}
-use Rattle.regex_meaning.specs.CompilationRelation.{MatchAnyExceptLineTerminator, StartOfLine, EndOfLine, WordBoundary, WordBoundaryUnicodeICase, Alt, EnterLoop}
+use Rattle.regex_meaning.specs.CompilationRelation.{Program, Insn, Counters, counters_after_insn, counters_at_start, HasInsnAt, HasInsnsBetween, IsCode, IsStringCode, AreStringsCode, case_variants_insn, char_set_insn, lookaround_insn, is_uninverted_ascii_class}
+use Rattle.regex_meaning.specs.CompilationRelation.{Loop1CharBody, Goal, JustFail, Char, ByteSet, ByteSeq, AsciiBracket, Bracket, MatchAny, MatchAnyExceptLineTerminator, StartOfLine, EndOfLine, WordBoundary, WordBoundaryUnicodeICase, Alt, EnterLoop}
 use Rattle.regex_meaning.specs.CompilationRelation.{BeginCaptureGroup, EndCaptureGroup, BackRef, Lookahead, Lookbehind}
 use Rattle.regex_meaning.proofs.EachElementLemmas.{Each-map, Each-reverse, Each-image}
 use Rattle.regress_machine.specs.Machine.{test_of}
 use Rattle.regress_machine.proofs.NearestCharacterLemmas.{length-nearest}
 use Rattle.regress_machine.proofs.CharLoopRepetitions.{in_turns, numbers_between, outcome_at, run, repeat_run}
-use Rattle.regress_machine.proofs.CharLoopOutcomes.{body_is_one, each_nearest}
+use Rattle.regress_machine.proofs.CharLoopOutcomes.{body_is_one, each_nearest, prefix_len-same}
 use Rattle.regress_machine.proofs.SingleCharacterTests.{reads_one}
 use Rattle.regress_machine.proofs.WellFormedNodeLemmas.{Ready, root_ready}
 use Rattle.regress_machine.specs.SearchFindsFirstOutcomeAtPlace.{TreeProgramCanSearchText}
@@ -52,10 +47,6 @@ each-in_turns P false ns h = h
 into-in_turns : (P : ℕ → Type 0) (greedy : Bool) (ns : List ℕ) → Each P ns → Each P (in_turns greedy ns)
 into-in_turns P true ns h = Each-reverse P ns h
 into-in_turns P false ns h = h
-
-prefix-same : (f g : ℕ → Bool) (xs : List ℕ) → Each (λ c. f c ≡ g c) xs → prefix_len f xs ≡ prefix_len g xs
-prefix-same f g [] h = refl
-prefix-same f g (x ∷ xs) h = ap (λ b. cond b (1 + prefix_len f xs) 0) h.0 ∙ ap (λ n. cond (g x) (1 + n) 0) (prefix-same f g xs h.1)
 
 -- Behind `j` of the characters in a row that pass, `j` fewer pass.
 prefix-left : (test : ℕ → Bool) (xs : List ℕ) (j : ℕ) → j ≤ prefix_len test xs → prefix_len test xs ≡ j + prefix_len test (drop j xs)
@@ -132,7 +123,7 @@ module _ (program : Program) (text : Text) (found : Option (ℕ → Bool)) (Same
     run-is p g inside =
         repeat_run text rightwards (accepts loopee) (repetition q (outcomes text loopee rightwards)) (body_is_one text rightwards loopee one) p g inside
         ∙ ap (λ n. run text rightwards p g (in_turns q.greedy (numbers_from q.min (min (max_iterations q) n + 1 - q.min))))
-        (sym (prefix-same test (accepts loopee) (nearest_first text rightwards p) (each_nearest (λ c. test c ≡ accepts loopee c) text rightwards p same)))
+        (sym (prefix_len-same test (accepts loopee) (nearest_first text rightwards p) (each_nearest (λ c. test c ≡ accepts loopee c) text rightwards p same)))
 
     run-among : Among (loop_1_char_body q loopee)
     run-among p j g h P alike blind inside le x = subst (Each P) (sym (run-is (p + j) h further)) all
@@ -202,13 +193,13 @@ module _ (program : Program) (text : Text) (found : Option (ℕ → Bool)) (Same
   unfolding outcomes
   group-among id name contents any a p j g h P same blind inside le x =
       let held : (at : ℕ) (o : Outcome) → Groups = λ at o. (captured id at o).groups in
-      Each-image (λ o. P (captured id (p + j) o)) P (captured id (p + j)) (λ o y. y) (outcomes text contents rightwards (p + j) (cleared id 1 h))
+      Each-image (λ o. P (captured id (p + j) o)) P (captured id (p + j)) (λ o y. y) (outcomes text contents rightwards (p + j) (with_groups_cleared id 1 h))
       (Each-map (λ o. P (captured id p o)) (λ o. P (captured id (p + j) o)) (λ o y. blind o.end (held p o) (held (p + j) o) (any (held p o) (held (p + j) o)) y)
-      (outcomes text contents rightwards (p + j) (cleared id 1 h))
-      (a p j (cleared id 1 g) (cleared id 1 h) (λ o. P (captured id p o)) (any (cleared id 1 g) (cleared id 1 h))
+      (outcomes text contents rightwards (p + j) (with_groups_cleared id 1 h))
+      (a p j (with_groups_cleared id 1 g) (with_groups_cleared id 1 h) (λ o. P (captured id p o)) (any (with_groups_cleared id 1 g) (with_groups_cleared id 1 h))
       (λ e g h s y. blind e (held p (record { end = e; groups = g })) (held p (record { end = e; groups = h }))
       (any (held p (record { end = e; groups = g })) (held p (record { end = e; groups = h }))) y) inside le
-      (each-mapped P (captured id p) (outcomes text contents rightwards p (cleared id 1 g)) x)))
+      (each-mapped P (captured id p) (outcomes text contents rightwards p (with_groups_cleared id 1 g)) x)))
 
   module _ (least most : ℕ) (greedy : Bool) (wide : last_place text ≤ most) where
     -- The code opens `opens` groups, and the char loop follows them.

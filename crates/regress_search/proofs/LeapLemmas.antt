@@ -8,8 +8,7 @@ use Rattle.regex_meaning.specs.CodeUnits.{text_units_in_encoding}
 use Rattle.regex_meaning.specs.Outcomes.{is_some_and}
 use Rattle.regress_machine.specs.FirstSetTables.{HasUnitsForTables, table_allows_key_or_end}
 use Rattle.regress_program.specs.declared.leap.Leap.{Leap}
-use Rattle.regress_program.specs.Leaps.{is_goal_key, is_passed_key, leap_to_goal, AreHighKeysAlike, AreGoalsFewAscii}
-use Rattle.regress_program.specs.Leaps.{goal_occurs_at, GoalIsAbsentBetween, GoalIsAbsentFrom}
+use Rattle.regress_program.specs.Leaps.{is_goal_key, is_passed_key, leap_to_goal, AreHighKeysAlike, AreGoalsFewAscii, goal_occurs_at, GoalIsAbsentBetween, GoalIsAbsentFrom}
 use Rattle.regress_program.specs.TableKeysOfUnits.{key, is_16_bit_encoding}
 use Rattle.regress_search.specs.TreePlanAndText.{SearchInput}
 use Rattle.regress_search.specs.StartSearch.{table_allows_unit_or_end_at, table_of_listed_units, NoBoundaryWhere}

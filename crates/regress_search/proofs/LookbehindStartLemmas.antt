@@ -12,10 +12,10 @@ use Rattle.regex_meaning.proofs.CodeUnitOffsetsLemmas.{place-less}
 use Rattle.regress_input.specs.CharAndByteReadsFromOffset.{past}
 use Rattle.regress_input.proofs.BoundaryPositions.{place_of_boundary, left_then_right, right_then_left, before_ahead, before_boundary, past_ahead, past_boundary}
 use Rattle.regress_machine.specs.FirstSetTables.{AllowedNextKeys, HasUnitsForTables, table_allows_key_or_end, unit_key_at}
+use Rattle.regress_machine.proofs.GroupAndAssertionOutcomes.{slice_get_some}
 use Rattle.regress_program.specs.declared.lookbehind_filter.PrecedingCharFilter.{PrecedingCharFilter}
 use Rattle.regress_program.specs.LookbehindFilter.{allows_start, unit_at_has_filter_key}
 use Rattle.regress_program.specs.TableKeysOfUnits.{key, is_16_bit_encoding}
-use Rattle.regress_program.proofs.AppendedEntryLemmas.{get-below}
 use Rattle.regress_search.specs.TreePlanAndText.{SearchInput}
 use Rattle.regress_search.specs.StartSearch.{table_allows_unit_or_end_at, TableAllowsNoBoundary, IsFirstBoundaryWhere, IsPastFirstAllowedChar, NoBoundaryWhere, table_of_listed_units}
 use Rattle.regress_search.proofs.AllowedUnitTables.{no-key}
@@ -51,7 +51,7 @@ module _ (text : Text) (is : HasRisingPlaceOffsets text) where
       by : (q p : ℕ) → place_at text x ≡ Some p → p ≤ last_place text → q < p → ⊥
       by q zero found within below = absurd (omega (arith, below))
       by q (suc j) found within below =
-          let c = get-below text.characters j (omega (arith, within)) in
+          let c = slice_get_some text.characters j (omega (arith, within)) in
           let led : past text leftwards x ≡ Some (offset text (suc j - 1)) =
           ap (λ o. option_map (λ (r : ℕ × ℕ). r.1) (option_and_then (read_at text leftwards) o)) found
           ∙ ap (λ o. option_map (λ (r : ℕ × ℕ). r.1) (option_map (λ c. (c, offset text (suc j - 1))) o)) c.1 in

@@ -1,15 +1,11 @@
 -- A mask has a bit for each offset that passes a test, so its lowest bit gives the first candidate.
 use Rattle.std.proofs.Common.{◌≡◌, ◌≢◌, ℕ, ◌+◌, ◌-◌, ◌<◌, ◌≤◌, Bool, true, false, Option, Some, None, refl, ap, sym, ◌∙◌, subst, arith, bit_and, bit_or, ◌||◌}
 use Rattle.std.specs.Int.{bit_at}
-use Rattle.std.proofs.lemmas.Bool.{cases_lt, cases_eq}
+use Rattle.std.proofs.lemmas.Bool.{cases_lt, cases_eq, false_from_ne_true}
 use Rattle.std.proofs.lemmas.Nat.Bits.{bit_at_and, bit_at_or, bit_at-zero}
 use Rattle.memchr.proofs.lemmas.BitLemmas.{bit_at_both, bit_at_left}
 use mathlib.Core.Logic.{inl, inr}
 use Rattle.regress_search.specs.MarkedOffsets.{TestFailsThroughoutRange, IsFirstPassingOffset, MarksAllPassing}
-
-not-true : (b : Bool) → (b ≡ true → ⊥) → b ≡ false
-not-true true h = absurd (h refl)
-not-true false h = refl
 
 module _ (test : ℕ → Bool) where
   -- ---- Ranges of offsets
@@ -43,7 +39,7 @@ module _ (test : ℕ → Bool) where
   module _ (from marks : ℕ) (are : MarksAllPassing test from marks) where
     -- The test fails at an offset whose bit is clear.
     pub unmarked : (k : ℕ) → from ≤ k → k < from + 32 → bit_at marks (k - from) ≡ 0 → test k ≡ false
-    unmarked k low high clear = not-true (test k) never
+    unmarked k low high clear = false_from_ne_true (test k) never
       where
         never : test k ≡ true → ⊥
         never holds =

@@ -1,13 +1,11 @@
 -- Work that suffices before an attempt suffices after it, if the attempts are in ascending order.
-use Rattle.std.proofs.Common.{◌≡◌, ◌+◌, ◌≤◌, ℕ, Bool, true, false, Option, Some, None, Result, Ok, Err, ap, refl, subst, sym, ◌∙◌, arith}
-use Rattle.std.proofs.Common.{if◌then◌else◌, nat_le, nat_lt, option_map}
+use Rattle.std.proofs.Common.{◌≡◌, ◌+◌, ◌≤◌, ℕ, Bool, true, false, Option, Some, None, Result, Ok, Err, ap, refl, subst, sym, ◌∙◌, arith, if◌then◌else◌, nat_le, nat_lt, option_map}
 use Rattle.std.proofs.lemmas.Bool.{and_from, and_parts, le-leb, leb-true}
 use Rattle.regex_meaning.specs.Tree.{Tree}
 use Rattle.regex_meaning.specs.Text.{Text, rightwards}
 use Rattle.regex_meaning.specs.CodeUnitOffsets.{IsBoundary, HasRisingPlaceOffsets, read}
 use Rattle.regress_search.specs.AttemptsAndStarts.{NextStartSkipsNoMatch, next_search_offset}
-use Rattle.regress_search.specs.MatchesWithinWork.{AttemptKeepsWorkEnough, IsOrderedAttempt, offset_after_attempt, least_offset_after_match}
-use Rattle.regress_search.specs.MatchesWithinWork.{is_work_enough}
+use Rattle.regress_search.specs.MatchesWithinWork.{AttemptKeepsWorkEnough, IsOrderedAttempt, offset_after_attempt, least_offset_after_match, is_work_enough}
 use Rattle.regress_search.proofs.StartPredicateLemmas.{one-on}
 
 -- If no work is counted, each attempt keeps the work enough.

@@ -1,10 +1,9 @@
 -- A required prefix fits where each of its units is allowed, and its searches find the first such
 -- offset.
-use Rattle.std.proofs.Common.{◌≡◌, ℕ, zero, suc, ◌+◌, ◌-◌, ◌*◌, ◌%◌, ◌^◌, ◌<◌, ◌≤◌, bit_or, subst, Bool, true, false, ◌&&◌, List, length, drop, take}
-use Rattle.std.proofs.Common.{Option, Some, None, refl, ap, sym, ◌∙◌, arith, slice_get}
+use Rattle.std.proofs.Common.{◌≡◌, ℕ, zero, suc, ◌+◌, ◌-◌, ◌*◌, ◌%◌, ◌^◌, ◌<◌, ◌≤◌, bit_or, subst, Bool, true, false, ◌&&◌, List, length, drop, take, Option, Some, None, refl, ap, sym, ◌∙◌, arith, slice_get}
 use Rattle.std.specs.Prelude.{◌==◌, option_map, slice_index}
 use Rattle.std.specs.Int.{bit_at}
-use Rattle.std.proofs.lemmas.Bool.{and_from, cases_lt, eq-eqb, eqb-true}
+use Rattle.std.proofs.lemmas.Bool.{and_from, cases_lt, eq-eqb, eqb-true, false_from_ne_true, and_right, and_left}
 use Rattle.std.proofs.lemmas.Option.{slice_get-get_or, slice_get_past}
 use Rattle.std.proofs.lemmas.List.{length-drop, length-take, get_or-drop, get_or-take}
 use mathlib.Core.Logic.{◌⊎◌, inl, inr}
@@ -20,18 +19,6 @@ use Rattle.regress_program.specs.declared.required_prefix_types.RequiredUnitAndO
 use Rattle.regress_program.specs.PrefixesAndPrefilters.{units_allowed_by_prefix, prefix_allows_units_at, IsOnlyUnitAllowedAtPosition, IsLiteralForcedByPrefix}
 use Rattle.regress_program.specs.TableKeysOfUnits.{key}
 
-and-last : (a b : Bool) → b ≡ false → (a && b) ≡ false
-and-last true b h = h
-and-last false b h = refl
-
-and-first : (a b : Bool) → a ≡ false → (a && b) ≡ false
-and-first true b h = cc
-and-first false b h = refl
-
-not-true : (b : Bool) → (b ≡ true → ⊥) → b ≡ false
-not-true true h = absurd (h refl)
-not-true false h = refl
-
 -- The key of a byte is the byte.
 pub own-key : (o : Option ℕ) → option_map (key false) o ≡ o
 own-key None = refl
@@ -46,10 +33,10 @@ module _ (allowed : AllowedUnitsAhead) (us : List ℕ) (at : ℕ) where
   pub fits-fails : (len ahead : ℕ) → ahead < len → stands ahead ≡ false → prefix_allows_units_at allowed us at len ≡ false
   fits-fails zero ahead less none = absurd (omega (arith, less))
   fits-fails (suc len) ahead less none = elim (cases_lt ahead len) [
-    | inl before ↦ and-first (prefix_allows_units_at allowed us at len) (stands len) (fits-fails len ahead before none)
+    | inl before ↦ and_left (prefix_allows_units_at allowed us at len) (stands len) (fits-fails len ahead before none)
     | inr last ↦
         let same : ahead ≡ len = omega (arith, less, last) in
-        and-last (prefix_allows_units_at allowed us at len) (stands len) (ap stands (sym same) ∙ none)
+        and_right (prefix_allows_units_at allowed us at len) (stands len) (ap stands (sym same) ∙ none)
   ]
 
   -- If the prefix fits, each of its units is allowed.
@@ -178,7 +165,7 @@ module _ (prefix : Prefix) (rare : RequiredUnitAndOffset) (is : IsOnlyUnitAllowe
       by (inl inside) =
           fits-fails (units_allowed_by_prefix prefix) us at prefix.len rare.ahead is.inside
           (ap (unit_is_allowed (units_allowed_by_prefix prefix) rare.ahead) (slice_get-get_or us (at + rare.ahead) 0 inside)
-          ∙ not-true (units_allowed_by_prefix prefix rare.ahead (slice_index us (at + rare.ahead)))
+          ∙ false_from_ne_true (units_allowed_by_prefix prefix rare.ahead (slice_index us (at + rare.ahead)))
           (λ may. other inside (is.only (slice_index us (at + rare.ahead)) (bytes (at + rare.ahead)) may)))
       by (inr past) = fits-past (units_allowed_by_prefix prefix) us at prefix.len rare.ahead is.inside past
 
@@ -235,13 +222,13 @@ module _ (prefix : Prefix) (us : List ℕ) (at : ℕ) where
       → (k : ℕ) → k + prefix.len ≤ at + 1 → Fits k ≡ false
   none-more some before never k le = elim (cases_lt (k + prefix.len) (at + 1)) [
     | inl less ↦ before k (omega (arith, less))
-    | inr last ↦ not-true (Fits k) (λ fit. never k (omega (arith, le, last)) (fits-window prefix us k fit))
+    | inr last ↦ false_from_ne_true (Fits k) (λ fit. never k (omega (arith, le, last)) (fits-window prefix us k fit))
   ]
 
   -- If no fit ends within the units, there is none.
   pub none-found : 0 < prefix.len → length us ≤ at → ((k : ℕ) → k + prefix.len ≤ at → Fits k ≡ false) → (k : ℕ) → k < length us → Fits k ≡ false
   none-found some end before k less =
-      not-true (Fits k) (λ fit.
+      false_from_ne_true (Fits k) (λ fit.
       let inside = fits-within (units_allowed_by_prefix prefix) us k prefix.len some fit in
       let none = before k (omega (arith, inside, end)) in
       let never : true ≡ false = sym fit ∙ none in
@@ -313,7 +300,7 @@ module _ (prefix : Prefix) (literal : Literal) (is : IsLiteralForcedByPrefix pre
   pub literal-none : FindsNeedle rest needle 0 None → (k : ℕ) → FitAll k ≡ false
   literal-none none k = elim (cases_lt k at) [
     | inl early ↦ before k early
-    | inr late ↦ not-true (FitAll k) (λ fit.
+    | inr late ↦ false_from_ne_true (FitAll k) (λ fit.
         let there = literal-occurs k late fit in
         none (k - at) (omega arith) (let inside = there.fits in omega (arith, inside)) there)
   ]
@@ -333,7 +320,7 @@ module _ (prefix : Prefix) (literal : Literal) (is : IsLiteralForcedByPrefix pre
     pub literal-before : (k : ℕ) → k < at + more → FitAll k ≡ false
     literal-before k less = elim (cases_lt k at) [
       | inl early ↦ before k early
-      | inr late ↦ not-true (FitAll k) (λ fit.
+      | inr late ↦ false_from_ne_true (FitAll k) (λ fit.
           found.0.before (k - at) (omega arith) (omega (arith, late, less)) (literal-occurs k late fit))
     ]
 

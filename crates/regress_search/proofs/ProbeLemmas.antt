@@ -1,7 +1,6 @@
 -- A probe passes at each offset where the required prefix fits, so the offsets it rejects are no
 -- candidates.
-use Rattle.std.proofs.Common.{◌≡◌, ℕ, suc, ◌+◌, ◌-◌, ◌%◌, ◌<◌, ◌≤◌, Bool, true, false, List, length, take, Option, Some, None, ap, sym, ◌∙◌, subst, arith}
-use Rattle.std.proofs.Common.{slice_get}
+use Rattle.std.proofs.Common.{◌≡◌, ℕ, suc, ◌+◌, ◌-◌, ◌%◌, ◌<◌, ◌≤◌, Bool, true, false, List, length, take, Option, Some, None, ap, sym, ◌∙◌, subst, arith, slice_get}
 use Rattle.std.specs.Prelude.{slice_index}
 use Rattle.std.specs.Int.{bit_at}
 use Rattle.std.proofs.lemmas.Bool.{cases_lt, eqb-true}
@@ -17,11 +16,10 @@ use Rattle.regress_machine.specs.FirstSetTables.{HasUnitsForTables, unit_key_at}
 use Rattle.regress_machine.specs.RequiredPrefixes.{unit_is_allowed}
 use Rattle.regress_program.specs.declared.required_prefix_types.Prefix.{Prefix}
 use Rattle.regress_program.specs.declared.required_prefix_prefilters.MaskedUnitProbe.{MaskedUnitProbe}
-use Rattle.regress_program.specs.PrefixesAndPrefilters.{units_allowed_by_prefix, prefix_allows_units_at, unit_passes_probe, ProbePassesPrefix}
-use Rattle.regress_program.specs.PrefixesAndPrefilters.{PrefixAllowsOnlyAsciiFirst}
+use Rattle.regress_program.specs.PrefixesAndPrefilters.{units_allowed_by_prefix, prefix_allows_units_at, unit_passes_probe, ProbePassesPrefix, PrefixAllowsOnlyAsciiFirst}
 use Rattle.regress_program.specs.TableKeysOfUnits.{key, is_16_bit_encoding}
 use Rattle.regress_search.specs.TreePlanAndText.{SearchInput}
-use Rattle.regress_search.specs.StartSearch.{keys_in, prefix_fits_at, IsFirstBoundaryWhere}
+use Rattle.regress_search.specs.StartSearch.{unit_keys_of_text, prefix_fits_at, IsFirstBoundaryWhere}
 use Rattle.regress_search.specs.MarkedOffsets.{MarksAllPassing}
 use Rattle.regress_search.specs.PrefixCandidatesInRange.{IsFirstPrefixFitInRange}
 use Rattle.regress_search.proofs.PrefixUnitLemmas.{fits-fails, fits-past, fits-more}
@@ -30,21 +28,21 @@ use Rattle.regress_search.proofs.AsciiUnitLemmas.{fit-unit, fit-boundary}
 -- ---- Keys of units
 
 module _ (w : SearchInput) where
-  pub key-got : (at k : ℕ) → unit_key_at w.encoding (key (is_16_bit_encoding w.encoding)) w.text at ≡ Some k → slice_get (keys_in w) at ≡ Some k
+  pub key-got : (at k : ℕ) → unit_key_at w.encoding (key (is_16_bit_encoding w.encoding)) w.text at ≡ Some k → slice_get (unit_keys_of_text w) at ≡ Some k
   key-got at k there = slice_get-map (key (is_16_bit_encoding w.encoding)) (text_units_in_encoding w.encoding w.text) at ∙ there
 
   -- If the next unit's key is allowed, one more unit of the prefix fits.
   pub fits-goes : (prefix : Prefix) (at ahead k : ℕ) (may : Bool) → unit_key_at w.encoding (key (is_16_bit_encoding w.encoding)) w.text (at + ahead) ≡ Some k
-      → may ≡ units_allowed_by_prefix prefix ahead k → may ≡ true → prefix_allows_units_at (units_allowed_by_prefix prefix) (keys_in w) at ahead ≡ true → prefix_allows_units_at (units_allowed_by_prefix prefix) (keys_in w) at (ahead + 1) ≡ true
+      → may ≡ units_allowed_by_prefix prefix ahead k → may ≡ true → prefix_allows_units_at (units_allowed_by_prefix prefix) (unit_keys_of_text w) at ahead ≡ true → prefix_allows_units_at (units_allowed_by_prefix prefix) (unit_keys_of_text w) at (ahead + 1) ≡ true
   fits-goes prefix at ahead k may there asked holds all =
-      ap (prefix_allows_units_at (units_allowed_by_prefix prefix) (keys_in w) at) (let z : ahead + 1 ≡ suc ahead = omega arith in z)
-      ∙ fits-more (units_allowed_by_prefix prefix) (keys_in w) at ahead all (ap (unit_is_allowed (units_allowed_by_prefix prefix) ahead) (key-got (at + ahead) k there) ∙ sym asked ∙ holds)
+      ap (prefix_allows_units_at (units_allowed_by_prefix prefix) (unit_keys_of_text w) at) (let z : ahead + 1 ≡ suc ahead = omega arith in z)
+      ∙ fits-more (units_allowed_by_prefix prefix) (unit_keys_of_text w) at ahead all (ap (unit_is_allowed (units_allowed_by_prefix prefix) ahead) (key-got (at + ahead) k there) ∙ sym asked ∙ holds)
 
   -- If a unit's key is not allowed, the prefix does not fit.
   pub fits-stops : (prefix : Prefix) (at ahead k : ℕ) (may : Bool) → ahead < prefix.len → unit_key_at w.encoding (key (is_16_bit_encoding w.encoding)) w.text (at + ahead) ≡ Some k
       → may ≡ units_allowed_by_prefix prefix ahead k → may ≡ false → prefix_fits_at w prefix at ≡ false
   fits-stops prefix at ahead k may less there asked fails =
-      fits-fails (units_allowed_by_prefix prefix) (keys_in w) at prefix.len ahead less
+      fits-fails (units_allowed_by_prefix prefix) (unit_keys_of_text w) at prefix.len ahead less
       (ap (unit_is_allowed (units_allowed_by_prefix prefix) ahead) (key-got (at + ahead) k there) ∙ sym asked ∙ fails)
 
 -- ---- Bits of a probe
@@ -90,7 +88,7 @@ module _ (w : SearchInput) (prefix : Prefix) where
   first-where has some ascii from to None all first = λ at on le less. elim (cases_lt at to) [
     | inl before ↦ first at le before
     | inr after ↦
-        let count : length (keys_in w) ≡ units w.text = length-map (text_units_in_encoding w.encoding w.text) (key (is_16_bit_encoding w.encoding)) ∙ sym (units-length w.encoding w.text has.spelled) in
-        fits-past (units_allowed_by_prefix prefix) (keys_in w) at prefix.len (prefix.len - 1) (omega (arith, some)) (omega (arith, after, all, some, count))
+        let count : length (unit_keys_of_text w) ≡ units w.text = length-map (text_units_in_encoding w.encoding w.text) (key (is_16_bit_encoding w.encoding)) ∙ sym (units-length w.encoding w.text has.spelled) in
+        fits-past (units_allowed_by_prefix prefix) (unit_keys_of_text w) at prefix.len (prefix.len - 1) (omega (arith, some)) (omega (arith, after, all, some, count))
   ]
   first-where has some ascii from to (Some at) all first = found-where has some ascii from to at first

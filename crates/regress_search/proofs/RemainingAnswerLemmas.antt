@@ -1,7 +1,6 @@
 -- A call of an iterator takes the first of the remaining matches, finds that none is left, or is
 -- refused.
-use Rattle.std.proofs.Common.{◌≡◌, ℕ, suc, ◌+◌, ◌<◌, ◌≤◌, [], ◌∷◌, length, Option, Some, None, Result, Ok, Err, Bool, true, false, not, refl, sym}
-use Rattle.std.proofs.Common.{ap, ap₂, ◌∙◌, arith, eq-eqb}
+use Rattle.std.proofs.Common.{◌≡◌, ℕ, suc, ◌+◌, ◌<◌, ◌≤◌, [], ◌∷◌, length, Option, Some, None, Result, Ok, Err, Bool, true, false, not, refl, sym, ap, ap₂, ◌∙◌, arith, eq-eqb}
 use Rattle.std.proofs.lemmas.Bool.{leb-false}
 use Rattle.std.specs.Prelude.{◌==◌, if◌then◌else◌, nat_le, is_none, IsTrue}
 use Rattle.std.specs.Option.{option_map_or}

@@ -1,7 +1,6 @@
 -- If each match begins with a group of one character of one unit that a backreference repeats, no
 -- match begins where the next unit is another one.
-use Rattle.std.proofs.Common.{◌≡◌, ℕ, zero, suc, ◌+◌, ◌-◌, ◌<◌, ◌≤◌, Bool, true, false, ◌&&◌, List, [], ◌∷◌, length}
-use Rattle.std.proofs.Common.{take, drop, Option, Some, None, refl, ap, ap₂, sym, ◌∙◌, subst, arith, slice_get, get_or}
+use Rattle.std.proofs.Common.{◌≡◌, ℕ, zero, suc, ◌+◌, ◌-◌, ◌<◌, ◌≤◌, Bool, true, false, ◌&&◌, List, [], ◌∷◌, length, take, drop, Option, Some, None, refl, ap, ap₂, sym, ◌∙◌, subst, arith, slice_get, get_or}
 use Rattle.std.specs.Prelude.{slice_set, slice_range, slice_index_or, ◌==◌, nat_lt, nat_le, option_map, option_and_then, if◌then◌else◌}
 use Rattle.std.proofs.lemmas.Bool.{cases_lt, ltb-true, lt-ltb, eqb-true}
 use Rattle.std.proofs.lemmas.List.{append-nil}
@@ -17,6 +16,7 @@ use Rattle.regex_meaning.specs.CompilationRelation.{Program, Insn, BeginCaptureG
 use Rattle.regex_meaning.specs.Outcomes.{is_some_and, is_same}
 use Rattle.regex_meaning.proofs.BoolLemmas.{and-left, and-right}
 use Rattle.regex_meaning.proofs.CodeUnitOffsetsLemmas.{place_at-offset, offset-place_at}
+use Rattle.regex_meaning.proofs.CodeUnitLengthLemmas.{has-unit}
 use Rattle.regress_input.specs.CharAndByteReadsFromOffset.{past_if}
 use Rattle.regress_input.proofs.UnitsAtBoundaries.{units-length}
 use Rattle.regress_input.proofs.ListRangeLemmas.{get-cons}
@@ -33,10 +33,12 @@ use Rattle.regress_program.specs.TableKeysOfUnits.{key, is_16_bit_encoding, AreR
 use Rattle.regress_program.proofs.LookbehindFilterLemmas.{reads-in}
 use Rattle.regress_machine.specs.SearchFindsFirstOutcomeAtPlace.{TreeProgramCanSearchText, state_before_first_insn}
 use Rattle.regress_machine.proofs.ExcludedMatchStartLemmas.{nothing-no-match}
-use Rattle.regress_machine.proofs.FirstUnitsOfCharacters.{unit-there, some-units}
+use Rattle.regress_machine.proofs.FirstUnitsOfCharacters.{unit-there}
 use Rattle.regress_program.specs.declared.ops.Op.{Op}
 use Rattle.regress_program.specs.declared.ops.Op.TheVariants as variant
 use Rattle.regex_pattern_front.specs.declared.canonical.Sameness.TheVariants.{Exact}
+use Rattle.regress_machine.proofs.FirstSetTableLemmas.{passed}
+use Rattle.regress_machine.proofs.UnchangedGroupsAndLoops.{slice_get-set_same}
 use Rattle.regress_program.specs.InsnsAsSpec.{insn_as_spec_insn}
 use Rattle.regress_search.specs.DeadThreads.{MatchFailureExtendsUntil, BeginsWithRepeatedChar, NextUnitDoesNotRepeatAsciiUnit}
 use Rattle.regress_search.specs.ReadsAtOffset.{input_unit_at}
@@ -45,11 +47,6 @@ use Rattle.regress_search.proofs.LeadingLoopOperations.{insn-of-op}
 use Rattle.regress_search.proofs.NextCharByUnit.{next-is, past-next, excluded, stepped, own-spelled}
 
 -- ---- Lists of characters and groups
-
-set-got : {X : Type 0} (xs : List X) (i : ℕ) (x : X) → i < length xs → slice_get (slice_set xs i x) i ≡ Some x
-set-got [] i x less = absurd (omega (arith, less))
-set-got (y ∷ xs) zero x less = refl
-set-got (y ∷ xs) (suc i) x less = set-got xs i x (omega (arith, less))
 
 range-one : (xs : List ℕ) (i c : ℕ) → slice_get xs i ≡ Some c → slice_range xs i (i + 1) ≡ c ∷ []
 range-one xs i c is =
@@ -66,10 +63,6 @@ range-none : (xs : List ℕ) (i : ℕ) → slice_get xs i ≡ None → slice_ran
 range-none xs i is =
     let one : i + 1 - i ≡ 1 = omega arith in
     ap (λ n. take n (drop i xs)) one ∙ ap (take 1) (none-left xs i is)
-
-some-and : (o : Option ℕ) (test : ℕ → Bool) → is_some_and o test ≡ true → (c : ℕ) × (o ≡ Some c) × (test c ≡ true)
-some-and None test h = cc
-some-and (Some c) test h = (c, refl, h)
 
 -- ---- Steps of the machine
 
@@ -148,7 +141,7 @@ module _ (program : Program) (text : Text) (has_text : HasRisingPlaceOffsets tex
         by n true e = nothing-some program text n rightwards (slice_get s.starts group) (λ start. go (next start)) (λ start is.
             let same : start ≡ offset text p = (let e : Some start ≡ Some (offset text p) = sym is ∙ held in cc) in
             nothing-go program text n rightwards (next start) (nothing-below program text n (next start) (repeats (next start) (ap (λ i. i + 1) at) pos
-            (set-got s.groups group (Some (start, s.pos)) (ltb-true group (length s.groups) e) ∙ ap (λ start. Some (Some (start, s.pos))) same))))
+            (slice_get-set_same s.groups group (Some (start, s.pos)) (ltb-true group (length s.groups) e) ∙ ap (λ start. Some (Some (start, s.pos))) same))))
 
   read-first : (s : State) → s.ip ≡ 1 → s.pos ≡ offset text p → slice_get s.starts group ≡ Some (offset text p) → FindsNothing program text rightwards (running s)
   read-first s at pos held = turned s 1 reader (with_some (test_of program (Some reader)) (λ test. read_one text test rightwards s)) at reads
@@ -157,7 +150,7 @@ module _ (program : Program) (text : Text) (has_text : HasRisingPlaceOffsets tex
       nothing-some program text n rightwards (place_at text s.pos) (λ q. go_if (is_some_and (next_character text rightwards q) test) (next_insn_at_place text (moved text rightwards 1 q) s)) (λ q q_is.
       let same : q ≡ p = (let e : Some q ≡ Some p = sym q_is ∙ ap (place_at text) pos ∙ place_at-offset text p has_text inside in cc) in
       nothing-go_if program text n rightwards (is_some_and (next_character text rightwards q) test) (next_insn_at_place text (moved text rightwards 1 q) s) (λ yes.
-      let c = some-and (slice_get text.characters q) test yes in
+      let c = passed (slice_get text.characters q) test yes in
       nothing-below program text n (next_insn_at_place text (moved text rightwards 1 q) s)
       (closed test tests c.0 (ap (slice_get text.characters) (sym same) ∙ c.1) c.2 (next_insn_at_place text (moved text rightwards 1 q) s) (ap (λ i. i + 1) at)
       (ap (λ q. offset text (q + 1)) same) held)))))
@@ -173,7 +166,7 @@ module _ (program : Program) (text : Text) (has_text : HasRisingPlaceOffsets tex
       by n false e = tt
       by n true e =
           nothing-go program text n rightwards next (nothing-below program text n next (read-first next (ap (λ i. i + 1) at) pos
-          (set-got s.starts group s.pos (ltb-true group (length s.starts) (and-right (nat_lt group (length s.groups)) (nat_lt group (length s.starts)) e)) ∙ ap Some pos)))
+          (slice_get-set_same s.starts group s.pos (ltb-true group (length s.starts) (and-right (nat_lt group (length s.groups)) (nat_lt group (length s.starts)) e)) ∙ ap Some pos)))
 
 -- ---- Units of a repeated character
 
@@ -241,7 +234,7 @@ module _ (w : SearchInput) (has : HasUnitsForTables w.encoding w.text) (plan : I
     apart-there : (test : ℕ → Bool) → AreReadLengthsByKey false test class.steps → (c : ℕ) → slice_get w.text.characters p ≡ Some c → test c ≡ true
         → slice_get w.text.characters (p + 1) ≡ Some c → ⊥
     apart-there test are c first accepted second =
-        let begun : slice_get (code_units_of_character utf8 c) 0 ≡ Some (get_or (code_units_of_character utf8 c) 0 0) = slice_get-get_or (code_units_of_character utf8 c) 0 0 (some-units utf8 c) in
+        let begun : slice_get (code_units_of_character utf8 c) 0 ≡ Some (get_or (code_units_of_character utf8 c) 0 0) = slice_get-get_or (code_units_of_character utf8 c) 0 0 (has-unit utf8 c) in
         let u = get_or (code_units_of_character utf8 c) 0 0 in
         let here : slice_get (text_units_in_encoding utf8 w.text) at ≡ Some u =
         unit-there utf8 w.text has.is_text in_bytes.spelled at p place_is ∙ ap (option_and_then (λ c. slice_get (code_units_of_character utf8 c) 0)) first ∙ begun in

@@ -10,9 +10,7 @@ use Rattle.regex_meaning.specs.MatchGroupsByNumberAndName.{group_names_by_id}
 use Rattle.regex_meaning.specs.SearchAnswers.{first_answer, next_start}
 use Rattle.regex_meaning.specs.StepBudget.{budget_suffices, remaining_budget, need_from}
 use Rattle.regress_search.specs.MatchesAsSpecAnswers.{answer_from_parts}
-use Rattle.regress_search.specs.AttemptsAndStarts.{NextStartSkipsNoMatch, NoMatchAt, end_with_groups, match_end_and_groups_at, next_filtered_start}
-use Rattle.regress_search.specs.AttemptsAndStarts.{next_search_offset}
-use Rattle.regress_search.specs.AttemptsAndStarts.{ticks_of_attempt_at}
+use Rattle.regress_search.specs.AttemptsAndStarts.{NextStartSkipsNoMatch, NoMatchAt, end_with_groups, match_end_and_groups_at, next_filtered_start, next_search_offset, ticks_of_attempt_at}
 use Rattle.regress_search.specs.SearchEffects.{SpendsNeedOrReachesLimit}
 use Rattle.regress_search.specs.declared.exec.SearchError.{SearchError}
 use Rattle.regress_search.proofs.StepBudgetLemmas.{IsSpent, refused, spent-found, spent-goes, taken}

@@ -71,7 +71,7 @@ module _ (tree : Tree) (text : Text) (is : HasRisingPlaceOffsets text) where
   walk-begins first None on n = next-none first on n
   walk-begins first (Some at) on n = record { same = next-some first at on n; boundary = n.0 }
 
-  with-tried : (at to : ℕ) → NoMatchAt tree text at → NoMatchStartsBetween tree text (at + 1) to → NoMatchStartsBetween tree text at to
+  pub with-tried : (at to : ℕ) → NoMatchAt tree text at → NoMatchStartsBetween tree text (at + 1) to → NoMatchStartsBetween tree text at to
   with-tried at to vain none = λ x on le less. elim (cases_lt at x) [
     | inl past ↦ none x on (omega (arith, past)) less
     | inr within ↦ let same : at ≡ x = omega (arith, within, le) in subst (NoMatchAt tree text) same vain

@@ -1,18 +1,15 @@
 -- No match begins where the start predicate rejects the text, or after the text's start in an
 -- anchored tree.
-use Rattle.std.proofs.Common.{◌≡◌, ℕ, zero, suc, ◌+◌, ◌<◌, ◌≤◌, List, [], ◌∷◌, ◌++◌, length, map, flat_map, slice_get, Some, None, Bool, true, false, refl, ap, ap₂, sym}
-use Rattle.std.proofs.Common.{subst, arith}
-use Rattle.std.proofs.Common.{inl, inr}
+use Rattle.std.proofs.Common.{◌≡◌, ℕ, zero, suc, ◌+◌, ◌<◌, ◌≤◌, List, [], ◌∷◌, ◌++◌, length, map, flat_map, slice_get, Some, None, Bool, true, false, refl, ap, ap₂, sym, subst, arith, inl, inr}
 use Rattle.std.proofs.lemmas.Bool.{cases_lt}
 use Rattle.std.specs.Prelude.{option_map, option_and_then, IsTrue}
 use Rattle.std.specs.List.{list_all}
 use Rattle.regex_meaning.specs.Tree.{Node, alt, anchor, capture_group, cat, start_of_line, Tree}
 use Rattle.regex_meaning.specs.Text.{Text, rightwards, last_place, is_scalar, character_before}
 use Rattle.regex_meaning.specs.CodeUnitOffsets.{HasRisingPlaceOffsets, IsBoundary, place_at, offset, read, units}
-use Rattle.regex_meaning.specs.Outcomes.{Groups, Outcome, captured, cleared, empty_match_if, is_line_boundary, outcomes}
+use Rattle.regex_meaning.specs.Outcomes.{Groups, Outcome, captured, with_groups_cleared, empty_match_if, is_line_boundary, outcomes}
 use Rattle.regex_meaning.specs.FirstAndAllMatches.{first_outcome, match_at, no_groups}
-use Rattle.regex_meaning.specs.StartPredicate.{is_anchored, start_predicate}
-use Rattle.regex_meaning.specs.StartPredicate.{may_start}
+use Rattle.regex_meaning.specs.StartPredicate.{is_anchored, start_predicate, may_start}
 use Rattle.regex_meaning.specs.WellFormedTrees.{is_well_formed}
 use Rattle.regex_meaning.proofs.BoolLemmas.{and-left, and-right}
 use Rattle.regex_meaning.proofs.CodeUnitOffsetsLemmas.{IsBoundary-place, offset-IsBoundary, offset-less, offset-le, place-less}
@@ -46,7 +43,7 @@ nothing-behind text (anchor start_of_line false) h p groups some within =
 nothing-behind text (cat first rest) h p groups some within =
     ap (flat_map (λ o. outcomes text rest rightwards o.end o.groups)) (nothing-behind text first h p groups some within)
 nothing-behind text (capture_group id name contents) h p groups some within =
-    ap (map (captured id p)) (nothing-behind text contents h p (cleared id 1 groups) some within)
+    ap (map (captured id p)) (nothing-behind text contents h p (with_groups_cleared id 1 groups) some within)
 nothing-behind text (alt left right) h p groups some within =
     ap₂ (λ (xs ys : List Outcome). xs ++ ys) (nothing-behind text left (and-left _ _ h) p groups some within) (nothing-behind text right (and-right _ _ h) p groups some within)
 nothing-behind text _ h p groups some within = grind arith

@@ -1,9 +1,8 @@
 -- The start search finds the first boundary at which a table, or the required prefix, allows a
 -- match.
-use Rattle.std.proofs.Common.{map, ◌≡◌, ℕ, zero, suc, ◌+◌, ◌-◌, ◌<◌, ◌≤◌, Bool, true, false, not, List, [], ◌∷◌, length, drop, take, get_or, Option}
-use Rattle.std.proofs.Common.{Some, None, refl, ap, sym, ◌∙◌, subst, arith, slice_get, le_refl}
+use Rattle.std.proofs.Common.{map, ◌≡◌, ℕ, zero, suc, ◌+◌, ◌-◌, ◌<◌, ◌≤◌, Bool, true, false, not, List, [], ◌∷◌, length, drop, take, get_or, Option, Some, None, refl, ap, sym, ◌∙◌, subst, arith, slice_get, le_refl}
 use Rattle.std.specs.Prelude.{option_map, slice_index, nat_lt, nat_le, nat_eq, ◌&&◌, ◌||◌}
-use Rattle.std.proofs.lemmas.Bool.{cases_lt, lt-ltb, le-ltb, lt-leb, leb-true, ltb-true, eqb-true}
+use Rattle.std.proofs.lemmas.Bool.{cases_lt, lt-ltb, le-ltb, lt-leb, leb-true, ltb-true, eqb-true, false_from_ne_true}
 use Rattle.std.proofs.lemmas.Option.{slice_get-get_or}
 use Rattle.std.proofs.lemmas.List.{get_or-drop, length-drop, map-id}
 use Rattle.std.proofs.Math.Bool.{and-false}
@@ -30,8 +29,7 @@ use Rattle.regress_search.proofs.PrefixUnitLemmas.{own-key, fits-past, fits-behi
 use Rattle.regress_program.specs.declared.required_prefix_types.Prefix.{Prefix}
 use Rattle.regress_program.specs.PrefixesAndPrefilters.{units_allowed_by_prefix, prefix_allows_units_at, PrefixAllowsOnlyAsciiFirst}
 use Rattle.regress_search.proofs.AsciiUnitLemmas.{fit-boundary}
-use Rattle.regress_search.specs.StartSearch.{table_allows_unit_or_end_at, TableAllowsNoBoundary, IsFirstAllowedBoundary, IsFirstBoundaryWhere, AllowsOnlyLeadBytes, SkipsNoBoundary}
-use Rattle.regress_search.specs.StartSearch.{IsFirstByteSearchHit, table_of_listed_units, prefix_fits_at}
+use Rattle.regress_search.specs.StartSearch.{table_allows_unit_or_end_at, TableAllowsNoBoundary, IsFirstAllowedBoundary, IsFirstBoundaryWhere, AllowsOnlyLeadBytes, SkipsNoBoundary, IsFirstByteSearchHit, table_of_listed_units, prefix_fits_at}
 
 -- ---- Offsets behind a unit
 
@@ -152,10 +150,6 @@ module _ (w : SearchInput) (table : AllowedNextKeys) (from : ℕ) where
 
 -- ---- Searches for a few units
 
-not-true : (b : Bool) → (b ≡ true → ⊥) → b ≡ false
-not-true true h = absurd (h refl)
-not-true false h = refl
-
 -- The first byte that is one of three is the first one that the list of three contains.
 pub found-three : (us bytes : List ℕ) (found : Option ℕ) → length us ≡ 3 → IsFirstByte (is_byte3 (get_or us 0 0) (get_or us 1 0) (get_or us 2 0)) bytes found
     → FindsFirstPassingIndex (is_member_byte_at_index us bytes) (length bytes) found
@@ -175,13 +169,13 @@ found-three us bytes found sized f = by found f
     same (a ∷ b ∷ c ∷ d ∷ us) e x = absurd (omega (arith, e))
 
     by : (found : Option ℕ) → IsFirstByte (is_byte3 (get_or us 0 0) (get_or us 1 0) (get_or us 2 0)) bytes found → FindsFirstPassingIndex (is_member_byte_at_index us bytes) (length bytes) found
-    by None none = λ k less. same us sized (slice_index bytes k) ∙ not-true (is_byte3 (get_or us 0 0) (get_or us 1 0) (get_or us 2 0) (slice_index bytes k)) (none k (omega arith) less)
+    by None none = λ k less. same us sized (slice_index bytes k) ∙ false_from_ne_true (is_byte3 (get_or us 0 0) (get_or us 1 0) (get_or us 2 0) (slice_index bytes k)) (none k (omega arith) less)
     by (Some i) first = record {
       within = first.0.high;
       passes = same us sized (slice_index bytes i) ∙ first.1;
       none_before = λ k less.
           same us sized (slice_index bytes k)
-          ∙ not-true (is_byte3 (get_or us 0 0) (get_or us 1 0) (get_or us 2 0) (slice_index bytes k)) (first.0.before k (omega arith) less);
+          ∙ false_from_ne_true (is_byte3 (get_or us 0 0) (get_or us 1 0) (get_or us 2 0) (slice_index bytes k)) (first.0.before k (omega arith) less);
     }
 
 -- If each listed unit passes a test, a unit in the list passes it.

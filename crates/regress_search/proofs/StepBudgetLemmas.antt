@@ -1,6 +1,5 @@
 -- Successive attempts reduce a step budget by exactly the steps that the search needs.
-use Rattle.std.proofs.Common.{◌≡◌, ℕ, zero, suc, ◌+◌, ◌-◌, ◌<◌, ◌≤◌, List, [], ◌∷◌, Option, Some, None, Err, Bool, true, false, refl, ap, ap₂, sym}
-use Rattle.std.proofs.Common.{◌∙◌, subst, arith, inl, inr}
+use Rattle.std.proofs.Common.{◌≡◌, ℕ, zero, suc, ◌+◌, ◌-◌, ◌<◌, ◌≤◌, List, [], ◌∷◌, Option, Some, None, Err, Bool, true, false, refl, ap, ap₂, sym, ◌∙◌, subst, arith, inl, inr}
 use Rattle.std.proofs.lemmas.Bool.{cases_lt, le-leb, leb-true, leb-false, lt-leb}
 use Rattle.std.specs.Prelude.{if◌then◌else◌, nat_le, filter, IsErrAnd, Result, Ok, option_map, option_and_then, is_some, IsTrue}
 use Rattle.std.specs.Option.{option_map_or}
@@ -9,17 +8,13 @@ use Rattle.regex_meaning.specs.Tree.{Tree}
 use Rattle.regex_meaning.specs.Text.{Text, rightwards, last_place}
 use Rattle.regex_meaning.specs.CodeUnitOffsets.{HasRisingPlaceOffsets, IsBoundary, offset, place_at, read, read_at}
 use Rattle.regex_meaning.specs.Outcomes.{Groups, Outcome}
-use Rattle.regex_meaning.specs.StartPredicate.{StartPredicate, start_arbitrary, start_byte_set, start_byte_sequence, start_anchored, start_predicate}
-use Rattle.regex_meaning.specs.StartPredicate.{may_start}
+use Rattle.regex_meaning.specs.StartPredicate.{StartPredicate, start_arbitrary, start_byte_set, start_byte_sequence, start_anchored, start_predicate, may_start}
 use Rattle.regex_meaning.specs.StepBudget.{IsBudgetAtMost, budget_suffices, remaining_budget, need_from}
-use Rattle.regex_meaning.specs.OutcomesWithStepTicks.{TickOrOutcome, tick, pair, outcomes_without_ticks, has_no_outcome, items_at, need, ticks_at, ticks_to_first}
-use Rattle.regex_meaning.specs.OutcomesWithStepTicks.{tried_places}
+use Rattle.regex_meaning.specs.OutcomesWithStepTicks.{TickOrOutcome, tick, pair, outcomes_without_ticks, has_no_outcome, items_at, need, ticks_at, ticks_to_first, tried_places}
 use Rattle.regex_meaning.proofs.CodeUnitOffsetsLemmas.{IsBoundary-place, offset-place_at, place_at-offset}
 use Rattle.regex_meaning.proofs.OptionLemmas.{some-same}
 use Rattle.regress_machine.specs.SearchFindsFirstOutcomeAtPlace.{end_in_offsets, first_outcome_among_ticks}
-use Rattle.regress_search.specs.AttemptsAndStarts.{NoMatchAt, filtered_start_after, match_end_and_groups_at, offset_of_first_place, first_filtered_start}
-use Rattle.regress_search.specs.AttemptsAndStarts.{next_filtered_start}
-use Rattle.regress_search.specs.AttemptsAndStarts.{ticks_of_attempt_at}
+use Rattle.regress_search.specs.AttemptsAndStarts.{NoMatchAt, filtered_start_after, match_end_and_groups_at, offset_of_first_place, first_filtered_start, next_filtered_start, ticks_of_attempt_at}
 use Rattle.regress_search.specs.SearchEffects.{SpendsNeedOrReachesLimit}
 use Rattle.regress_search.specs.declared.exec.SearchError.{SearchError}
 use Rattle.regress_search.specs.declared.exec.SearchError.TheVariants.{Memory, StepLimit}
@@ -331,7 +326,7 @@ pub refused : (tree : Tree) (text : Text) (is : HasRisingPlaceOffsets text) (fir
 refused tree text is first now after needed at X Y Memory s r = (spent-less tree text is first now needed (Some at) s after r.0, spent-most tree text is first now needed at s after r.1)
 refused tree text is first now after needed at X Y StepLimit s r = (spent-beyond tree text is first now needed at s r.0, r.1)
 
-no_more-same : (budget : Option ℕ) → IsBudgetAtMost budget budget
+pub no_more-same : (budget : Option ℕ) → IsBudgetAtMost budget budget
 no_more-same None = tt
 no_more-same (Some n) = omega arith
 

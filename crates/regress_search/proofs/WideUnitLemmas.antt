@@ -1,15 +1,12 @@
 -- Tests of 16-bit units, many at a time, find the first unit at which a scan may end.
-use Rattle.std.proofs.Common.{◌≡◌, ℕ, zero, suc, ◌+◌, ◌-◌, ◌*◌, ◌/◌, ◌<◌, ◌≤◌, ◌==◌, ◌&&◌, ◌||◌, Bool, true, false, not}
-use Rattle.std.proofs.Common.{List, [], ◌∷◌, length, take, get_or, Option, Some, None, refl, ap, ap₂, sym, ◌∙◌, subst}
-use Rattle.std.proofs.Common.{arith, slice_get, slice_index_or, nat_eq}
-use Rattle.std.specs.Prelude.{if◌then◌else◌, bit_and}
-use Rattle.std.proofs.lemmas.Bool.{eqb-true, eq-eqb, ne_eqb, cases_lt, cases_eq, lt-ltb, le-ltb, or_from, not_from_false}
+use Rattle.std.proofs.Common.{◌≡◌, ℕ, zero, suc, ◌+◌, ◌-◌, ◌*◌, ◌/◌, ◌<◌, ◌≤◌, ◌==◌, ◌&&◌, ◌||◌, Bool, true, false, not, List, [], ◌∷◌, length, take, get_or, Option, Some, None, refl, ap, ap₂, sym, ◌∙◌, subst, arith, slice_get, slice_index_or, nat_eq}
+use Rattle.std.specs.Prelude.{if◌then◌else◌, bit_and, option_map}
+use Rattle.std.proofs.lemmas.Bool.{eqb-true, eq-eqb, ne_eqb, cases_lt, cases_eq, lt-ltb, le-ltb, or_from, not_from_false, false_from_ne_true, or_parts}
 use Rattle.std.proofs.lemmas.Nat.Bits.{and_high_mask}
 use Rattle.regress_input.specs.TextCodeUnits.{has_bits, MarksUnitsWithBits}
 use Rattle.std.specs.Int.{bit_at}
 use mathlib.Core.Logic.{inl, inr}
 use Rattle.std.proofs.lemmas.Option.{slice_get-get_or, slice_get_past}
-use Rattle.std.specs.Prelude.{option_map}
 use Rattle.regex_meaning.specs.NumberListHelpers.{contains}
 use Rattle.regex_meaning.specs.Outcomes.{is_some_and}
 use Rattle.regex_meaning.specs.CodeUnitOffsets.{IsBoundary, units}
@@ -60,14 +57,6 @@ listed-at (x ∷ xs) (suc n) k has = by (nat_eq k x) refl has (listed-at xs n k)
         let less = rest.1 in
         (suc rest.0, omega (arith, less), rest.2)
 
-not-true : (b : Bool) → (b ≡ true → ⊥) → b ≡ false
-not-true true h = absurd (h refl)
-not-true false h = refl
-
-neither : (a b : Bool) → (a || b) ≡ false → (a ≡ false) × (b ≡ false)
-neither true b h = cc
-neither false b h = (refl, h)
-
 one-unless : (pair one stop : Bool) → ((not pair && not one) ≡ true → stop ≡ true) → pair ≡ false → stop ≡ false → one ≡ true
 one-unless true one stop ends p s = cc
 one-unless false true stop ends p s = refl
@@ -76,7 +65,7 @@ one-unless false false stop ends p s = let never : true ≡ false = sym (ends re
 module _ (wide : Bool) (is_wide : wide ≡ true) (steps : List ℕ) (stops : LeadBytesWhereScanMayStop) (told : StopBytesCoverPossibleEnds wide steps stops) where
   -- The stop set does not contain the key 128.
   pub stops-not128 : contains (take stops.len stops.bytes) 128 ≡ false
-  stops-not128 = not-true (contains (take stops.len stops.bytes) 128) (λ has.
+  stops-not128 = false_from_ne_true (contains (take stops.len stops.bytes) 128) (λ has.
       let one = listed-at stops.bytes stops.len 128 has in
       let ends : may_end_at wide steps 128 ≡ true = ap (may_end_at wide steps) (sym one.2) ∙ told.set.ends one.0 one.1 in
       let never : true ≡ false = sym ends ∙ told.told is_wide in
@@ -85,7 +74,7 @@ module _ (wide : Bool) (is_wide : wide ≡ true) (steps : List ℕ) (stops : Lea
   -- A key that is no stop and may not begin a pair has the step one.
   pub one-beside : (k : ℕ) → k < 256 → (may_begin_surrogate_pair k || contains (take stops.len stops.bytes) k) ≡ false → (slice_index_or steps k 0 == 1) ≡ true
   one-beside k small out =
-      let both = neither (may_begin_surrogate_pair k) (contains (take stops.len stops.bytes) k) out in
+      let both = or_parts (may_begin_surrogate_pair k) (contains (take stops.len stops.bytes) k) out in
       one-unless (may_begin_surrogate_pair k) (slice_index_or steps k 0 == 1) (is_stop stops k)
       (λ ends. told.set.all k small (subst (λ b. may_end_at b steps k ≡ true) (sym is_wide) ends)) both.0 both.1
 
@@ -136,7 +125,7 @@ all-listed p (x ∷ xs) (suc n) k all has = by (nat_eq k x) refl has (all-listed
     by false other h later = later h
 
 pub listed-told : (keys : List ℕ) (len : ℕ) → list_all bits_identify_key keys ≡ true → contains (take len keys) 128 ≡ false
-listed-told keys len all = not-true (contains (take len keys) 128) (λ has.
+listed-told keys len all = false_from_ne_true (contains (take len keys) 128) (λ has.
     let never : false ≡ true = all-listed bits_identify_key keys len 128 all has in
     cc)
 
@@ -320,7 +309,7 @@ module _ (w : SearchInput) (has : HasUnitsForTables w.encoding w.text) (wide : i
     pub first-two : (a b : UnitBits) → contains (take 2 keys) 128 ≡ false → Tells a 0 → Tells b 1 → IsFirstPassingOffset (λ at. at_kind a at || at_kind b at) from end found
         → IsFirstPassingOffset (unit_has_listed_key false keys 2 w) from (units w.text) found
     first-two a b out tells_a tells_b =
-        let outs = neither (128 == get_or keys 0 0) (128 == get_or keys 1 0) (sym (listed-two keys 128 three) ∙ out) in
+        let outs = or_parts (128 == get_or keys 0 0) (128 == get_or keys 1 0) (sym (listed-two keys 128 three) ∙ out) in
         first-agree false (λ at. at_kind a at || at_kind b at) (λ u. has_kind a u || has_kind b u) 2 from end found ends
         (λ at. either-of (input_unit_at w at) (has_kind a) (has_kind b))
         (λ unit small. (λ i. tells_a (not128 (get_or keys 0 0) outs.0) unit small i || tells_b (not128 (get_or keys 1 0) outs.1) unit small i)
@@ -329,8 +318,8 @@ module _ (w : SearchInput) (has : HasUnitsForTables w.encoding w.text) (wide : i
     pub first-three : (len : ℕ) → 3 ≤ len → (a b c : UnitBits) → contains (take len keys) 128 ≡ false → Tells a 0 → Tells b 1 → Tells c 2
         → IsFirstPassingOffset (λ at. (at_kind a at || at_kind b at) || at_kind c at) from end found → IsFirstPassingOffset (unit_has_listed_key false keys len w) from (units w.text) found
     first-three len most a b c out tells_a tells_b tells_c =
-        let outs = neither (128 == get_or keys 0 0) (128 == get_or keys 1 0 || 128 == get_or keys 2 0) (sym (listed-three keys len 128 three most) ∙ out) in
-        let last = neither (128 == get_or keys 1 0) (128 == get_or keys 2 0) outs.1 in
+        let outs = or_parts (128 == get_or keys 0 0) (128 == get_or keys 1 0 || 128 == get_or keys 2 0) (sym (listed-three keys len 128 three most) ∙ out) in
+        let last = or_parts (128 == get_or keys 1 0) (128 == get_or keys 2 0) outs.1 in
         first-agree false (λ at. (at_kind a at || at_kind b at) || at_kind c at) (λ u. (has_kind a u || has_kind b u) || has_kind c u) len from end found ends
         (λ at. ap (λ x. x || at_kind c at) (either-of (input_unit_at w at) (has_kind a) (has_kind b)) ∙ either-of (input_unit_at w at) (λ u. has_kind a u || has_kind b u) (has_kind c))
         (λ unit small. (λ i. (tells_a (not128 (get_or keys 0 0) outs.0) unit small i || tells_b (not128 (get_or keys 1 0) last.0) unit small i) || tells_c (not128 (get_or keys 2 0) last.1) unit small i)
@@ -360,7 +349,7 @@ module _ (w : SearchInput) (has : HasUnitsForTables w.encoding w.text) (wide : i
     pub pair-two : (a b : UnitBits) → contains (take 2 keys) 128 ≡ false → Tells a 0 → Tells b 1 → IsFirstPassingOffset (λ at. (at_pair at || at_kind a at) || at_kind b at) from end found
         → IsFirstPassingOffset (unit_has_listed_key true keys 2 w) from (units w.text) found
     pair-two a b out tells_a tells_b =
-        let outs = neither (128 == get_or keys 0 0) (128 == get_or keys 1 0) (sym (listed-two keys 128 three) ∙ out) in
+        let outs = or_parts (128 == get_or keys 0 0) (128 == get_or keys 1 0) (sym (listed-two keys 128 three) ∙ out) in
         first-agree true (λ at. (at_pair at || at_kind a at) || at_kind b at) (λ u. (has_pair u || has_kind a u) || has_kind b u) 2 from end found ends
         (λ at. ap (λ x. x || at_kind b at) (either-of (input_unit_at w at) has_pair (has_kind a)) ∙ either-of (input_unit_at w at) (λ u. has_pair u || has_kind a u) (has_kind b))
         (λ unit small. (λ i. (pair-told unit small i || tells_a (not128 (get_or keys 0 0) outs.0) unit small i) || tells_b (not128 (get_or keys 1 0) outs.1) unit small i)
@@ -370,8 +359,8 @@ module _ (w : SearchInput) (has : HasUnitsForTables w.encoding w.text) (wide : i
     pub pair-three : (len : ℕ) → 3 ≤ len → (a b c : UnitBits) → contains (take len keys) 128 ≡ false → Tells a 0 → Tells b 1 → Tells c 2
         → IsFirstPassingOffset (λ at. ((at_pair at || at_kind a at) || at_kind b at) || at_kind c at) from end found → IsFirstPassingOffset (unit_has_listed_key true keys len w) from (units w.text) found
     pair-three len most a b c out tells_a tells_b tells_c =
-        let outs = neither (128 == get_or keys 0 0) (128 == get_or keys 1 0 || 128 == get_or keys 2 0) (sym (listed-three keys len 128 three most) ∙ out) in
-        let last = neither (128 == get_or keys 1 0) (128 == get_or keys 2 0) outs.1 in
+        let outs = or_parts (128 == get_or keys 0 0) (128 == get_or keys 1 0 || 128 == get_or keys 2 0) (sym (listed-three keys len 128 three most) ∙ out) in
+        let last = or_parts (128 == get_or keys 1 0) (128 == get_or keys 2 0) outs.1 in
         first-agree true (λ at. ((at_pair at || at_kind a at) || at_kind b at) || at_kind c at) (λ u. ((has_pair u || has_kind a u) || has_kind b u) || has_kind c u) len from end found ends
         (λ at. ap (λ x. (x || at_kind b at) || at_kind c at) (either-of (input_unit_at w at) has_pair (has_kind a))
         ∙ ap (λ x. x || at_kind c at) (either-of (input_unit_at w at) (λ u. has_pair u || has_kind a u) (has_kind b))

@@ -21,11 +21,11 @@ use Rattle.regress_machine.specs.SearchFindsFirstOutcomeAtPlace.{TreeProgramCanS
 use Rattle.regress_machine.specs.ThreadSimulation.{FindsNothing}
 use Rattle.regress_machine.proofs.FailingInsnLemmas.{closed-nothing}
 use Rattle.regress_machine.proofs.ExcludedMatchStartLemmas.{nothing-no-match}
+use Rattle.regress_machine.proofs.GroupAndAssertionOutcomes.{slice_get_some}
 use Rattle.regress_program.specs.declared.ops.Op.TheVariants as variant
 use Rattle.regress_program.specs.declared.ops.WordBoundaryKind.{WordBoundaryKind}
 use Rattle.regress_program.specs.Plans.{IsPlanOf}
 use Rattle.regress_program.specs.TableKeysOfUnits.{key, is_16_bit_encoding}
-use Rattle.regress_program.proofs.AppendedEntryLemmas.{get-below}
 use Rattle.regress_search.specs.DeadThreads.{NoMatchOfInputAt, MatchFailureExtendsUntil}
 use Rattle.regress_search.specs.TreePlanAndText.{SearchInput, program_of, single_unit_begins_its_char}
 use Rattle.regress_search.specs.UnitRuns.{IsKeyTestAt}
@@ -169,7 +169,7 @@ module _ (w : SearchInput) (has : HasUnitsForTables w.encoding w.text) (plan : I
   insn-there : slice_get (program_of w).insns 0 ≡ Some (if edge.unicode_icase then WordBoundaryUnicodeICase false else WordBoundary false)
   insn-there =
       let many = plan.as_many in
-      let insn = get-below (program_of w).insns 0 (let below = slice_get_within w.plan.ops.items 0 (variant.WordEdge edge) there in omega (arith, below, many)) in
+      let insn = slice_get_some (program_of w).insns 0 (let below = slice_get_within w.plan.ops.items 0 (variant.WordEdge edge) there in omega (arith, below, many)) in
       insn.1 ∙ ap Some (plan.each 0 (variant.WordEdge edge) insn.0 there insn.1)
       ∙ ap (λ b. Some (if edge.unicode_icase then WordBoundaryUnicodeICase b else WordBoundary b)) straight
 

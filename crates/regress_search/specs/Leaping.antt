@@ -2,8 +2,7 @@
 use Rattle.std.specs.Prelude.{◌≡◌, ◌≤◌, ◌<◌, ℕ, ◌-◌, Bool, true, false, Option, Some, None}
 use Rattle.regex_meaning.specs.CodeUnitOffsets.{IsBoundary}
 use Rattle.regress_program.specs.declared.leap.Leap.{Leap}
-use Rattle.regress_program.specs.Leaps.{leap_to_goal}
-use Rattle.regress_program.specs.Leaps.{may_read_before_goal, goal_occurs_at, GoalIsAbsentBetween, GoalIsAbsentFrom, HasBarrierBetween}
+use Rattle.regress_program.specs.Leaps.{leap_to_goal, may_read_before_goal, goal_occurs_at, GoalIsAbsentBetween, GoalIsAbsentFrom, HasBarrierBetween}
 use Rattle.regress_search.specs.TreePlanAndText.{SearchInput}
 use Rattle.regress_search.specs.declared.leaping.LeapTarget.{LeapTarget}
 

@@ -1,7 +1,6 @@
 -- Work limits that suffice for attempts in ascending order of offsets, and what an iterator with a
 -- work limit still has to yield.
-use Rattle.std.specs.Prelude.{◌≡◌, ◌+◌, ◌≤◌, ◌&&◌, ℕ, Bool, true, false, [], ◌∷◌, Option, Some, None, Result, Ok, Err, IfOk, ◌==◌, nat_le, nat_lt}
-use Rattle.std.specs.Prelude.{option_map, if◌then◌else◌}
+use Rattle.std.specs.Prelude.{◌≡◌, ◌+◌, ◌≤◌, ◌&&◌, ℕ, Bool, true, false, [], ◌∷◌, Option, Some, None, Result, Ok, Err, IfOk, ◌==◌, nat_le, nat_lt, option_map, if◌then◌else◌}
 use Rattle.regress_search.specs.declared.exec.Match.{Match}
 use Rattle.regress_search.specs.declared.exec.work_matches.WorkError.{WorkError}
 use Rattle.regress_search.specs.declared.exec.work_matches.WorkError.TheVariants.{Memory, WorkLimit}

@@ -70,12 +70,12 @@ pub record SkipsNoBoundary (text : Text) (are_bytes : Bool) (at to : ℕ) : Type
   pub boundary : are_bytes ≡ false → IsBoundary text to
 
 -- The keys of the text's code units.
-abbrev pub keys_in : SearchInput → List ℕ
-keys_in w = map (key (is_16_bit_encoding w.encoding)) (text_units_in_encoding w.encoding w.text)
+abbrev pub unit_keys_of_text : SearchInput → List ℕ
+unit_keys_of_text w = map (key (is_16_bit_encoding w.encoding)) (text_units_in_encoding w.encoding w.text)
 
 -- Whether each unit of the prefix may occur, from the offset `at` on.
 abbrev pub prefix_fits_at : SearchInput → Prefix → (at : ℕ) → Bool
-prefix_fits_at w prefix at = prefix_allows_units_at (units_allowed_by_prefix prefix) (keys_in w) at prefix.len
+prefix_fits_at w prefix at = prefix_allows_units_at (units_allowed_by_prefix prefix) (unit_keys_of_text w) at prefix.len
 
 -- The first boundary at `from` or later where the prefix may occur.
 abbrev pub IsFirstPrefixFit : SearchInput → Prefix → (from : ℕ) → Option ℕ → Type 0

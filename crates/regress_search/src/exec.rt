@@ -1,7 +1,6 @@
 //! Matches, the iterator over them, and the traits of executors.
 
-ghost use Rattle.std.specs.Prelude.{◌≡◌, ◌≤◌, ℕ, ⊤, Bool, true, false, Option, map, option_map, IfOk, IfErr, OnErr, OnSome, IfNone, if◌then◌else◌, not};
-ghost use Rattle.std.specs.Prelude.{Some, None, string_bytes};
+ghost use Rattle.std.specs.Prelude.{◌≡◌, ◌≤◌, ℕ, ⊤, Bool, true, false, Option, map, option_map, IfOk, IfErr, OnErr, OnSome, IfNone, if◌then◌else◌, not, Some, None, string_bytes};
 ghost use Rattle.std.specs.Iterator.{at_most};
 ghost use Rattle.std.specs.Option.{ForSome};
 ghost use Rattle.regex_meaning.specs.{Tree.{Tree}, Text.{Text}, CodeUnitOffsets.{HasRisingPlaceOffsets, IsBoundary, IsBoundaryOrPastEnd, is_past, offset_within, units}, SearchAnswers.{first_answer}};

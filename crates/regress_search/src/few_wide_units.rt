@@ -8,7 +8,7 @@ ghost use Rattle.regress_input.specs.TextCodeUnits.{has_bits};
 ghost use Rattle.regress_program.specs.TableKeysOfUnits.{is_16_bit_encoding};
 ghost use Rattle.regress_search.specs.MarkedOffsets.{IsFirstPassingOffset};
 ghost use Rattle.regress_search.specs.ReadsAtOffset.{input_unit_at};
-ghost use Rattle.regress_search.specs.WideUnits.{BitsIdentifyUnitsOfKey, BitsIdentifyListedKeys, unit_has_listed_key, bits_identify_key as is_told};
+ghost use Rattle.regress_search.specs.WideUnits.{BitsIdentifyUnitsOfKey, BitsIdentifyListedKeys, unit_has_listed_key, bits_identify_key as spec_bits_identify_key};
 
 use crate::class_char_and_table_lookups::unit_at_offset;
 use crate::few_units_finder::FewUnitsFinder;
@@ -112,7 +112,7 @@ fn units_of_key(key: u8) -> UnitBits
 /// ends a surrogate pair.
 #[inline(always)]
 pub(crate) fn do_bits_identify_units(few: FewUnitsFinder) -> bool
-    ensures { result ≡ list_all is_told few.units }
+    ensures { result ≡ list_all spec_bits_identify_key few.units }
 {
     let [a, b, c] = few.units;
     bits_identify_key(a) && bits_identify_key(b) && bits_identify_key(c)
@@ -121,7 +121,7 @@ pub(crate) fn do_bits_identify_units(few: FewUnitsFinder) -> bool
 // Checks whether bits identify the 16-bit units with a key, and none of them ends a surrogate pair.
 #[inline(always)]
 fn bits_identify_key(key: u8) -> bool
-    ensures { result ≡ is_told key }
+    ensures { result ≡ spec_bits_identify_key key }
 {
     key != 128 && key != 238 && key != 239
 }

@@ -2,8 +2,7 @@
 
 ghost use Rattle.std.specs.Prelude.{◌≡◌, IsTrue, IsSome, Some, option_map, nat_eq, encode_utf8_all, [], ◌∷◌};
 ghost use lib.Pointwise.{pointwise};
-ghost use Rattle.regex_meaning.specs.{Text.{is_scalar, is_word_char}, Tree.{start_of_line, end_of_line}};
-ghost use Rattle.regex_meaning.specs.{Outcomes.{is_at_word_boundary, is_line_boundary, is_some_and, exclusive_or}, CodeUnitOffsets.{IsBoundary}};
+ghost use Rattle.regex_meaning.specs.{Text.{is_scalar, is_word_char}, Tree.{start_of_line, end_of_line}, Outcomes.{is_at_word_boundary, is_line_boundary, is_some_and, exclusive_or}, CodeUnitOffsets.{IsBoundary}};
 ghost use Rattle.regex_meaning.specs.CompilationRelation.{ByteSeq, Bracket};
 ghost use Rattle.regex_pattern_front.specs.AstToSpecTree.{spec_sameness_of, tree_of};
 ghost use Rattle.regress_input.specs.CharAndByteReadsFromOffset.{end_if_matched, place};
@@ -184,7 +183,8 @@ pub fn read_backref_text<Input: InputIndexer, Dir: Direction>(
     requires from { IsBoundary (Input.text input.now) (Input.Position.offset start) }
     requires to { IsBoundary (Input.text input.now) (Input.Position.offset end) }
     ensures { let at = Input.Position.offset in end_if_matched result (at pos.new)
-        ≡ offset_after_repeated_text (Input.text input.now) Dir.FORWARD (spec_sameness_of same) (at start) (at end) (at pos.old) }
+        ≡ offset_after_repeated_text (Input.text input.now) Dir.FORWARD (spec_sameness_of same) (at start) (at end)
+        (at pos.old) }
 {
     if input.pos_to_offset(end) < input.pos_to_offset(start) {
         return true;

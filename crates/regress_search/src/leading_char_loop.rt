@@ -5,7 +5,8 @@ ghost use Rattle.std.specs.Prelude.{◌≡◌, ◌≤◌, ◌<◌, ◌+◌, ℕ,
 ghost use Rattle.regex_meaning.specs.CodeUnitOffsets.{IsBoundary, units};
 ghost use Rattle.regress_machine.specs.SearchFindsFirstOutcomeAtPlace.{TreeProgramCanSearchText};
 ghost use Rattle.regress_program.specs.{Plans.{op_as_char_loop}, LeadingCharLoops.{OnlyOpensGroups}};
-ghost use Rattle.regress_search.specs.{DeadThreads.{MatchFailureExtendsUntil, BeginsWithRepeatedChar, NextUnitDoesNotRepeatAsciiUnit}, CharLoopExits.{HasScannedClassCharsTo, ClassFitsText}, TreePlanAndText.{program_of}};
+ghost use Rattle.regress_search.specs.DeadThreads.{MatchFailureExtendsUntil, BeginsWithRepeatedChar, NextUnitDoesNotRepeatAsciiUnit};
+ghost use Rattle.regress_search.specs.{CharLoopExits.{HasScannedClassCharsTo, ClassFitsText}, TreePlanAndText.{program_of}};
 
 use crate::class_char_and_table_lookups::unit_at_offset;
 use crate::class_scan::{scan_chars_of_class_end, scan_single_unit_chars};

@@ -116,7 +116,8 @@ fn may_skip_block<W: SearchContext, Test: OffsetTest<W>>(
     at: usize,
 ) -> bool
     requires { at + 31 + Test.reach test.now ≤ units (W.searching context.now).text }
-    ensures { result ≡ true → TestFailsThroughoutRange (Test.passes_at test.now (W.searching context.now)) at (at + 32) }
+    ensures { result ≡ true → TestFailsThroughoutRange (Test.passes_at test.now (W.searching context.now)) at
+        (at + 32) }
 {
     if test.marks(context, at) == 0 {
         return true;

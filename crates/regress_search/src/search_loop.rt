@@ -1,16 +1,12 @@
 //! The search loop over the candidate starts of a text, shared by all executors.
 
 ghost use Rattle.std.specs.Prelude.{◌≡◌, ◌+◌, ◌<◌, ◌≤◌, ℕ, ⊤, Bool, true, false, IfErr, IfOk, IsSome, None, Some, Option, map, option_map, length};
-ghost use Rattle.regex_meaning.specs.{Tree.{Tree}, Text.{Text}, CodeUnitOffsets.{HasRisingPlaceOffsets, IsBoundary, IsBoundaryOrPastEnd, units}, SearchAnswers.{answer_at}};
-ghost use Rattle.regex_meaning.specs.{Outcomes.{Groups, group_range}, MatchGroupsByNumberAndName.{group_names_by_id}};
+ghost use Rattle.regex_meaning.specs.{Tree.{Tree}, Text.{Text}, CodeUnitOffsets.{HasRisingPlaceOffsets, IsBoundary, IsBoundaryOrPastEnd, units}, SearchAnswers.{answer_at}, Outcomes.{Groups, group_range}, MatchGroupsByNumberAndName.{group_names_by_id}};
 ghost use Rattle.regex_pattern_front.specs.AstToSpecTree.{tree_of};
 ghost use Rattle.regress_search.specs.MatchesAsSpecAnswers.{answer_from_parts, answer_of, range_as_pair};
-ghost use Rattle.regress_search.specs.AttemptsAndStarts.{NextStartSkipsNoMatch, NoMatchAt, end_with_groups, match_end_and_groups_at, first_filtered_start};
-ghost use Rattle.regress_search.specs.AttemptsAndStarts.{next_filtered_start};
-ghost use Rattle.regress_search.specs.AttemptsAndStarts.{next_search_offset, ticks_of_attempt_at};
+ghost use Rattle.regress_search.specs.AttemptsAndStarts.{NextStartSkipsNoMatch, NoMatchAt, end_with_groups, match_end_and_groups_at, first_filtered_start, next_filtered_start, next_search_offset, ticks_of_attempt_at};
 ghost use Rattle.regress_search.specs.OffsetRangeOfPositions.{offset_range_of_positions};
-ghost use Rattle.regress_search.specs.SearchEffects.{SpendsNeedOrReachesLimit, AllocFailureCostsAStep, TellsIfStepLimitReached};
-ghost use Rattle.regress_search.specs.SearchEffects.{cause_of_error};
+ghost use Rattle.regress_search.specs.SearchEffects.{SpendsNeedOrReachesLimit, AllocFailureCostsAStep, TellsIfStepLimitReached, cause_of_error};
 ghost use Rattle.regress_search.specs.MatchesWithinWork.{AttemptKeepsWorkEnough};
 ghost use Rattle.regress_search.specs.CostsOfSearches.{Failures, IfWorkIsCounted, SpendsExactCost, next_attempt_offset};
 
@@ -163,8 +159,8 @@ pub trait SingleAttemptExecutor {
             NextStartSkipsNoMatch (tree self.now) (text self.now) (at tried + 1) (option_map at result) }
         ensures counted { let at = Self.Input.Position.offset in IsSome (budget self.now)
             → option_map at result ≡ next_filtered_start (tree self.now) (text self.now) (at tried) }
-        ensures next_if_work_counted { let at = Self.Input.Position.offset in IfWorkIsCounted counts_work (option_map at result
-            ≡ next_attempt_offset (tree self.now) (text self.now) (at tried)) };
+        ensures next_if_work_counted { let at = Self.Input.Position.offset in IfWorkIsCounted counts_work
+            (option_map at result ≡ next_attempt_offset (tree self.now) (text self.now) (at tried)) };
 
     ghost is_text: { (it : Self) → HasRisingPlaceOffsets (text it) };
 }
@@ -213,6 +209,7 @@ fn captures_of<A: SingleAttemptExecutor>(
 }
 
 // Returns the match between two positions, with the groups of the last attempt.
+#[inline(always)]
 fn successful_match<A: SingleAttemptExecutor>(
     executor: &A,
     start: <A::Input as InputIndexer>::Position,
@@ -279,6 +276,8 @@ impl<A: SingleAttemptExecutor> MatchProducer for A {
         input.try_move_right(input.left_end(), offset)
     }
 
+    // It has two callers in the library for C, so without the attribute it is a call there.
+    #[inline(always)]
     fn next_match(
         &mut self,
         pos: <A::Input as InputIndexer>::Position,

@@ -4,13 +4,11 @@ ghost use Rattle.std.specs.Prelude.{◌≡◌, ◌<◌, true, false, IfSome};
 ghost use Rattle.regex_meaning.specs.CodeUnitOffsets.{IsBoundary, units};
 ghost use Rattle.regress_input.specs.CharAndByteReadsFromOffset.{is_byte_encoding};
 ghost use Rattle.regress_program.specs.LookbehindFilter.{FilterKeysAreLeadBytes, allows_start};
-ghost use Rattle.regress_program.specs.PrefixesAndPrefilters.{PrefixAllowsOnlyAsciiFirst, IsLiteralForcedByPrefix, IsOnlyUnitAllowedAtPosition, IsLiteralPrefilterOfPrefix};
-ghost use Rattle.regress_program.specs.PrefixesAndPrefilters.{IsPrefilterOfPrefix};
+ghost use Rattle.regress_program.specs.PrefixesAndPrefilters.{PrefixAllowsOnlyAsciiFirst, IsLiteralForcedByPrefix, IsOnlyUnitAllowedAtPosition, IsLiteralPrefilterOfPrefix, IsPrefilterOfPrefix};
 ghost use Rattle.regress_program.specs.TableKeysOfUnits.{is_16_bit_encoding};
 ghost use Rattle.regress_program.specs.Plans.{unit_table_of_set_number};
 ghost use Rattle.regress_machine.specs.FirstSetTables.{AllowedNextKeys};
-ghost use Rattle.regress_search.specs.StartSearch.{IsFirstAllowedBoundary, IsFirstBoundaryWhere, IsFirstPrefixFit, IsFirstCandidate, IsFirstByteSearchHit};
-ghost use Rattle.regress_search.specs.StartSearch.{AllowsOnlyLeadBytes, SkipsNoBoundary, IsPastFirstAllowedChar, table_of_listed_units, may_start_at};
+ghost use Rattle.regress_search.specs.StartSearch.{IsFirstAllowedBoundary, IsFirstBoundaryWhere, IsFirstPrefixFit, IsFirstCandidate, IsFirstByteSearchHit, AllowsOnlyLeadBytes, SkipsNoBoundary, IsPastFirstAllowedChar, table_of_listed_units, may_start_at};
 
 use crate::class_char_and_table_lookups::{set_allows_next_unit, unit_key_at_offset};
 use crate::few_units_finder::FewUnitsFinder;

@@ -3,7 +3,8 @@ use Rattle.std.specs.Prelude.{ℕ, List, [], ◌∷◌, map, take, length, ◌+�
 use Rattle.std.specs.List.{list_all}
 use Rattle.regex_meaning.specs.NumberListHelpers.{numbers_from}
 use Rattle.std.specs.Str.{chars}
-use Rattle.regex_meaning.specs.Tree.{Intervals, BracketContents, Quantifier, Lookaround, Node, Flags}
+use Rattle.regex_meaning.specs.Tree.{Intervals, BracketContents, Quantifier, Lookaround, Node}
+use Rattle.regex_meaning.specs.GrammarLaws.{no_flags}
 use Rattle.regex_meaning.specs.Text.{Text, utf8_text, rightwards, fold_code_point, expand_code_point}
 use Rattle.regex_meaning.specs.Outcomes.{Outcome, outcomes, bounded_repeat, Groups}
 use Rattle.regex_meaning.specs.FirstAndAllMatches.{Found, no_groups, match_list, first_match_among, matches_from}
@@ -63,10 +64,6 @@ unfolding answers_from match_list first_match_among matches_from outcomes bounde
 replaced_by count root text replacement =
     replaced text 0 (map (λ m. (m, expansion text m replacement))
     (take count (answers_from root (utf8_text text false) 0)))
-
-abbrev pub no_flags : Flags
-no_flags =
-    record { icase = false; multiline = false; dot_all = false; no_opt = false; unicode = false; unicode_sets = false }
 
 unfoldable pub needs_of : Node → Text → ℕ → List ℕ
 unfolding needs need ticked ticked_bounded_repeat start_predicate abstract_start_predicate bytes_that_pass may_start

@@ -1,10 +1,10 @@
 -- Programs, and the trees whose code they are.
 use Rattle.std.specs.Prelude.{◌≡◌, ℕ, ◌^◌, ◌-◌, List, [], ◌∷◌, None, refl, true, false}
 use Rattle.regex_meaning.specs.Tree.{goal, char, byte_set, byte_sequence, cat, end_of_cat, alt, lookaround, loop, loop_1_char_body}
-use Rattle.regex_meaning.specs.CompilationRelation.{Insn, Goal, Char, Alt, Jump, EnterLoop, LoopAgain, Loop1CharBody, ByteSeq, Lookbehind, Program, Counters, IsCode}
-use Rattle.regex_meaning.specs.CompilationRelation.{tree_contains_byte_nodes}
+use Rattle.regex_meaning.specs.CompilationRelation.{Insn, Goal, Char, Alt, Jump, EnterLoop, LoopAgain, Loop1CharBody, ByteSeq, Lookbehind, Program, Counters, IsCode, tree_contains_byte_nodes}
 use Rattle.regex_meaning.specs.StartPredicate.{start_arbitrary}
-use Rattle.test_meaning.specs.Computing.{times, look, no_flags}
+use Rattle.regex_meaning.specs.GrammarLaws.{no_flags}
+use Rattle.test_meaning.specs.Computing.{times, look}
 
 abbrev program : List Insn → Program
 program insns = record {

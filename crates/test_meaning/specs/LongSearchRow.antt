@@ -1,10 +1,8 @@
 -- A search of very many steps.
-use Rattle.std.specs.Prelude.{◌≡◌, ℕ, List, [], ◌∷◌, None, refl, true, false, Bool}
+use Rattle.std.specs.Prelude.{◌≡◌, ℕ, List, [], ◌∷◌, None, refl, true, false, Bool, zero, suc}
 use Rattle.regex_meaning.specs.Tree.{Node, goal, char, cat, end_of_cat, alt, loop}
-use Rattle.regex_meaning.specs.Text.{utf8_text}
-use Rattle.regex_meaning.specs.Text.{rightwards, fold_code_point, expand_code_point}
+use Rattle.regex_meaning.specs.Text.{utf8_text, rightwards, fold_code_point, expand_code_point}
 use Rattle.std.specs.Str.{chars}
-use Rattle.std.specs.Prelude.{zero, suc}
 use Rattle.regex_meaning.specs.Outcomes.{outcomes, bounded_repeat}
 use Rattle.regex_meaning.specs.FirstAndAllMatches.{no_groups}
 use Rattle.regex_meaning.specs.OutcomesWithStepTicks.{TickOrOutcome, tick, pair, ticked, ticked_bounded_repeat}

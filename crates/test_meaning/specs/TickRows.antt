@@ -1,7 +1,6 @@
 -- Needs and start predicates.
 use Rattle.std.specs.Prelude.{◌≡◌, [], ◌∷◌, Some, None, refl, true, false}
-use Rattle.regex_meaning.specs.Tree.{Node, goal, char, byte_set, byte_sequence, cat, end_of_cat, alt, bracket, anchor, start_of_line, capture_group}
-use Rattle.regex_meaning.specs.Tree.{lookaround, loop, loop_1_char_body}
+use Rattle.regex_meaning.specs.Tree.{Node, goal, char, byte_set, byte_sequence, cat, end_of_cat, alt, bracket, anchor, start_of_line, capture_group, lookaround, loop, loop_1_char_body}
 use Rattle.regex_meaning.specs.Text.{utf8_text}
 use Rattle.regex_meaning.specs.StartPredicate.{start_arbitrary, start_byte_set, start_byte_sequence, start_anchored}
 use Rattle.test_meaning.specs.Computing.{needs_of, start_of_tree, times, in_brackets, look}
@@ -48,67 +47,40 @@ anchored : needs_of anchored-tree (utf8_text (97 ∷ 97 ∷ []) false) 1 ≡ (1 
 unfolding needs_of
 anchored = refl
 
-abbrev past_the_end-tree : Node
-past_the_end-tree = (cat (cat (anchor start_of_line false) (cat (char 97) end_of_cat)) (cat goal end_of_cat))
-
-past_the_end : needs_of past_the_end-tree (utf8_text (97 ∷ 97 ∷ []) false) 3 ≡ (0 ∷ [])
+past_the_end : needs_of anchored-tree (utf8_text (97 ∷ 97 ∷ []) false) 3 ≡ (0 ∷ [])
 unfolding needs_of
 past_the_end = refl
 
-abbrev forked_0-tree : Node
-forked_0-tree = (cat (cat (loop (times 0 None true) 0 0 (alt (cat (char 97) end_of_cat) (cat (char 97) end_of_cat)))
+abbrev forked-tree : Node
+forked-tree = (cat (cat (loop (times 0 None true) 0 0 (alt (cat (char 97) end_of_cat) (cat (char 97) end_of_cat)))
     end_of_cat) (cat goal end_of_cat))
 
-forked_0 : needs_of forked_0-tree (utf8_text [] false) 0 ≡ (7 ∷ 7 ∷ [])
+forked_0 : needs_of forked-tree (utf8_text [] false) 0 ≡ (7 ∷ 7 ∷ [])
 unfolding needs_of
 forked_0 = refl
 
-abbrev forked_1-tree : Node
-forked_1-tree = (cat (cat (loop (times 0 None true) 0 0 (alt (cat (char 97) end_of_cat) (cat (char 97) end_of_cat)))
-    end_of_cat) (cat goal end_of_cat))
-
-forked_1 : needs_of forked_1-tree (utf8_text (97 ∷ []) false) 0 ≡ (11 ∷ 18 ∷ 18 ∷ [])
+forked_1 : needs_of forked-tree (utf8_text (97 ∷ []) false) 0 ≡ (11 ∷ 18 ∷ 18 ∷ [])
 unfolding needs_of
 forked_1 = refl
 
-abbrev forked_2-tree : Node
-forked_2-tree = (cat (cat (loop (times 0 None true) 0 0 (alt (cat (char 97) end_of_cat) (cat (char 97) end_of_cat)))
-    end_of_cat) (cat goal end_of_cat))
-
-forked_2 : needs_of forked_2-tree (utf8_text (97 ∷ 97 ∷ []) false) 0 ≡ (15 ∷ 22 ∷ 22 ∷ [])
+forked_2 : needs_of forked-tree (utf8_text (97 ∷ 97 ∷ []) false) 0 ≡ (15 ∷ 22 ∷ 22 ∷ [])
 unfolding needs_of
 forked_2 = refl
 
-abbrev forked_4-tree : Node
-forked_4-tree = (cat (cat (loop (times 0 None true) 0 0 (alt (cat (char 97) end_of_cat) (cat (char 97) end_of_cat)))
-    end_of_cat) (cat goal end_of_cat))
-
-forked_4 : needs_of forked_4-tree (utf8_text (97 ∷ 97 ∷ 97 ∷ 97 ∷ []) false) 0 ≡ (23 ∷ 30 ∷ 30 ∷ [])
+forked_4 : needs_of forked-tree (utf8_text (97 ∷ 97 ∷ 97 ∷ 97 ∷ []) false) 0 ≡ (23 ∷ 30 ∷ 30 ∷ [])
 unfolding needs_of
 forked_4 = refl
 
-abbrev forked_8-tree : Node
-forked_8-tree = (cat (cat (loop (times 0 None true) 0 0 (alt (cat (char 97) end_of_cat) (cat (char 97) end_of_cat)))
-    end_of_cat) (cat goal end_of_cat))
-
-forked_8 : needs_of forked_8-tree (utf8_text (97 ∷ 97 ∷ 97 ∷ 97 ∷ 97 ∷ 97 ∷ 97 ∷ 97 ∷ []) false) 0 ≡ (39 ∷ 46 ∷ 46 ∷ [])
+forked_8 : needs_of forked-tree (utf8_text (97 ∷ 97 ∷ 97 ∷ 97 ∷ 97 ∷ 97 ∷ 97 ∷ 97 ∷ []) false) 0 ≡ (39 ∷ 46 ∷ 46 ∷ [])
 unfolding needs_of
 forked_8 = refl
 
-abbrev forked_10-tree : Node
-forked_10-tree = (cat (cat (loop (times 0 None true) 0 0 (alt (cat (char 97) end_of_cat) (cat (char 97) end_of_cat)))
-    end_of_cat) (cat goal end_of_cat))
-
-forked_10 : needs_of forked_10-tree (utf8_text (97 ∷ 97 ∷ 97 ∷ 97 ∷ 97 ∷ 97 ∷ 97 ∷ 97 ∷ 97 ∷ 97 ∷ []) false)
+forked_10 : needs_of forked-tree (utf8_text (97 ∷ 97 ∷ 97 ∷ 97 ∷ 97 ∷ 97 ∷ 97 ∷ 97 ∷ 97 ∷ 97 ∷ []) false)
     0 ≡ (47 ∷ 54 ∷ 54 ∷ [])
 unfolding needs_of
 forked_10 = refl
 
-abbrev forked_40-tree : Node
-forked_40-tree = (cat (cat (loop (times 0 None true) 0 0 (alt (cat (char 97) end_of_cat) (cat (char 97) end_of_cat)))
-    end_of_cat) (cat goal end_of_cat))
-
-forked_40 : needs_of forked_40-tree (utf8_text (97 ∷ 97 ∷ 97 ∷ 97 ∷ 97 ∷ 97 ∷ 97 ∷ 97 ∷ 97 ∷ 97 ∷ 97 ∷ 97 ∷ 97 ∷ 97 ∷ 97
+forked_40 : needs_of forked-tree (utf8_text (97 ∷ 97 ∷ 97 ∷ 97 ∷ 97 ∷ 97 ∷ 97 ∷ 97 ∷ 97 ∷ 97 ∷ 97 ∷ 97 ∷ 97 ∷ 97 ∷ 97
     ∷ 97 ∷ 97 ∷ 97 ∷ 97 ∷ 97 ∷ 97 ∷ 97 ∷ 97 ∷ 97 ∷ 97 ∷ 97 ∷ 97 ∷ 97 ∷ 97 ∷ 97 ∷ 97 ∷ 97 ∷ 97 ∷ 97 ∷ 97 ∷ 97 ∷ 97 ∷ 97
     ∷ 97 ∷ 97 ∷ []) false) 0 ≡ (167 ∷ 174 ∷ 174 ∷ [])
 unfolding needs_of

@@ -1,7 +1,6 @@
 -- Which trees are well formed.
 use Rattle.std.specs.Prelude.{◌≡◌, [], ◌∷◌, Some, None, refl, true, false}
-use Rattle.regex_meaning.specs.Tree.{empty, goal, char, char_set, byte_set, byte_sequence, cat, end_of_cat, alt, string_set, capture_group, back_ref, exact}
-use Rattle.regex_meaning.specs.Tree.{lookaround, loop, loop_1_char_body}
+use Rattle.regex_meaning.specs.Tree.{empty, goal, char, char_set, byte_set, byte_sequence, cat, end_of_cat, alt, string_set, capture_group, back_ref, exact, lookaround, loop, loop_1_char_body}
 use Rattle.regex_meaning.specs.WellFormedTrees.{is_well_formed}
 use Rattle.std.specs.Str.{is_utf8, chars}
 use Rattle.std.specs.Char.{encode_utf8 as encode}

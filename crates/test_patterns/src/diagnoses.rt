@@ -211,7 +211,9 @@ fn refusals_are_shown(rt: HostRuntime) -> Result<(), Fail> {
         ParseError::TooManyGroups,
         ParseError::Memory
     )?;
-    assert!(rt; found.as_str() == "unclosed name at 9, too many groups, out of memory");
+    assert!(rt;
+        found.as_str() == "unclosed name at 9, too many groups (at most 65535), out of memory"
+    );
     let mut cause = String::new(rt.alloc());
     write!(cause, "{}", Cause::TooManyGroups { groups: 65536 })?;
     assert!(rt; cause.as_str() == "too many groups (65536 of at most 65535)");

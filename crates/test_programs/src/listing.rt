@@ -66,7 +66,7 @@ fn write_insn(text: &mut String, insn: &Insn) -> Result<(), AllocError> {
             greedy,
         } => {
             push_word_and_numbers(text, "Loop1CharBody", &[*min_iters, *max_iters])?;
-            text.push_str(truth(*greedy))
+            text.push_str(word_of_bool(*greedy))
         }
         Insn::BeginCaptureGroup(id) => push_word_and_numbers(
             text,
@@ -109,7 +109,7 @@ fn write_lookaround_insn(text: &mut String, insn: &Insn) -> Result<(), AllocErro
             let ahead = matches!(insn, Insn::Lookahead { .. });
             text.push_str(if ahead { "Lookahead" } else { "Lookbehind" })?;
             let groups = [*start_group as usize, *end_group as usize];
-            push_word_and_numbers(text, truth(*negate), &groups)?;
+            push_word_and_numbers(text, word_of_bool(*negate), &groups)?;
             push_word_and_numbers(text, "", &[*continuation as usize])
         }
         _ => Ok(()),
@@ -142,7 +142,7 @@ fn write_conditional_insn(text: &mut String, insn: &Insn) -> Result<(), AllocErr
 
 fn push_word_if_flag(text: &mut String, word: &str, flag: bool) -> Result<(), AllocError> {
     text.push_str(word)?;
-    text.push_str(truth(flag))
+    text.push_str(word_of_bool(flag))
 }
 
 fn word_of_sameness(same: Sameness) -> &'static str {
@@ -154,7 +154,7 @@ fn word_of_sameness(same: Sameness) -> &'static str {
     }
 }
 
-fn truth(value: bool) -> &'static str {
+fn word_of_bool(value: bool) -> &'static str {
     if value { " true" } else { " false" }
 }
 
@@ -173,7 +173,7 @@ pub(crate) fn push_word_and_numbers(
 fn write_loop_fields(text: &mut String, fields: &LoopFields) -> Result<(), AllocError> {
     let numbers = [fields.loop_id as usize, fields.min_iters, fields.max_iters];
     push_word_and_numbers(text, "EnterLoop", &numbers)?;
-    push_word_and_numbers(text, truth(fields.greedy), &[fields.exit as usize])
+    push_word_and_numbers(text, word_of_bool(fields.greedy), &[fields.exit as usize])
 }
 
 // Writes the number of bytes, and the bytes as characters.

@@ -108,7 +108,7 @@ fn match_of_two_groups(alloc: Global) -> Result<Match, AllocError> {
     Ok(Match::from_parts(1..3, captures, names))
 }
 
-fn changed(alloc: Global, mut found: Match, change: &str) -> Result<Match, AllocError> {
+fn match_after_change(alloc: Global, mut found: Match, change: &str) -> Result<Match, AllocError> {
     match change {
         "push" => found.captures.push(None)?,
         "cut" => found.captures.truncate(1),
@@ -186,7 +186,7 @@ fn write_found(
         re.find(text)?
     };
     match first {
-        Some(found) => Ok(write_answers(line, &changed(alloc, found, change)?, text)?),
+        Some(found) => Ok(write_answers(line, &match_after_change(alloc, found, change)?, text)?),
         None => Ok(line.push_str("no match")?),
     }
 }

@@ -1,7 +1,5 @@
 -- If a local tree has a match in a part of a text, it has one in the whole text.
-use Rattle.std.proofs.Common.{◌≡◌, ◌⊎◌, ℕ, zero, suc, ◌+◌, ◌-◌, ◌<◌, ◌≤◌, Bool, true, false, not, ◌&&◌, List, [], ◌∷◌, ◌++◌, length, map, Option}
-use Rattle.std.proofs.Common.{Some, None, refl, ap, sym, ◌∙◌, filter, flat_map, arith, subst, option_map, option_and_then, append-nil, append_assoc}
-use Rattle.std.proofs.Common.{get_or, lit<}
+use Rattle.std.proofs.Common.{◌≡◌, ◌⊎◌, ℕ, zero, suc, ◌+◌, ◌-◌, ◌<◌, ◌≤◌, Bool, true, false, not, ◌&&◌, List, [], ◌∷◌, ◌++◌, length, map, Option, Some, None, refl, ap, sym, ◌∙◌, filter, flat_map, arith, subst, option_map, option_and_then, append-nil, append_assoc, get_or, lit<}
 use Rattle.std.specs.Str.{chars}
 use Rattle.std.specs.Prelude.{if◌then◌else◌, nat_le, nat_lt, ◌==◌, slice_get, is_some, IsUtf8, eqb}
 use Rattle.std.specs.List.{join_with_byte, slice_split, position_or_len, before_first, after_first}
@@ -13,9 +11,7 @@ use Rattle.std.proofs.lemmas.Str.{chars-append, IsUtf8-from_ascii, IsUtf8-take, 
 use Rattle.std.proofs.lemmas.Str.Ascii.{IsAscii-cons, IsAscii-nil}
 use Rattle.std.proofs.lemmas.List.Splits.{join_with_byte-slice_split, slice_split_first, slice_split_none}
 use Rattle.std.proofs.lemmas.List.Sums.{passes_at_first, fails_before_first}
-use Rattle.regex_meaning.specs.Tree.{Quantifier, Node, empty, goal, char, char_set, byte_set, byte_sequence, cat, end_of_cat, alt, bracket}
-use Rattle.regex_meaning.specs.Tree.{string_set, match_any, match_any_except_line_terminator, anchor, word_boundary, capture_group, back_ref}
-use Rattle.regex_meaning.specs.Tree.{lookaround, loop, loop_1_char_body}
+use Rattle.regex_meaning.specs.Tree.{Quantifier, Node, empty, goal, char, char_set, byte_set, byte_sequence, cat, end_of_cat, alt, bracket, string_set, match_any, match_any_except_line_terminator, anchor, word_boundary, capture_group, back_ref, lookaround, loop, loop_1_char_body}
 use Rattle.regex_meaning.specs.Text.{Text, character_after, character_before, is_word_char, rightwards, utf8_text}
 use Rattle.regex_meaning.specs.CodeUnitOffsets.{HasRisingPlaceOffsets, place_at}
 use Rattle.regex_meaning.specs.FirstAndAllMatches.{Found, no_groups, first_outcome, match_at, first_match, first_match_among}
@@ -23,11 +19,10 @@ use Rattle.regex_meaning.specs.MatchGroupsByNumberAndName.{Answer, answer, answe
 use Rattle.regex_meaning.specs.SearchAnswers.{first_answer, next_start, answer_then_list}
 use Rattle.regex_meaning.proofs.SearchAnswersLemmas.{answers-go_on}
 use Rattle.regex_meaning.proofs.CodeUnitOffsetsLemmas.{place_at-offset, utf8_text-IsText}
-use Rattle.regex_meaning.specs.Outcomes.{Groups, Outcome, Repetition, repetition, bounded_repeat, outcomes, captured, cleared, passes_empty_check, exclusive_or}
-use Rattle.regex_meaning.specs.Outcomes.{preferred}
-use Rattle.regex_meaning.specs.Outcomes.{max_iterations, one_character, is_at_word_boundary, is_some_and}
+use Rattle.regex_meaning.specs.Outcomes.{Groups, Outcome, Repetition, repetition, bounded_repeat, outcomes, captured, with_groups_cleared, passes_empty_check, exclusive_or, preferred, max_iterations, one_character, is_at_word_boundary, is_some_and}
 use Rattle.regex_meaning.proofs.EachElementLemmas.{Each, Each-append, Each-map, Each-when, Each-flat_map, Each-image}
 use Rattle.regex_meaning.proofs.BoolLemmas.{and-left, and-right}
+use Rattle.regex_meaning.proofs.ListLemmas.{get-behind}
 use Rattle.use_grep.specs.Local.{is_local}
 
 -- ---- Lists with an element that has a property
@@ -291,10 +286,10 @@ module _ (shift : ℕ) (s t : Text) (part : IsPart shift s t) where
       (outcomes-among right (and-right (is_local left) (is_local right) h) place g g')
   outcomes-among (capture_group id name contents) h place g g' =
       map-among shift (captured id place) (captured id (shift + place)) (λ o p e. e) _ _
-      (outcomes-among contents h place (cleared id 1 g) (cleared id 1 g'))
+      (outcomes-among contents h place (with_groups_cleared id 1 g) (with_groups_cleared id 1 g'))
   outcomes-among (loop q start_group end_group loopee) h place g g' =
       rounds-among shift q _ _
-      (λ p k k'. outcomes-among loopee h p (cleared start_group (end_group - start_group) k) (cleared start_group (end_group - start_group) k'))
+      (λ p k k'. outcomes-among loopee h p (with_groups_cleared start_group (end_group - start_group) k) (with_groups_cleared start_group (end_group - start_group) k'))
       _ _ 0 place g g' (enough q.min place)
     where
       enough : (least place : ℕ) → least - 0 + (length s.characters - place) + 1 ≤ least - 0 + (length t.characters - (shift + place)) + 1
@@ -384,17 +379,8 @@ get-left [] ys i c h = cc h
 get-left (x ∷ xs) ys zero c h = h
 get-left (x ∷ xs) ys (suc i) c h = get-left xs ys i c h
 
-get-right : (xs ys : List ℕ) (i : ℕ) → slice_get (xs ++ ys) (length xs + i) ≡ slice_get ys i
-get-right [] ys i = ap (slice_get ys) (nothing i)
-  where
-    nothing : (i : ℕ) → 0 + i ≡ i
-    nothing i = omega arith
-get-right (x ∷ xs) ys i =
-    let one : length (x ∷ xs) + i ≡ suc (length xs + i) = omega arith in
-    ap (slice_get (x ∷ (xs ++ ys))) one ∙ get-right xs ys i
-
 get-at : (xs ys : List ℕ) → slice_get (xs ++ ys) (length xs) ≡ slice_get ys 0
-get-at xs ys = let none : length xs ≡ length xs + 0 = omega arith in ap (slice_get (xs ++ ys)) none ∙ get-right xs ys 0
+get-at xs ys = let none : length xs ≡ length xs + 0 = omega arith in ap (slice_get (xs ++ ys)) none ∙ get-behind xs ys 0
 
 -- The characters are empty, or the last one is a line break. In the next definition, it is the
 -- first one.
@@ -429,7 +415,7 @@ module _ (u : Bool) (t : Text) where
       → is_some_and (character_after t (length before + length line)) (is_word_char u) ≡ false
   no-word-after before line behind whole h =
       ap (λ (cs : List ℕ). is_some_and (slice_get cs (length before + length line)) (is_word_char u)) whole
-      ∙ ap (λ o. is_some_and o (is_word_char u)) (get-right before (line ++ behind) (length line) ∙ get-at line behind)
+      ∙ ap (λ o. is_some_and o (is_word_char u)) (get-behind before (line ++ behind) (length line) ∙ get-at line behind)
       ∙ first-no-word behind h
 
 -- The characters of a line are in a text, as one or several whole lines.
@@ -442,7 +428,7 @@ pub record StandsIn (line text : List ℕ) : Type 0 where
 
 part-of : (line text : List ℕ) (unicode : Bool) (st : StandsIn line text) → IsPart (length st.before) (utf8_text line unicode) (utf8_text text unicode)
 part-of line text unicode st = record {
-  same = λ place c h. rw st.whole (get-right st.before (chars line ++ st.behind) place ∙ get-left (chars line) st.behind place c h);
+  same = λ place c h. rw st.whole (get-behind st.before (chars line ++ st.behind) place ∙ get-left (chars line) st.behind place c h);
   longer = rw st.whole (
       let one = length-append st.before (chars line ++ st.behind) in
       let two = length-append (chars line) st.behind in omega (arith, one, two));

@@ -60,9 +60,5 @@ module _ (flags wanted : Flags) (same : flags ≡ wanted) (words whole_lines : B
   pub alone-is-one : IsCompiledWithSyntax ecmascript flags (chars pattern) re → (tree : Tree) × ParsesEcmaScript wanted (chars pattern) tree
   alone-is-one is = (tree_for_16_bit_units re, subst (λ f. ParsesEcmaScript f (chars pattern) (tree_for_16_bit_units re)) same is.parsed)
 
--- A framed pattern comes from one of the two options.
-pub by-words : (words whole_lines : Bool) → words ≡ true → (words || whole_lines) ≡ true
-by-words words whole_lines w = rw (w) refl
-
 pub by-lines : (words whole_lines : Bool) → words ≡ false → whole_lines ≡ true → (words || whole_lines) ≡ true
 by-lines words whole_lines w l = rw (w, l) refl

@@ -1,6 +1,5 @@
 -- Which lines are selected, and what is shown of them.
-use Rattle.std.specs.Prelude.{◌≡◌, ℕ, ◌+◌, List, [], ◌∷◌, ◌++◌, Bool, true, false, ◌||◌, IsUtf8, eqb, chars, codes, filter, is_some, map, not}
-use Rattle.std.specs.Prelude.{slice_get, slice_range, if◌then◌else◌}
+use Rattle.std.specs.Prelude.{◌≡◌, ℕ, ◌+◌, List, [], ◌∷◌, ◌++◌, Bool, true, false, ◌||◌, IsUtf8, eqb, chars, codes, filter, is_some, map, not, slice_get, slice_range, if◌then◌else◌}
 use Rattle.std.specs.List.{slice_split}
 use Rattle.regex_meaning.specs.Tree.{Tree, Flags}
 use Rattle.regex_meaning.specs.Text.{utf8_text}

@@ -10,7 +10,7 @@ ghost use Rattle.std.specs.Prelude.{◌≡◌, IfOk, IsTrue, chars};
 ghost use Rattle.regex_pattern_front.specs.AstToSpecTree.{spec_node_of};
 ghost use Rattle.regress_match.specs.PublicFlagsAsSpecFlags.{spec_flags_of};
 ghost use Rattle.regress_program.specs.LeafNodesAndOptimizableLoops.{spec_cat_of_children};
-ghost use Rattle.use_grep.specs.{Local.{is_local as is_local_tree}, Selecting.{IsLocal}};
+ghost use Rattle.use_grep.specs.{Local.{is_local as spec_is_local}, Selecting.{IsLocal}};
 
 use crate::patterns::SYNTAX;
 use regex_pattern_front::ir::Node;
@@ -44,7 +44,7 @@ fn characters(alloc: Global, text: &str) -> Result<Vec<u32>, AllocError>
 // node, so that neither many alternatives nor nested groups use much stack.
 #[cycle(is_local_node)]
 fn is_local_node(node: &Node) -> bool
-    ensures { result ≡ is_local_tree (spec_node_of node.now) }
+    ensures { result ≡ spec_is_local (spec_node_of node.now) }
 {
     let mut rest = node;
     loop {
@@ -79,7 +79,7 @@ fn is_local_node(node: &Node) -> bool
 
 #[cycle(is_local_node)]
 fn are_local(nodes: &[Node]) -> bool
-    ensures { result ≡ is_local_tree (spec_cat_of_children nodes.now) }
+    ensures { result ≡ spec_is_local (spec_cat_of_children nodes.now) }
 {
     for node in nodes {
         if !is_local_node(node) {

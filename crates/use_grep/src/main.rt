@@ -172,13 +172,13 @@ fn search_files(rt: &HostRuntime, options: &Options<'_>) -> Result<u8> {
     };
     match Search::new(rt, &query, options)?.all() {
         Ok(tally) => Ok(status(&tally, options.output == Output::Nothing)),
-        Err(why) => failed(&why),
+        Err(why) => status_of_failed_search(&why),
     }
 }
 
 // Returns the exit status of a search that failed because its output was closed. Other failures are
 // returned as errors.
-fn failed(why: &Failure) -> Result<u8> {
+fn status_of_failed_search(why: &Failure) -> Result<u8> {
     if let Failure::Write(cause) = why {
         if cause.kind() == ErrorKind::BrokenPipe {
             return Ok(BROKEN_PIPE);

@@ -190,7 +190,7 @@ impl<'s, 'a> StandardOutput<'s, 'a> {
     /// # Errors
     ///
     /// Returns an error if writing fails.
-    pub fn gap(&mut self) -> io::Result<()> {
+    pub fn print_group_separator(&mut self) -> io::Result<()> {
         self.painted(Role::Separator, "--")?;
         self.out.write_all(b"\n")
     }

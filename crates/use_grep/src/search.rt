@@ -102,7 +102,7 @@ impl<'n> Progress<'n> {
     }
 
     // Moves past a line.
-    fn pass(&mut self, number: u64, raw: &[u8]) {
+    fn move_past_line(&mut self, number: u64, raw: &[u8]) {
         self.lines = number;
         self.bytes = self
             .bytes
@@ -507,13 +507,13 @@ impl<'s, 'a> Search<'s, 'a> {
         let mut numbers = AscendingLineNumbers::new(numbers);
         self.show_kept(progress, &mut numbers)?;
         let mut selected = selected.iter();
-        let mut next = number_of(selected.next());
+        let mut next = number_of_line(selected.next());
         for line in lines {
             let number = progress.lines.saturating_add(1);
             let bytes = raw_or_text_bytes(line, raw);
             let is_selected = next == Some(number);
             if is_selected {
-                next = number_of(selected.next());
+                next = number_of_line(selected.next());
             }
             if numbers.takes(number) {
                 let row = Row {
@@ -527,7 +527,7 @@ impl<'s, 'a> Search<'s, 'a> {
             } else {
                 self.keep(progress, number, bytes, last)?;
             }
-            progress.pass(number, bytes);
+            progress.move_past_line(number, bytes);
         }
         let until = progress.latest.saturating_add(self.options.context.after);
         progress.is_over = progress.selected >= self.options.most && last >= until;
@@ -607,7 +607,7 @@ impl<'s, 'a> Search<'s, 'a> {
         }
         let follows = progress.printed > 0 && progress.printed.saturating_add(1) == number;
         if self.has_printed && !follows {
-            self.screen.gap()?;
+            self.screen.print_group_separator()?;
         }
         self.has_printed = true;
         progress.printed = number;
@@ -656,7 +656,7 @@ fn raw_or_text_bytes<'t>(line: &'t str, raw: Option<&'t [u8]>) -> &'t [u8] {
     }
 }
 
-fn number_of(line: Option<&Line<'_>>) -> Option<u64> {
+fn number_of_line(line: Option<&Line<'_>>) -> Option<u64> {
     match line {
         Some(line) => Some(line.number),
         None => None,

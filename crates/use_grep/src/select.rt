@@ -1,7 +1,6 @@
 //! Selects lines, and finds the parts of them that are shown.
 
-ghost use Rattle.std.specs.Prelude.{◌≡◌, ◌++◌, ◌∷◌, ◌+◌, ◌^◌, ◌<◌, [], IfErr, IfOk, false};
-ghost use Rattle.std.specs.Prelude.{◌-◌, IsCharBoundary, drop, filter, length, map, nat_lt, slice_range, string_bytes, take};
+ghost use Rattle.std.specs.Prelude.{◌≡◌, ◌++◌, ◌∷◌, ◌+◌, ◌^◌, ◌<◌, [], IfErr, IfOk, false, ◌-◌, IsCharBoundary, drop, filter, length, map, nat_lt, slice_range, string_bytes, take};
 ghost use Rattle.std.specs.List.{position_or_len};
 ghost use Rattle.regress_search.specs.MatchesAsSpecAnswers.{answer_of};
 ghost use Rattle.regress_match.specs.{ProgramTreesAndAnswers.{utf8_answers}, CompileErrors.{IsOutOfMemory}};

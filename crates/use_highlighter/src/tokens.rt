@@ -30,7 +30,7 @@ pub fn tokens<'a>(alloc: Global, words: &[&'a str]) -> Result<Vec<Token<'a>>> {
     let mut tokens = Vec::new(alloc);
     for word in words {
         let Some((name, pattern)) = word.split_once('=') else {
-            bail!("{word} is no NAME=PATTERN");
+            bail!("{word}: a token is NAME=PATTERN");
         };
         tokens.push(Token { name, pattern })?;
     }
@@ -57,7 +57,10 @@ pub fn compile(alloc: Global, tokens: &[Token<'_>]) -> Result<Regex>
         Err(why) => why,
     };
     match why.diagnosis() {
-        Some(told) => bail!("all tokens: {told}\n{}", told.below_text(any.as_str())),
+        Some(diagnosis) => bail!(
+            "all tokens: {diagnosis}\n{}",
+            diagnosis.below_text(any.as_str())
+        ),
         None => bail!("{why}"),
     }
 }
@@ -74,9 +77,8 @@ fn refuse_invalid_token_pattern(alloc: Global, token: &Token<'_>) -> Result<()>
     ensures { IfOk result (λ _. HasValidPattern token.now) }
 {
     let name = token.name;
-    let told = Regex::diagnose_with_syntax(alloc, token.pattern, flags(), SYNTAX)?;
-    match told {
-        Some(told) => bail!("{name}: {told}\n{}", told.below_text(token.pattern)),
+    match Regex::diagnose_with_syntax(alloc, token.pattern, flags(), SYNTAX)? {
+        Some(error) => bail!("{name}: {error}\n{}", error.below_text(token.pattern)),
         None => Ok(()),
     }
 }

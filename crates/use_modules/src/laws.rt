@@ -1,24 +1,19 @@
 //! Callers of the laws of the crates. Each function cites one or two laws, and its clause follows
 //! from them.
 
-ghost use Rattle.std.specs.Prelude.{◌≡◌, ◌==◌, ◌≤◌, ◌<◌, ◌+◌, ◌-◌, ℕ, List, [], ◌∷◌, true, false, Option, Some, None, Result, Ok, Err, IfOk, IfSome, IsAscii, chars};
-ghost use Rattle.std.specs.Prelude.{codes, if◌then◌else◌, length, option_map, slice_get, string_bytes};
+ghost use Rattle.std.specs.Prelude.{◌≡◌, ◌==◌, ◌≤◌, ◌<◌, ◌+◌, ◌-◌, ℕ, List, [], ◌∷◌, true, false, Option, Some, None, Result, Ok, Err, IfOk, IfSome, IsAscii, chars, codes, if◌then◌else◌, length, option_map, slice_get, string_bytes};
 ghost use Rattle.std.specs.List.{list_all};
-ghost use Rattle.regex_meaning.specs.{MatchGroupsByNumberAndName.{Answer, answers_from, group_names_by_id}, CodeUnitOffsets.{HasRisingPlaceOffsets, place_at}};
+ghost use Rattle.regex_meaning.specs.{MatchGroupsByNumberAndName.{Answer, answers_from, group_names_by_id}, CodeUnitOffsets.{HasRisingPlaceOffsets, place_at}, Laws.{AreAscendingDisjointAnswersFrom, Each}, Text.{Text, last_place, utf8_text}, Tree.{Flags, Tree, group_ids}};
 ghost use Rattle.regex_meaning.specs.FlagLettersAndEscaping.{flags_from_letters};
-ghost use Rattle.regex_meaning.specs.{Laws.{AreAscendingDisjointAnswersFrom, Each}, Text.{Text, last_place, utf8_text}, Tree.{Flags, Tree, group_ids}};
-ghost use Rattle.regex_meaning.specs.{Grammar.{Parses}, GroupNameScan.{scanned_names_per_capturing_group}, GrammarLaws.{literal_tree}};
+ghost use Rattle.regex_meaning.specs.{Grammar.{Parses, ParsesBy}, EcmaGrammarWithAnnexB.{ecmascript}, GroupNameScan.{scanned_names_per_capturing_group}, GrammarLaws.{literal_tree}};
 ghost use Rattle.regress_search.specs.{MatchesAsSpecAnswers.{answer_of}, RemainingAnswers.{NextYields, RemainingView}};
 ghost use Rattle.regress_search.specs.MatchesWithinWork.{RemainingAnswersAndWork};
 ghost use Rattle.regress_search.specs.CostsOfCalls.{WorkMatchesView, without_costs};
 ghost use Rattle.regress_search.specs.declared.{exec.Match.{Match as TheMatch}, exec.SearchError.{SearchError as TheError}};
 ghost use Rattle.regress_search.specs.declared.exec.work_matches.WorkError.TheVariants.{WorkLimit};
-ghost use Rattle.regress_match.specs.ProgramTreesAndAnswers.{IsCompiledWith, bytes_as_utf8_text, ascii_answers, tree_for_byte_units, tree_for_16_bit_units, utf8_answers};
+ghost use Rattle.regress_match.specs.ProgramTreesAndAnswers.{IsCompiledWith, IsCompiledWithSyntax, bytes_as_utf8_text, ascii_answers, tree_for_byte_units, tree_for_16_bit_units, utf8_answers};
 ghost use Rattle.regress_match.specs.{ExpansionsAndMatchRanges.{MatchFitsText}, SearchResults.{AreAllResultsNone, NextCallsYield, NextResult, YieldsMatches}};
-ghost use Rattle.regress_match.specs.WorkBounds.{NextCallsYieldWithinWork, IsHigherOfProgramWorkBounds, WorkLimitedNextResult, YieldsMatchesIfWorkSuffices};
-ghost use Rattle.regress_match.specs.WorkBounds.{enough_work_for_text};
-ghost use Rattle.regress_match.specs.WorkBounds.{NextCallsYieldAtTotalCost, IsNoAllocationFailure, NextCallsYieldAtCost};
-ghost use Rattle.regress_match.specs.WorkBounds.{work_per_unit_limit};
+ghost use Rattle.regress_match.specs.WorkBounds.{NextCallsYieldWithinWork, IsHigherOfProgramWorkBounds, WorkLimitedNextResult, YieldsMatchesIfWorkSuffices, enough_work_for_text, NextCallsYieldAtTotalCost, IsNoAllocationFailure, NextCallsYieldAtCost, work_per_unit_limit};
 ghost use Rattle.regress_match.specs.declared.api.regex.Regex.{Regex as TheRegex};
 
 use regex_meaning::{
@@ -29,11 +24,12 @@ use regex_meaning::{
 };
 use regress_match::api::{
     call_costs_are_work_spent, matches_lie_in_text_in_order, replacing_by_match_keeps_text,
-    searches_follow_the_pattern, searches_return_matches_in_order,
+    searches_follow_the_ecmascript_pattern, searches_follow_the_pattern,
+    searches_return_matches_in_order, searches_return_matches_of_pattern,
     searches_return_matches_within_work, work_per_unit_limit_suffices,
 };
 use regress_match::exec::{WorkLimitedProducer, match_at_text_end_is_last};
-use regress_match::{Error, Match, Regex, SearchError, escape};
+use regress_match::{Error, Match, Matches, Regex, SearchError, escape};
 use std::alloc::Global;
 
 // ---- Patterns
@@ -79,6 +75,24 @@ pub fn find_first(re: &Regex, text: &str) -> Result<Option<Match>, SearchError>
 {
     searches_follow_the_pattern();
     re.find(text)
+}
+
+/// Returns an iterator over the matches in `text` of a pattern of `Syntax::EcmaScript2018`. They
+/// are the answers of the tree that the grammar of ECMAScript gives to the pattern.
+///
+/// # Errors
+///
+/// The same as `Regex::find_iter`.
+pub fn find_each_in_ecmascript<'r, 't>(
+    re: &'r Regex,
+    text: &'t str,
+) -> Result<Matches<'r, 't>, SearchError>
+    ensures { (flags : Flags) (pattern : List ℕ) (tree : Tree) → IsCompiledWithSyntax ecmascript flags pattern re.now
+        → ParsesBy ecmascript flags pattern tree
+        → IfOk result (YieldsMatches tree (utf8_text text.now flags.unicode) 0) }
+{
+    searches_follow_the_ecmascript_pattern();
+    re.find_iter(text)
 }
 
 /// Replaces each match by itself, which does not change the text.
@@ -143,6 +157,18 @@ pub fn none_stays_after_none()
     searches_return_matches_in_order();
 }
 
+/// The first match that `next` returns is the first of the tree that the grammar of ECMAScript gives
+/// to the pattern.
+pub fn first_result_is_first_match()
+    ensures { (flags : Flags) (pattern : List ℕ) (re : TheRegex) (tree : Tree)
+        → IsCompiledWithSyntax ecmascript flags pattern re → ParsesBy ecmascript flags pattern tree
+        → (text : List ℕ) (it behind : RemainingView) (m : TheMatch)
+        → YieldsMatches (tree_for_byte_units re) (bytes_as_utf8_text re text) 0 it → NextYields it (Some (Ok m)) behind
+        → slice_get (answers_from tree.root (utf8_text text flags.unicode) 0) 0 ≡ Some (answer_of m) }
+{
+    searches_return_matches_of_pattern();
+}
+
 /// After a match that begins at the end of the text, no item follows.
 pub fn no_item_follows_match_at_text_end()
     ensures { (before behind later : RemainingView) (m : TheMatch) (item : Result TheMatch TheError)
@@ -170,7 +196,8 @@ pub fn calls_cost_at_most_the_bound<P: WorkLimitedProducer>()
         (rs : List WorkLimitedNextResult) → let bound = enough_work_for_text per_unit text in
         YieldsMatchesIfWorkSuffices tree text start per_unit bound (without_costs it)
         → NextCallsYieldAtCost P.attempt_costs P.tree P.text P.failures it rs behind → Each IsNoAllocationFailure rs
-        → (cost : ℕ) × NextCallsYieldAtTotalCost P.attempt_costs P.tree P.text P.failures it rs cost behind × (cost ≤ bound) }
+        → (cost : ℕ) × NextCallsYieldAtTotalCost P.attempt_costs P.tree P.text P.failures it rs cost behind ×
+        (cost ≤ bound) }
 {
     call_costs_are_work_spent::<P>();
 }

@@ -1,31 +1,26 @@
 -- The position of a match that a search finds.
-use Rattle.std.proofs.Common.{◌≡◌, ℕ, ◌≤◌, Bool, true, false, not, ◌&&◌, List, length, IsTrue, refl, sym, ◌∙◌, ap, nat_le}
+use Rattle.std.proofs.Common.{◌≡◌, ℕ, ◌≤◌, Bool, true, false, not, ◌&&◌, List, length, IsTrue, sym, ◌∙◌, ap, nat_le}
 use Rattle.std.specs.Prelude.{Option, Some, None, Result, IfOk, IfSome, option_map, if◌then◌else◌, slice_get}
-use Rattle.std.proofs.lemmas.Bool.{and_parts, cases_Bool}
+use Rattle.std.proofs.lemmas.Bool.{and_parts, cases_Bool, not-true}
+use Rattle.std.proofs.lemmas.Result.{IfOk-weaker}
 use Rattle.regex_meaning.specs.SearchAnswers.{answer_at, first_answer}
 use Rattle.regex_meaning.specs.Laws.{IsRangeOfWholeCharacters, is_within_pair}
 use Rattle.regex_meaning.specs.MatchGroupsByNumberAndName.{Answer}
 use Rattle.regex_meaning.specs.CodeUnitOffsets.{IsBoundary, HasRisingPlaceOffsets, units}
 use Rattle.regex_meaning.specs.Text.{Text, is_unit_boundary, ucs2_text, utf16_text}
+use Rattle.regex_meaning.specs.CodeUnits.{AreU16Units}
 use Rattle.regex_meaning.proofs.SearchAnswersLemmas.{first_answer-stands}
 use Rattle.regex_meaning.proofs.CodeUnitOffsetsLemmas.{ucs2_text-IsText, utf16_text-IsText}
-use Rattle.regex_meaning.proofs.UnitBoundaryLemmas.{AreUnits, unit_boundary-between, unit_boundary-place_at, units-utf16}
+use Rattle.regex_meaning.proofs.UnitBoundaryLemmas.{unit_boundary-between, unit_boundary-place_at, units-utf16}
 use Rattle.regex_meaning.proofs.CodeUnitLengthLemmas.{ucs2_text-units}
 use Rattle.regress_search.specs.MatchesAsSpecAnswers.{answer_of}
 use Rattle.regress_search.specs.declared.exec.Match.{Match}
-use Rattle.regress_match.specs.ProgramTreesAndAnswers.{units_as_ucs2_text, units_as_utf16_text, ucs2_answer_beginning_at, ucs2_answers, tree_for_16_bit_units}
-use Rattle.regress_match.specs.ProgramTreesAndAnswers.{utf16_answer_beginning_at}
-use Rattle.regress_match.specs.ProgramTreesAndAnswers.{utf16_answers}
+use Rattle.regress_match.specs.ProgramTreesAndAnswers.{units_as_ucs2_text, units_as_utf16_text, ucs2_answer_beginning_at, ucs2_answers, tree_for_16_bit_units, utf16_answer_beginning_at, utf16_answers}
 use Rattle.regress_match.specs.ExpansionsAndMatchRanges.{MatchRangesLieWithinUnits}
 use Rattle.regress_match.specs.declared.api.regex.Regex.{Regex}
-use Rattle.regress_match.proofs.FlagLemmas.{IfOk-map}
 use Rattle.regress_match.proofs.FirstMatchLemmas.{at-first, first-fits_units, head-first}
 use Rattle.use_regexp.specs.Exec.{IsRangeFromIndexOn, first_match, match_beginning_at_index, start_of_character_at}
 use Rattle.use_regexp.specs.declared.pattern.Pattern.{Pattern}
-
-not-true : (b : Bool) → not b ≡ true → b ≡ false
-not-true true e = cc
-not-true false e = refl
 
 -- What is known about a match that a search from a start on finds.
 pub record Stands (us : List ℕ) (u : Bool) (start : ℕ) (m : Answer) : Type 0 where
@@ -33,7 +28,7 @@ pub record Stands (us : List ℕ) (u : Bool) (start : ℕ) (m : Answer) : Type 0
   pub behind : start ≤ m.range.0
   pub whole : IsTrue u → is_within_pair us m.range.1 ≡ false
 
-module _ (re : Regex) (us : List ℕ) (small : AreUnits us) where
+module _ (re : Regex) (us : List ℕ) (small : AreU16Units us) where
   whole-end : (end : ℕ) → IsBoundary (units_as_utf16_text re us) end → is_within_pair us end ≡ false
   whole-end end at =
       let unicode = (tree_for_16_bit_units re).flags.unicode in
@@ -82,11 +77,11 @@ module _ (p : Pattern) (us : List ℕ) (index : ℕ) where
   standing : (m : Answer) → Stands us p.flags.unicode (start_of_character_at p us index) m → IsRangeFromIndexOn p us index m
   standing m s = record { fits = s.fits; behind = s.behind; whole = s.whole }
 
-  pub first-stands : AreUnits us → (m : Answer) → first_match p us index ≡ Some m → IsRangeFromIndexOn p us index m
+  pub first-stands : AreU16Units us → (m : Answer) → first_match p us index ≡ Some m → IsRangeFromIndexOn p us index m
   unfolding first_match
   first-stands small m e = standing m (first-found p.re us small p.flags.unicode (start_of_character_at p us index) m e)
 
-  pub here-stands : AreUnits us → (m : Answer) → match_beginning_at_index p us index ≡ Some m → IsRangeFromIndexOn p us index m
+  pub here-stands : AreU16Units us → (m : Answer) → match_beginning_at_index p us index ≡ Some m → IsRangeFromIndexOn p us index m
   unfolding match_beginning_at_index
   here-stands small m e = standing m (here-found p.re us small p.flags.unicode (start_of_character_at p us index) m e)
 
@@ -103,10 +98,10 @@ module _ (p : Pattern) (us : List ℕ) (index start : ℕ) (s : start ≡ start_
   unfolding first_match
   first-ok u answers e a h =
       let same : answers ≡ list_by p.flags.unicode (start_of_character_at p us index) = a ∙ ap (list_by u) s ∙ ap (λ b. list_by b (start_of_character_at p us index)) (sym e) in
-      IfOk-map r (λ m. option_map answer_of m ≡ slice_get answers 0) _ (λ m g. g ∙ ap (λ (ms : List Answer). slice_get ms 0) same) h
+      IfOk-weaker r (λ m. option_map answer_of m ≡ slice_get answers 0) _ (λ m g. g ∙ ap (λ (ms : List Answer). slice_get ms 0) same) h
 
   pub here-ok : (u : Bool) → p.flags.unicode ≡ u → IfOk r (λ m. option_map answer_of m ≡ here_by u start) → IfOk r (λ m. option_map answer_of m ≡ match_beginning_at_index p us index)
   unfolding match_beginning_at_index
   here-ok u e h =
       let same : here_by u start ≡ here_by p.flags.unicode (start_of_character_at p us index) = ap (here_by u) s ∙ ap (λ b. here_by b (start_of_character_at p us index)) (sym e) in
-      IfOk-map r (λ m. option_map answer_of m ≡ here_by u start) _ (λ m g. g ∙ same) h
+      IfOk-weaker r (λ m. option_map answer_of m ≡ here_by u start) _ (λ m g. g ∙ same) h

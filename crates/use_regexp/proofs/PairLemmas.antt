@@ -1,21 +1,18 @@
 -- Indices within a surrogate pair, and indices after a character.
-use Rattle.std.proofs.Common.{◌≡◌, ℕ, zero, suc, ◌+◌, ◌-◌, ◌<◌, ◌≤◌, ◌⊎◌, inl, inr, Bool, true, false, not, ◌&&◌, List, [], ◌∷◌, length, IsTrue}
-use Rattle.std.proofs.Common.{refl, sym, subst, ap, ap₂, ◌∙◌, arith, add-one, eqb-true, le-leb, nat_eq, slice_index}
+use Rattle.std.proofs.Common.{◌≡◌, ℕ, zero, suc, ◌+◌, ◌-◌, ◌<◌, ◌≤◌, ◌⊎◌, inl, inr, Bool, true, false, not, ◌&&◌, List, [], ◌∷◌, length, IsTrue, refl, sym, subst, ap, ap₂, ◌∙◌, arith, add-one, eqb-true, le-leb, nat_eq, slice_index}
 use Rattle.std.specs.Prelude.{if◌then◌else◌}
 use Rattle.std.proofs.Math.Bool.{and-false}
 use Rattle.std.proofs.lemmas.Bool.{and_parts, cases_Bool, cases_lt, eqb-false, false_from_ne_true}
 use Rattle.regex_meaning.specs.Laws.{is_within_pair}
 use Rattle.regex_meaning.specs.Text.{is_high_surrogate, is_low_surrogate, is_unit_boundary}
-use Rattle.regex_meaning.proofs.UnitBoundaryLemmas.{AreUnits, low-not_high, unit_boundary-between}
+use Rattle.regex_meaning.specs.CodeUnits.{AreU16Units}
+use Rattle.regex_meaning.proofs.UnitBoundaryLemmas.{low-not_high, unit_boundary-between}
+use Rattle.regex_meaning.proofs.BoolLemmas.{not-both}
 use Rattle.use_regexp.specs.Units.{advanced, character_start}
-
--- A test has one result.
-true_not_false : (b : Bool) → b ≡ true → b ≡ false → ⊥
-true_not_false b t f = cc
 
 -- No unit is both a high and a low surrogate.
 high-not_low : (v : ℕ) → is_high_surrogate v ≡ true → is_low_surrogate v ≡ false
-high-not_low v high = false_from_ne_true (is_low_surrogate v) (λ low. true_not_false (is_high_surrogate v) high (low-not_high v low))
+high-not_low v high = false_from_ne_true (is_low_surrogate v) (λ low. not-both (is_high_surrogate v) high (low-not_high v low))
 
 module _ (us : List ℕ) where
   -- No index past the end is within a pair.
@@ -31,7 +28,7 @@ module _ (us : List ℕ) where
   inside : (i : ℕ) → is_within_pair us i ≡ true → i < length us
   inside i cut = elim (cases_lt i (length us)) [
     | inl less ↦ less
-    | inr past ↦ absurd (true_not_false (is_within_pair us i) cut (past-end i past))
+    | inr past ↦ absurd (not-both (is_within_pair us i) cut (past-end i past))
   ]
 
   -- The index before one within a pair is not within a pair.
@@ -76,7 +73,7 @@ module _ (u : Bool) (us : List ℕ) where
   -- If an index is not within a pair, its character begins there.
   pub start-whole : (i : ℕ) → (u ≡ true → is_within_pair us i ≡ false) → character_start u us i ≡ i
   start-whole i whole = elim (start-cases i) [
-    | inl cut ↦ let parts = and_parts u (is_within_pair us i) cut.0 in absurd (true_not_false (is_within_pair us i) parts.1 (whole parts.0))
+    | inl cut ↦ let parts = and_parts u (is_within_pair us i) cut.0 in absurd (not-both (is_within_pair us i) parts.1 (whole parts.0))
     | inr same ↦ same.1
   ]
 
@@ -88,7 +85,7 @@ module _ (u : Bool) (us : List ℕ) where
       | inr same ↦ omega (arith, same.1)
     ])
     | inr single ↦ rw (single.1) (elim (start-cases (i + 1)) [
-      | inl cut ↦ absurd (true_not_false (u && is_within_pair us (suc i)) (ap (λ n. u && is_within_pair us n) (sym (add-one i)) ∙ cut.0) single.0)
+      | inl cut ↦ absurd (not-both (u && is_within_pair us (suc i)) (ap (λ n. u && is_within_pair us n) (sym (add-one i)) ∙ cut.0) single.0)
       | inr same ↦ omega (arith, same.1)
     ])
   ]
@@ -108,7 +105,7 @@ module _ (u : Bool) (us : List ℕ) where
               let at : last ≡ suc end = omega (arith, cut.1) in
               elim (advanced-cases end) [
                 | inl pair ↦ omega (arith, pair.1)
-                | inr single ↦ absurd (true_not_false (u && is_within_pair us (suc end)) (ap (λ n. u && is_within_pair us n) (sym at) ∙ cut.0) single.0)
+                | inr single ↦ absurd (not-both (u && is_within_pair us (suc end)) (ap (λ n. u && is_within_pair us n) (sym at) ∙ cut.0) single.0)
               ]
           | inr le ↦ past le
         ]
@@ -142,7 +139,7 @@ next-behind u us start end whole = elim (cases_Bool (nat_eq start end)) [
 ]
 
 -- A search may begin where the character at an index begins.
-start-boundary : (us : List ℕ) → AreUnits us → (i : ℕ)
+start-boundary : (us : List ℕ) → AreU16Units us → (i : ℕ)
     → IsTrue (is_unit_boundary us (character_start true us i)) ⊎ (length us < character_start true us i)
 start-boundary us small i = elim (start-cases true us i) [
   | inl cut ↦ rw (cut.1) (inl (boundary (i - 1) (let less = inside us i cut.0 in omega arith) (whole-before us i cut.0)))
@@ -156,7 +153,7 @@ start-boundary us small i = elim (start-cases true us i) [
     boundary i le whole = unit_boundary-between us i small ∙ ap₂ (λ a b. a && not b) (le-leb i (length us) le) whole
 
 -- The same for a number that is equal to this position.
-pub may-begin : (u : Bool) (us : List ℕ) (i start : ℕ) → AreUnits us → start ≡ character_start u us i → u ≡ true
+pub may-begin : (u : Bool) (us : List ℕ) (i start : ℕ) → AreU16Units us → start ≡ character_start u us i → u ≡ true
     → IsTrue (is_unit_boundary us start) ⊎ (length us < start)
 may-begin u us i start small s e =
     subst (λ at. IsTrue (is_unit_boundary us at) ⊎ (length us < at)) (sym (s ∙ ap (λ u. character_start u us i) e)) (start-boundary us small i)

@@ -1,18 +1,16 @@
 -- Successive separators, and the pieces between them.
-use Rattle.std.proofs.Common.{◌≡◌, ℕ, ◌+◌, ◌-◌, ◌<◌, ◌≤◌, ◌⊎◌, inl, inr, Bool, true, false, List, [], ◌∷◌, ◌++◌, length, map, take, nat_eq, nat_lt}
-use Rattle.std.proofs.Common.{refl, sym, subst, ap, ◌∙◌, arith, append_assoc, append-nil, length-append}
+use Rattle.std.proofs.Common.{◌≡◌, ℕ, ◌+◌, ◌-◌, ◌<◌, ◌≤◌, ◌⊎◌, inl, inr, Bool, true, false, List, [], ◌∷◌, ◌++◌, length, map, take, nat_eq, nat_lt, refl, sym, subst, ap, ◌∙◌, arith, append_assoc, append-nil, length-append}
 use Rattle.std.specs.Bool.{MatchBool}
 use Rattle.std.specs.Prelude.{Option, Some, None, IfSome, option_map, if◌then◌else◌}
 use Rattle.std.proofs.lemmas.List.{length-map}
 use Rattle.std.proofs.lemmas.Bool.{cases_lt, eqb-false}
 use Rattle.regex_meaning.specs.MatchGroupsByNumberAndName.{Answer}
 use Rattle.regex_meaning.specs.Outcomes.{Groups}
-use Rattle.regex_meaning.proofs.UnitBoundaryLemmas.{AreUnits}
+use Rattle.regex_meaning.specs.CodeUnits.{AreU16Units}
 use Rattle.regress_search.specs.MatchesAsSpecAnswers.{answer_of}
 use Rattle.regress_search.specs.declared.exec.Match.{Match}
 use Rattle.use_regexp.specs.Exec.{IsRangeFromIndexOn, first_match}
-use Rattle.use_regexp.specs.Split.{ArePieces, AreSeparators, CutsNoSurrogatePair, IsSeparator, IsSplit, before_end, chosen, has_match_ending_at, pieces, pieces_of_empty_text}
-use Rattle.use_regexp.specs.Split.{separator}
+use Rattle.use_regexp.specs.Split.{ArePieces, AreSeparators, CutsNoSurrogatePair, IsSeparator, IsSplit, match_if_before_end, chosen, has_match_ending_at, pieces, pieces_of_empty_text, separator}
 use Rattle.use_regexp.specs.Units.{advanced}
 use Rattle.use_regexp.specs.declared.pattern.Pattern.{Pattern}
 use Rattle.use_regexp.proofs.FoundStands.{first-stands}
@@ -21,7 +19,7 @@ use Rattle.use_regexp.proofs.PairLemmas.{advanced-starts, start-whole}
 module _ (p : Pattern) (us : List ℕ) where
   -- ---- The position of a separator
 
-  before-is : (chosen : Option Answer) (m : Answer) → before_end us chosen ≡ Some m → chosen ≡ Some m
+  before-is : (chosen : Option Answer) (m : Answer) → match_if_before_end us chosen ≡ Some m → chosen ≡ Some m
   before-is None m e = cc
   before-is (Some n) m e = by (nat_lt n.range.0 (length us)) e
     where
@@ -29,7 +27,7 @@ module _ (p : Pattern) (us : List ℕ) where
       by true e = e
       by false e = cc
 
-  module _ (small : AreUnits us) (from : ℕ) where
+  module _ (small : AreU16Units us) (from : ℕ) where
     of-next : (m : Answer) → first_match p us (advanced p.flags.unicode us from) ≡ Some m → IsSeparator p us from m
     of-next m e =
         let s = first-stands p us (advanced p.flags.unicode us from) small m e in
@@ -73,10 +71,10 @@ module _ (p : Pattern) (us : List ℕ) where
     separator-stands-if (Some f) e = separator-stands (answer_of f) (sym e)
 
   -- The result of a call is the next separator.
-  pub separator-is : (from : ℕ) (first taken got : Option Answer) → first ≡ first_match p us from → taken ≡ chosen p us from first → got ≡ before_end us taken
+  pub separator-is : (from : ℕ) (first taken got : Option Answer) → first ≡ first_match p us from → taken ≡ chosen p us from first → got ≡ match_if_before_end us taken
       → got ≡ separator p us from
   unfolding separator
-  separator-is from first taken got f t g = g ∙ ap (before_end us) (t ∙ ap (chosen p us from) f)
+  separator-is from first taken got f t g = g ∙ ap (match_if_before_end us) (t ∙ ap (chosen p us from) f)
 
   -- ---- The pieces so far
 

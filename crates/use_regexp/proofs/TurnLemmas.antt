@@ -1,16 +1,15 @@
 -- Matches that are found one after another.
-use Rattle.std.proofs.Common.{◌≡◌, ℕ, ◌+◌, ◌-◌, ◌<◌, ◌≤◌, Bool, true, false, ◌||◌, List, [], ◌∷◌, ◌++◌, length, map, refl, sym, subst, ap, ◌∙◌}
-use Rattle.std.proofs.Common.{arith, append_assoc, append-nil}
+use Rattle.std.proofs.Common.{◌≡◌, ℕ, ◌+◌, ◌-◌, ◌<◌, ◌≤◌, Bool, true, false, ◌||◌, List, [], ◌∷◌, ◌++◌, length, map, refl, sym, subst, ap, ◌∙◌, arith, append_assoc, append-nil}
 use Rattle.std.specs.Prelude.{Option, Some, None, Result, IfOk, IfSome, option_map, if◌then◌else◌, slice_get}
 use Rattle.std.specs.Bool.{MatchBool}
 use Rattle.std.specs.Borrow.{Bor}
 use Rattle.std.specs.Option.{option_copied, option_to_list}
 use Rattle.std.proofs.lemmas.List.{map-append}
+use Rattle.std.proofs.lemmas.Result.{IfOk-weaker}
 use Rattle.regex_meaning.specs.MatchGroupsByNumberAndName.{Answer}
-use Rattle.regex_meaning.proofs.UnitBoundaryLemmas.{AreUnits}
+use Rattle.regex_meaning.specs.CodeUnits.{AreU16Units}
 use Rattle.regress_search.specs.MatchesAsSpecAnswers.{answer_of}
 use Rattle.regress_search.specs.declared.exec.Match.{Match}
-use Rattle.regress_match.proofs.FlagLemmas.{IfOk-map}
 use Rattle.use_regexp.specs.Exec.{IsRangeFromIndexOn, first_match, found, last_index_after_search, match_beginning_at_index, search_index}
 use Rattle.use_regexp.specs.Loops.{AreSuccessiveSearchResults, AreMatchesOfCall, last_index_after_matches, index_after_match}
 use Rattle.use_regexp.specs.Replace.{AreRangesInOrderFrom}
@@ -33,7 +32,7 @@ module _ (p : Pattern) (us : List ℕ) (index last : ℕ) (same : index ≡ sear
       → IfOk r (λ m. option_map answer_of m ≡ found p us last)
   found-ok sticky e h =
       let same_answer : found_by sticky index ≡ found p us last = ap (found_by sticky) same ∙ ap (λ b. found_by b (search_index p last)) (sym e) in
-      IfOk-map r (λ m. option_map answer_of m ≡ found_by sticky index) _ (λ m g. g ∙ same_answer) h
+      IfOk-weaker r (λ m. option_map answer_of m ≡ found_by sticky index) _ (λ m g. g ∙ same_answer) h
 
 -- The match behind a reference.
 pub copied-answers : (r : Option (Bor Match)) (m : Option Match) → option_copied r ≡ m → option_map (λ x. answer_of x.now) r ≡ option_map answer_of m
@@ -72,7 +71,7 @@ module _ (p : Pattern) (us : List ℕ) where
 
   -- ---- Positions of the matches
 
-  module _ (small : AreUnits us) where
+  module _ (small : AreU16Units us) where
     pub found-stands : (last : ℕ) (m : Answer) → found p us last ≡ Some m → IsRangeFromIndexOn p us (search_index p last) m
     found-stands last m e = by p.flags.sticky e
       where
@@ -83,7 +82,7 @@ module _ (p : Pattern) (us : List ℕ) where
     -- The result of a call.
     pub found-stands-ok : {E : Type 0} (last : ℕ) (r : Result (Option Match) E) → IfOk r (λ m. option_map answer_of m ≡ found p us last)
         → IfOk r (λ m. IfSome m (λ f. IsRangeFromIndexOn p us (search_index p last) (answer_of f)))
-    found-stands-ok last r h = IfOk-map r _ _ of h
+    found-stands-ok last r h = IfOk-weaker r _ _ of h
       where
         of : (m : Option Match) → option_map answer_of m ≡ found p us last → IfSome m (λ f. IsRangeFromIndexOn p us (search_index p last) (answer_of f))
         of None e = tt

@@ -1,6 +1,7 @@
 -- The source of a regular expression between slashes (21.2.3.2.4, EscapeRegExpPattern).
 use Rattle.std.specs.Prelude.{ℕ, Bool, true, false, not, ◌&&◌, ◌||◌, List, [], ◌∷◌, ◌++◌, codes, if◌then◌else◌, ◌==◌}
 use Rattle.regex_meaning.specs.Text.{is_line_terminator}
+use Rattle.regex_meaning.specs.GroupOpeningScanWithoutParsing.{in_class_after}
 use Rattle.use_regexp.specs.Flags.{letters_of}
 use Rattle.use_regexp.specs.declared.flags.Flags.{Flags}
 
@@ -14,10 +15,6 @@ escaped_unit_after_backslash c =
 abbrev pub needs_backslash : (in_class : Bool) → ℕ → Bool
 needs_backslash in_class c = is_line_terminator c || (c == 47 && not in_class)
 
--- Whether a class is open after a unit that does not follow a backslash.
-abbrev pub is_class_open_after : (in_class : Bool) → ℕ → Bool
-is_class_open_after in_class c = if c == 91 then true else if c == 93 then false else in_class
-
 -- The escaped units. `escaped` says whether a backslash precedes them, and `in_class` whether a
 -- class is open.
 abbrev pub escaped_from : (escaped in_class : Bool) → List ℕ → List ℕ
@@ -25,7 +22,7 @@ escaped_from escaped in_class [] = []
 escaped_from true in_class (c ∷ cs) = escaped_unit_after_backslash c ++ escaped_from false in_class cs
 escaped_from false in_class (c ∷ cs) =
     (if needs_backslash in_class c then 92 ∷ escaped_unit_after_backslash c else c ∷ [])
-    ++ escaped_from (c == 92) (is_class_open_after in_class c) cs
+    ++ escaped_from (c == 92) (in_class_after in_class c) cs
 
 -- The escaped source of a pattern. The empty pattern has the source `(?:)`.
 abbrev pub escaped_source : List ℕ → List ℕ

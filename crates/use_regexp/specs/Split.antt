@@ -1,6 +1,5 @@
 -- Splitting of texts at matches (21.2.5.12, RegExp.prototype[@@split]).
-use Rattle.std.specs.Prelude.{◌≡◌, ◌⊎◌, ◌<◌, ◌≤◌, ℕ, ◌+◌, ◌-◌, Bool, false, IsTrue, List, [], ◌∷◌, ◌++◌, length, take, Option, Some, None, is_some}
-use Rattle.std.specs.Prelude.{option_and_then, if◌then◌else◌, nat_lt, ◌==◌}
+use Rattle.std.specs.Prelude.{◌≡◌, ◌⊎◌, ◌<◌, ◌≤◌, ℕ, ◌+◌, ◌-◌, Bool, false, IsTrue, List, [], ◌∷◌, ◌++◌, length, take, Option, Some, None, is_some, option_and_then, if◌then◌else◌, nat_lt, ◌==◌}
 use Rattle.std.specs.Bool.{MatchBool}
 use Rattle.std.specs.Option.{option_map_or}
 use Rattle.regex_meaning.specs.Laws.{is_within_pair}
@@ -16,8 +15,8 @@ abbrev pub has_match_ending_at : (index : ℕ) → Option Answer → Bool
 has_match_ending_at index m = option_map_or (λ (a : Answer). a.range.1 == index) m false
 
 -- The match, if it begins before the end of the text. Otherwise `None`.
-abbrev pub before_end : (text : List ℕ) → Option Answer → Option Answer
-before_end text m = option_and_then (λ (a : Answer). if nat_lt a.range.0 (length text) then Some a else None) m
+abbrev pub match_if_before_end : (text : List ℕ) → Option Answer → Option Answer
+match_if_before_end text m = option_and_then (λ (a : Answer). if nat_lt a.range.0 (length text) then Some a else None) m
 
 module _ (p : Pattern) (text : List ℕ) where
   -- With `u`, the index is not within a surrogate pair.
@@ -35,7 +34,7 @@ module _ (p : Pattern) (text : List ℕ) where
   -- this match.
   unfoldable pub separator : (from : ℕ) → Option Answer
   separator from =
-      before_end text (chosen from (first_match p text from))
+      match_if_before_end text (chosen from (first_match p text from))
 
   -- These are the successive separators after the start of a piece. After them there is no other,
   -- or there are as many pieces as the limit allows. A separator adds one piece, and one for each

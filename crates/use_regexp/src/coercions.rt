@@ -1,7 +1,7 @@
 //! Converts a script's numbers to the values that the calls take.
 
 ghost use Rattle.std.specs.Prelude.{◌≡◌};
-ghost use Rattle.use_regexp.specs.Coercions.{length_of, size_modulo_2_32 as size_of, uint32_from_number};
+ghost use Rattle.use_regexp.specs.Coercions.{length_of, size_modulo_2_32 as spec_size_modulo_2_32, uint32_from_number};
 
 use num_traits::ToPrimitive;
 use std::num::saturating_f64_to_u64;
@@ -36,7 +36,7 @@ pub fn to_uint32(number: f64) -> u32
 
 // Returns the whole part of the number's absolute value, modulo 2^32.
 fn size_modulo_2_32(number: f64) -> u32
-    ensures { result ≡ size_of number }
+    ensures { result ≡ spec_size_modulo_2_32 number }
 {
     match number.abs().to_u128() {
         Some(whole) => (whole % 0x1_0000_0000) as u32,

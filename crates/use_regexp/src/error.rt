@@ -10,7 +10,7 @@ use std::alloc::AllocError;
 #[derive(Clone, Copy, Debug, PartialEq, Eq, thiserror::Error)]
 pub enum RegExpError {
     /// A letter is not the letter of a flag, or occurs twice.
-    #[error("a flag is unknown or occurs twice")]
+    #[error("a flag is unknown or occurs twice (flags are d, g, i, m, s, u and y)")]
     Flags,
     /// The pattern has a syntax error or exceeds a limit.
     #[error("{0}")]

@@ -2,7 +2,7 @@
 
 ghost use Rattle.std.specs.Prelude.{◌≡◌, ◌++◌, IfOk};
 ghost use Rattle.regex_meaning.specs.FlagLettersAndEscaping.{letter_if_flag_set};
-ghost use Rattle.use_regexp.specs.Letters.{are_flags as are_flags_of};
+ghost use Rattle.use_regexp.specs.Letters.{are_flags as spec_are_flags};
 
 use regress_match::Flags as PatternFlags;
 use std::alloc::{AllocError, Global};
@@ -32,8 +32,8 @@ pub struct Flags {
 }
 
 impl Flags {
-    ghost use Rattle.use_regexp.specs.Flags.{flags_of, uses_last_index as keeps, letters_of, tree_flags};
-    ghost use Rattle.regress_match.specs.PublicFlagsAsSpecFlags.{spec_flags_of as engine_flags};
+    ghost use Rattle.use_regexp.specs.Flags.{flags_of, uses_last_index as spec_uses_last_index, letters_of, tree_flags};
+    ghost use Rattle.regress_match.specs.PublicFlagsAsSpecFlags.{spec_flags_of};
 
     /// Returns the flags with these letters, in any order. Returns `None` if a letter is not the
     /// letter of a flag or occurs twice (21.2.3.2.2).
@@ -77,14 +77,14 @@ impl Flags {
 
     // Checks whether a search begins at `lastIndex` and sets it.
     pub(crate) fn uses_last_index(self) -> bool
-        ensures { result ≡ keeps self }
+        ensures { result ≡ spec_uses_last_index self }
     {
         self.global || self.sticky
     }
 
     // Returns the flags with which the pattern is compiled.
     pub(crate) fn for_pattern(self) -> PatternFlags
-        ensures { engine_flags result ≡ tree_flags self }
+        ensures { spec_flags_of result ≡ tree_flags self }
     {
         PatternFlags {
             icase: self.ignore_case,
@@ -109,7 +109,7 @@ fn push_if(letters: &mut Vec<u16>, set: bool, letter: u16) -> Result<(), AllocEr
 
 // Checks whether each letter is the letter of a flag, and none occurs twice.
 fn are_flags(letters: &[u16]) -> bool
-    ensures { result ≡ are_flags_of letters.now }
+    ensures { result ≡ spec_are_flags letters.now }
 {
     let mut rest = letters;
     while let Some((letter, behind)) = rest.split_first() {

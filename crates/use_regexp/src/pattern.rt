@@ -23,7 +23,7 @@ pub struct Pattern {
 
 impl Pattern {
     ghost use Rattle.use_regexp.specs.Compiled.{IsPatternOf};
-    ghost use Rattle.use_regexp.specs.Exec.{IsRangeFromIndexOn, first_match, found, last_index_after_search, match_beginning_at_index, search_index as search_index_of};
+    ghost use Rattle.use_regexp.specs.Exec.{IsRangeFromIndexOn, first_match, found, last_index_after_search, match_beginning_at_index, search_index as spec_search_index};
     ghost use Rattle.use_regexp.specs.Loops.{AreSuccessiveSearchResults, AreMatchesOfCall, index_after_match};
 
     /// Compiles a pattern of the whole language, with annex B, with the flags of these letters
@@ -106,7 +106,7 @@ impl Pattern {
     pub fn find(&self, text: &[u16], last_index: usize) -> Result<Option<Match>, SearchError>
         ensures found { IfOk result (λ m. option_map answer_of m ≡ found self.now text.now last_index) }
         ensures stands { IfOk result (λ m. IfSome m (λ f.
-            IsRangeFromIndexOn self.now text.now (search_index_of self.now last_index) (answer_of f))) }
+            IsRangeFromIndexOn self.now text.now (spec_search_index self.now last_index) (answer_of f))) }
         ensures refused { IfErr result IsOutOfMemory }
     {
         let index = self.search_index(last_index);
@@ -120,7 +120,7 @@ impl Pattern {
     // Returns the index at which a search begins. It is `lastIndex` with `g` or `y`, and otherwise
     // 0.
     fn search_index(&self, last_index: usize) -> usize
-        ensures { result ≡ search_index_of self.now last_index }
+        ensures { result ≡ spec_search_index self.now last_index }
     {
         if self.flags.uses_last_index() {
             last_index
@@ -196,7 +196,7 @@ impl Pattern {
             return self.all_matches_from_index(alloc, text, first);
         }
         let found = self.find(text, last_index)?;
-        let matches = listed(alloc, found)?;
+        let matches = match_as_list(alloc, found)?;
         Ok(matches)
     }
 
@@ -222,7 +222,7 @@ fn first<P: MatchProducer + Drop>(mut matches: Matches<P>) -> Result<Option<Matc
 }
 
 // Returns the match as a list, which is empty if there is none.
-fn listed(alloc: Global, found: Option<Match>) -> Result<Vec<Match>, AllocError>
+fn match_as_list(alloc: Global, found: Option<Match>) -> Result<Vec<Match>, AllocError>
     ensures { IfOk result (λ v. map answer_of v.items ≡ option_to_list (option_map answer_of found)) }
 {
     let mut matches = Vec::new(alloc);

@@ -169,7 +169,8 @@ impl RegExp {
     // Sets `lastIndex` to its value after these matches.
     pub(crate) fn set_last_index_after(&mut self, matches: &[Match])
         ensures last { self.new.last_index ≡ (if self.old.pattern.flags.global then 0
-            else last_index_after_search self.old.pattern self.old.last_index (slice_get (map answer_of matches.now) 0)) }
+            else last_index_after_search self.old.pattern self.old.last_index
+            (slice_get (map answer_of matches.now) 0)) }
         ensures same { self.new.pattern ≡ self.old.pattern }
     {
         let last_index = self
@@ -187,7 +188,8 @@ impl RegExp {
     /// `Memory` if an allocation fails.
     pub fn match_all(&self, alloc: Global, text: &[u16]) -> Result<Vec<Match>, SearchError>
         ensures taken { IfOk result (λ v.
-            AreMatchesOfCall self.now.pattern text.now self.now.last_index self.now.last_index (map answer_of v.items)) }
+            AreMatchesOfCall self.now.pattern text.now self.now.last_index self.now.last_index
+            (map answer_of v.items)) }
         ensures refused { IfErr result IsOutOfMemory }
     {
         self.pattern

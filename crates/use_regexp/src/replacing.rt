@@ -4,8 +4,7 @@ ghost use Rattle.std.specs.Prelude.{◌≡◌, ◌++◌, ◌≤◌, IfErr, IfOk,
 ghost use Rattle.std.specs.Result.{IsOkAnd};
 ghost use Rattle.regex_meaning.specs.Replace.{replaced};
 ghost use Rattle.regress_search.specs.MatchesAsSpecAnswers.{answer_of};
-ghost use Rattle.regress_match.specs.{ClosureReplacement.{IsClosureErrorOrOutOfMemory}, StringClosures.{ClosureCanBeCalled}};
-ghost use Rattle.regress_match.specs.{CompileErrors.{IsOutOfMemory}, ExpansionsAndMatchRanges.{MatchRangesLieWithinUnits}};
+ghost use Rattle.regress_match.specs.{ClosureReplacement.{IsClosureErrorOrOutOfMemory}, StringClosures.{ClosureCanBeCalled}, CompileErrors.{IsOutOfMemory}, ExpansionsAndMatchRanges.{MatchRangesLieWithinUnits}};
 ghost use Rattle.use_regexp.specs.Loops.{SetsLastIndexAfterMatches};
 ghost use Rattle.use_regexp.specs.Replace.{ClosureAcceptsMatches, IsPossibleErrorForMatches, IsPossibleReplaceError, IsReplaced, IsReplacedBy, IsReplacedWith, AreRangesInOrderFrom, substituted};
 
@@ -67,7 +66,8 @@ impl RegExp {
             IsReplacedWith (F.post with) self.old.pattern text.now self.old.last_index v.items) }
         ensures last { IfOk result (λ _. SetsLastIndexAfterMatches self.old self.new text.now) }
         ensures same { self.new.pattern ≡ self.old.pattern }
-        ensures refused { IfErr result (IsPossibleReplaceError (F.post with) self.old.pattern text.now self.old.last_index) }
+        ensures refused { IfErr result (IsPossibleReplaceError (F.post with) self.old.pattern text.now
+            self.old.last_index) }
         ensures unchanged { OnErr result (self.new ≡ self.old) }
     {
         let matches = self.pattern.taken(alloc, text, 0, self.last_index)?;

@@ -1,8 +1,9 @@
 //! The source text of a regular expression.
 
 ghost use Rattle.std.specs.Prelude.{◌≡◌, ◌++◌, ◌∷◌, IfOk, false, if◌then◌else◌, []};
-ghost use Rattle.regex_meaning.specs.Text.{is_line_terminator as is_terminator_of};
-ghost use Rattle.use_regexp.specs.Source.{escaped_unit_after_backslash, is_class_open_after, escaped_from, escaped_source, needs_backslash as wants};
+ghost use Rattle.regex_meaning.specs.Text.{is_line_terminator as spec_is_line_terminator};
+ghost use Rattle.regex_meaning.specs.GroupOpeningScanWithoutParsing.{in_class_after};
+ghost use Rattle.use_regexp.specs.Source.{escaped_unit_after_backslash, escaped_from, escaped_source, needs_backslash as spec_needs_backslash};
 
 use std::alloc::{AllocError, Global};
 
@@ -50,7 +51,7 @@ fn push_escaped(out: &mut Vec<u16>, source: &[u16]) -> Result<(), AllocError>
 // Appends a unit that does not follow a backslash.
 fn push_plain(out: &mut Vec<u16>, in_class: bool, unit: u16) -> Result<(), AllocError>
     ensures { IfOk result (λ _. out.new.items ≡ out.old.items
-        ++ (if wants in_class unit then 92 ∷ escaped_unit_after_backslash unit else unit ∷ [])) }
+        ++ (if spec_needs_backslash in_class unit then 92 ∷ escaped_unit_after_backslash unit else unit ∷ [])) }
 {
     if !needs_backslash(in_class, unit) {
         return Ok(out.push(unit)?);
@@ -61,21 +62,21 @@ fn push_plain(out: &mut Vec<u16>, in_class: bool, unit: u16) -> Result<(), Alloc
 
 // Checks whether a unit needs a backslash: it is a line terminator, or a slash outside of a class.
 fn needs_backslash(in_class: bool, unit: u16) -> bool
-    ensures { result ≡ wants in_class unit }
+    ensures { result ≡ spec_needs_backslash in_class unit }
 {
     is_line_terminator(unit) || (unit == SLASH && !in_class)
 }
 
 // Checks whether a unit is a line terminator.
 fn is_line_terminator(unit: u16) -> bool
-    ensures { result ≡ is_terminator_of unit }
+    ensures { result ≡ spec_is_line_terminator unit }
 {
     unit == 0x0A || unit == 0x0D || unit == 0x2028 || unit == 0x2029
 }
 
 // Checks whether a class is open after a unit that does not follow a backslash.
 fn is_class_open_after_unit(in_class: bool, unit: u16) -> bool
-    ensures { result ≡ is_class_open_after in_class unit }
+    ensures { result ≡ in_class_after in_class unit }
 {
     if unit == 91 {
         true

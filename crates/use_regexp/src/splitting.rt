@@ -3,7 +3,7 @@
 ghost use Rattle.std.specs.Prelude.{◌≡◌, ◌++◌, ◌∷◌, ◌⊎◌, ◌≤◌, [], IfErr, IfNone, IfOk, IfSome, None, Some, length, map, option_map, take};
 ghost use Rattle.regress_search.specs.MatchesAsSpecAnswers.{answer_of, range_as_pair};
 ghost use Rattle.regress_match.specs.CompileErrors.{IsOutOfMemory};
-ghost use Rattle.use_regexp.specs.Split.{ArePieces, IsSeparator, IsSplit, before_end as before_end_of, chosen, pieces_of_empty_text, separator};
+ghost use Rattle.use_regexp.specs.Split.{ArePieces, IsSeparator, IsSplit, match_if_before_end, chosen, pieces_of_empty_text, separator};
 
 use crate::pattern::Pattern;
 use crate::regexp::RegExp;
@@ -147,7 +147,7 @@ impl Pattern {
 
 // Returns the match if it begins before the end of the text, and otherwise `None`.
 fn before_end(text: &[u16], found: Option<Match>) -> Option<Match>
-    ensures { option_map answer_of result ≡ before_end_of text.now (option_map answer_of found) }
+    ensures { option_map answer_of result ≡ match_if_before_end text.now (option_map answer_of found) }
 {
     match found {
         Some(found) if found.start() < text.len() => Some(found),

@@ -6,8 +6,8 @@ ghost use Rattle.std.specs.List.{list_all};
 ghost use Rattle.regex_meaning.specs.{MatchGroupsByNumberAndName.{Answer}, Replace.{text_of}};
 ghost use Rattle.regress_search.specs.MatchesAsSpecAnswers.{answer_of, range_as_pair};
 ghost use Rattle.regress_match.specs.ExpansionsAndMatchRanges.{MatchRangesLieWithinUnits, IsRangeWithinUnits};
-ghost use Rattle.use_regexp.specs.Template.{IsWritten, expansion_after_dollar, is_ascii, is_greater_than_sign, has_group_of_number as is_group_of, end_of_group_name as name_end_of, named};
-ghost use Rattle.use_regexp.specs.Template.{named_text, numbered, plain, said, substitution, two_digit_number_or_zero as two_digits_of};
+ghost use Rattle.use_regexp.specs.Template.{IsWritten, expansion_after_dollar, is_ascii, is_greater_than_sign, has_group_of_number as spec_has_group_of_number, end_of_group_name as spec_end_of_group_name, named};
+ghost use Rattle.use_regexp.specs.Template.{named_text, numbered, plain, said, substitution, two_digit_number_or_zero as spec_two_digit_number_or_zero};
 
 use regress_match::{Match, Range};
 use std::alloc::{AllocError, Global};
@@ -147,7 +147,7 @@ fn push_numbered_group<'a>(
 
 // Checks whether the pattern has a group with this number.
 fn has_group_of_number(found: &Match, number: usize) -> bool
-    ensures { result ≡ is_group_of (answer_of found.now) number }
+    ensures { result ≡ spec_has_group_of_number (answer_of found.now) number }
 {
     0 < number && number <= found.captures.len()
 }
@@ -155,7 +155,7 @@ fn has_group_of_number(found: &Match, number: usize) -> bool
 // Returns the number with a first digit and the digit after it. Returns 0 if no digit follows.
 fn two_digit_number_or_zero(first: usize, rest: &[u16]) -> usize
     requires { first < 10 }
-    ensures { result ≡ two_digits_of first rest.now }
+    ensures { result ≡ spec_two_digit_number_or_zero first rest.now }
 {
     match rest.first() {
         Some(digit) if is_digit(*digit) => first * 10 + usize::from(*digit - 48),
@@ -188,7 +188,7 @@ fn push_named_group_or_literal<'a>(
 // Returns the index at which a name ends. Returns `None` if it does not end, or if no group has a
 // name.
 fn end_of_group_name(found: &Match, rest: &[u16]) -> Option<usize>
-    ensures end { result ≡ name_end_of (answer_of found.now) rest.now }
+    ensures end { result ≡ spec_end_of_group_name (answer_of found.now) rest.now }
     ensures inside { IfSome result (λ end. end < length rest.now) }
 {
     if found.named_groups().len() == 0 {
@@ -217,7 +217,7 @@ fn push_name(
     ensures { IfOk result (λ _. out.new.items
         ≡ out.old.items ++ named_text text.now (answer_of found.now) name.now) }
 {
-    match ascii(alloc, name)? {
+    match ascii_text_of(alloc, name)? {
         Some(name) => push_range(out, text, found.named_group(&name)),
         None => Ok(()),
     }
@@ -225,7 +225,7 @@ fn push_name(
 
 // Returns these units as a text. Returns `None` if one of them is not ASCII. Names of groups are
 // ASCII.
-fn ascii(alloc: Global, units: &[u16]) -> Result<Option<String>, AllocError>
+fn ascii_text_of(alloc: Global, units: &[u16]) -> Result<Option<String>, AllocError>
     ensures { IfOk result (λ s. option_map string_bytes s
         ≡ (if list_all is_ascii units.now then Some units.now else None)) }
 {

@@ -1,9 +1,9 @@
 //! Texts of 16-bit code units. With the flag `u` they are read as UTF-16.
 
 ghost use Rattle.std.specs.Prelude.{◌≡◌, ◌≤◌, ◌∷◌, IfOk, length};
-ghost use Rattle.regex_meaning.specs.Laws.{is_within_pair as is_pair_at};
+ghost use Rattle.regex_meaning.specs.Laws.{is_within_pair as spec_is_within_pair};
 ghost use Rattle.regex_meaning.specs.Text.{decode_surrogate_pair, is_high_surrogate, is_low_surrogate, utf16_characters};
-ghost use Rattle.use_regexp.specs.Units.{advanced as advanced_of, character_start as start_of_character_at, characters_of};
+ghost use Rattle.use_regexp.specs.Units.{advanced as spec_advanced, character_start as spec_character_start, characters_of};
 
 use std::alloc::{AllocError, Global};
 
@@ -23,7 +23,7 @@ fn is_low(unit: u16) -> bool
 
 // Checks whether an index is within a surrogate pair.
 fn is_within_pair(text: &[u16], index: usize) -> bool
-    ensures { result ≡ is_pair_at text.now index }
+    ensures { result ≡ spec_is_within_pair text.now index }
 {
     if index == 0 {
         return false;
@@ -37,7 +37,7 @@ fn is_within_pair(text: &[u16], index: usize) -> bool
 // Returns the index at which the character at an index begins. With `u`, it is one unit before an
 // index within a surrogate pair (21.2.2.2).
 pub(crate) fn character_start(unicode: bool, text: &[u16], index: usize) -> usize
-    ensures { result ≡ start_of_character_at unicode text.now index }
+    ensures { result ≡ spec_character_start unicode text.now index }
 {
     if unicode && is_within_pair(text, index) {
         index - 1
@@ -49,7 +49,7 @@ pub(crate) fn character_start(unicode: bool, text: &[u16], index: usize) -> usiz
 // Returns the index after the character at an index (21.2.5.2.3, AdvanceStringIndex).
 pub(crate) fn advanced(unicode: bool, text: &[u16], index: usize) -> usize
     requires { index ≤ length text.now }
-    ensures { result ≡ advanced_of unicode text.now index }
+    ensures { result ≡ spec_advanced unicode text.now index }
 {
     if unicode && is_within_pair(text, index + 1) {
         index + 2
@@ -93,7 +93,7 @@ fn decoded(alloc: Global, units: &[u16]) -> Result<Vec<u32>, AllocError>
 }
 
 // Returns each unit as a character.
-fn widened(alloc: Global, units: &[u16]) -> Result<Vec<u32>, AllocError>
+fn units_as_code_points(alloc: Global, units: &[u16]) -> Result<Vec<u32>, AllocError>
     ensures { IfOk result (λ v. v.items ≡ units.now) }
 {
     units.iter().map(|unit| u32::from(*unit)).collect(alloc)
@@ -111,6 +111,6 @@ pub(crate) fn characters(
     if unicode {
         decoded(alloc, units)
     } else {
-        widened(alloc, units)
+        units_as_code_points(alloc, units)
     }
 }

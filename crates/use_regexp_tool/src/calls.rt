@@ -185,10 +185,10 @@ fn value(alloc: Global, out: &mut String, re: &mut RegExp, call: &Call) -> Resul
     let indices = re.flags().has_indices;
     match call.method {
         Method::Exec => write_match_or_null(out, indices, text, re.exec(text)?)?,
-        Method::Test => json::truth(out, re.test(text)?)?,
+        Method::Test => json::write_boolean(out, re.test(text)?)?,
         Method::Search => write_index_or_minus_one(out, re.search(text)?)?,
         Method::Match => matches(alloc, out, re, text)?,
-        Method::MatchAll => every(out, indices, text, &re.match_all(alloc, text)?)?,
+        Method::MatchAll => write_each_match(out, indices, text, &re.match_all(alloc, text)?)?,
         Method::Replace => json::string(out, &re.replace(alloc, text, &call.template)?)?,
         Method::ReplaceWith => replace_with(alloc, out, re, text)?,
         Method::Split => pieces(out, text, &re.split(alloc, text, call.limit)?)?,
@@ -227,7 +227,7 @@ fn matches(alloc: Global, out: &mut String, re: &mut RegExp, text: &[u16]) -> Re
     let flags = re.flags();
     let mut found = re.match_text(alloc, text)?;
     if flags.global && !found.is_empty() {
-        texts(out, text, &found)?;
+        write_match_texts(out, text, &found)?;
     } else {
         write_match_or_null(out, flags.has_indices, text, found.pop())?;
     }
@@ -243,17 +243,22 @@ fn part(out: &mut String, number: usize) -> Result<(), AllocError> {
 }
 
 // Writes the text of each match.
-fn texts(out: &mut String, text: &[u16], found: &[Match]) -> Result<(), AllocError> {
+fn write_match_texts(out: &mut String, text: &[u16], found: &[Match]) -> Result<(), AllocError> {
     out.push('[')?;
     for (number, found) in found.iter().enumerate() {
         part(out, number)?;
-        json::slice(out, text, &Some(found.range()))?;
+        json::write_text_in_range(out, text, &Some(found.range()))?;
     }
     out.push(']')
 }
 
 // Writes each match like the result of `exec`.
-fn every(out: &mut String, indices: bool, text: &[u16], found: &[Match]) -> Result<(), AllocError> {
+fn write_each_match(
+    out: &mut String,
+    indices: bool,
+    text: &[u16],
+    found: &[Match],
+) -> Result<(), AllocError> {
     out.push('[')?;
     for (number, found) in found.iter().enumerate() {
         part(out, number)?;
@@ -271,7 +276,7 @@ fn pieces(
     out.push('[')?;
     for (number, piece) in pieces.iter().enumerate() {
         part(out, number)?;
-        json::slice(out, text, piece)?;
+        json::write_text_in_range(out, text, piece)?;
     }
     out.push(']')
 }

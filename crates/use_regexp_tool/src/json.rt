@@ -39,7 +39,7 @@ fn push_digit(out: &mut String, number: u16) -> Result<(), AllocError> {
 }
 
 /// Writes the text in a range, or `null`.
-pub fn slice(
+pub fn write_text_in_range(
     out: &mut String,
     text: &[u16],
     range: &Option<Range<usize>>,
@@ -51,7 +51,7 @@ pub fn slice(
 }
 
 /// Writes a Boolean value.
-pub fn truth(out: &mut String, value: bool) -> Result<(), AllocError> {
+pub fn write_boolean(out: &mut String, value: bool) -> Result<(), AllocError> {
     out.push_str(if value { "true" } else { "false" })
 }
 
@@ -95,7 +95,7 @@ fn part(
     range: &Option<Range<usize>>,
 ) -> Result<(), AllocError> {
     match (text, range) {
-        (Some(text), _) => slice(out, text, range),
+        (Some(text), _) => write_text_in_range(out, text, range),
         (None, Some(range)) => write!(out, "[{},{}]", range.start, range.end),
         (None, None) => out.push_str("null"),
     }

@@ -125,7 +125,7 @@ pub fn number(alloc: Global, line: &[u16]) -> Result<(f64, &[u16]), Stop> {
 
 /// Returns the units before the unit at index `end`, and those after it. Returns `None` if there is
 /// no index.
-fn until(line: &[u16], end: Option<usize>) -> Option<(&[u16], &[u16])>
+fn split_around_unit_at(line: &[u16], end: Option<usize>) -> Option<(&[u16], &[u16])>
     requires { IfSome end (λ at. at < length line.now) }
 {
     match end {
@@ -176,7 +176,7 @@ pub fn string(alloc: Global, line: &[u16]) -> Result<(Vec<u16>, &[u16]), Stop> {
     let Some((34, behind)) = first(line) else {
         return Err(Stop::Malformed(Malformed::NoString));
     };
-    let Some((inside, rest)) = until(behind, index_of_closing_quote(behind)) else {
+    let Some((inside, rest)) = split_around_unit_at(behind, index_of_closing_quote(behind)) else {
         return Err(Stop::Malformed(Malformed::UnclosedString));
     };
     let text = decode_json_string(alloc, inside)?;
@@ -286,7 +286,7 @@ pub fn pattern(alloc: Global, line: &[u16]) -> Result<(Literal, &[u16]), Stop> {
 
 // Parses a pattern and its flags after the first slash.
 fn read_literal_after_slash(alloc: Global, line: &[u16]) -> Result<(Literal, &[u16]), Stop> {
-    let Some((source, rest)) = until(line, index_of_closing_slash(line)) else {
+    let Some((source, rest)) = split_around_unit_at(line, index_of_closing_slash(line)) else {
         return Err(Stop::Malformed(Malformed::NoPattern));
     };
     let (flags, rest) = word(rest);

@@ -24,7 +24,7 @@ pub struct Folder {
 /// # Errors
 ///
 /// Returns an error if the folder cannot be read or an allocation fails.
-pub fn list(rt: &HostRuntime, path: &str) -> Result<Folder> {
+pub fn read_folder(rt: &HostRuntime, path: &str) -> Result<Folder> {
     let alloc = rt.alloc();
     let mut files = Vec::new(alloc);
     let mut others = Vec::new(alloc);

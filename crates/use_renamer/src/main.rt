@@ -12,7 +12,7 @@ mod plan;
 mod rows;
 
 use crate::command::{LINE, Options};
-use crate::folder::{apply, list};
+use crate::folder::{apply, read_folder};
 use crate::groups::parts;
 use crate::plan::{Refusal, Rename, plan};
 use crate::rows::answer_rows;
@@ -30,8 +30,8 @@ fn compile(rt: &HostRuntime, pattern: &str, flags: Flags) -> Result<Regex> {
         Err(why) => why,
     };
     if let Error::Parse(_) = why {
-        if let Some(told) = Regex::diagnose(alloc, pattern, flags)? {
-            bail!("the pattern is refused\n{}", told.below_text(pattern));
+        if let Some(diagnosis) = Regex::diagnose(alloc, pattern, flags)? {
+            bail!("the pattern is refused\n{}", diagnosis.below_text(pattern));
         }
     }
     bail!("{why}")
@@ -55,7 +55,7 @@ fn show(rt: &HostRuntime, options: &Options<'_>, re: &Regex, plan: &[Rename]) ->
 fn rename(rt: &HostRuntime, options: &Options<'_>) -> Result<bool> {
     let alloc = rt.alloc();
     let re = compile(rt, options.pattern, options.flags)?;
-    let folder = list(rt, options.folder)?;
+    let folder = read_folder(rt, options.folder)?;
     if folder.unreadable > 0 {
         eprintln!(rt;
             "names that are not UTF-8, which are passed over: {}",

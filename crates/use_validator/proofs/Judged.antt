@@ -1,6 +1,7 @@
 -- What the first item of a search with a step limit decides.
 use Rattle.std.proofs.Common.{◌≡◌, ◌∙◌, ℕ, List, [], ◌∷◌, Bool, true, false, not, ap, refl, sym, subst}
 use Rattle.std.specs.Prelude.{Option, Some, None, Result, Ok, Err, nat_le}
+use Rattle.std.proofs.lemmas.Bool.{not-true, not-false}
 use Rattle.regex_meaning.specs.Tree.{Tree}
 use Rattle.regex_meaning.specs.Text.{Text}
 use Rattle.regex_meaning.specs.CodeUnitOffsets.{HasRisingPlaceOffsets}
@@ -58,14 +59,6 @@ came before behind item m is gives = (subst (λ r. NextYields before (Some r) be
 pub stopped : (before behind : RemainingView) (item : Result Match SearchError) (e : SearchError) → item ≡ Err e → e ≡ StepLimit → NextYields before (Some item) behind
     → (before.answers ≡ []) × (before.limited ≡ true)
 stopped before behind item e is limit gives = (subst (λ e. NextYields before (Some (Err e)) behind) limit (subst (λ r. NextYields before (Some r) behind) is gives)).0
-
-not-false : (b : Bool) → not b ≡ false → b ≡ true
-not-false true e = refl
-not-false false e = sym e
-
-not-true : (b : Bool) → not b ≡ true → b ≡ false
-not-true true e = sym e
-not-true false e = refl
 
 is-match : (found : List Answer) (ended : Bool) (m : Answer) (ms : List Answer) (v : Verdict) → FollowsFromCounts found ended v → found ≡ m ∷ ms → Matches ≡ v
 is-match found ended m ms Matches h e = refl

@@ -47,7 +47,7 @@ impl Rule<'_> {
     ///
     /// `AllocError` if an allocation fails.
     pub fn complaint(&self, alloc: Global) -> Result<String, AllocError> {
-        let (before, behind) = words(&self.claim);
+        let (before, behind) = words_around_keyword_value(&self.claim);
         let mut text = String::from_str(alloc, before)?;
         match &self.claim {
             Claim::Never | Claim::HasDistinctItems => {}
@@ -70,7 +70,7 @@ impl Rule<'_> {
 }
 
 // Returns the words before and after the value of a keyword in a message.
-fn words(claim: &Claim<'_>) -> (&'static str, &'static str) {
+fn words_around_keyword_value(claim: &Claim<'_>) -> (&'static str, &'static str) {
     match claim {
         Claim::Never => ("no value is allowed here", ""),
         Claim::IsOfTypes(_) => ("not of type ", ""),

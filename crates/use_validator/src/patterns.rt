@@ -66,10 +66,10 @@ fn compile(alloc: Global, place: &str, pattern: &str) -> Result<Regex>
         Err(why) => why,
     };
     if let Error::Parse(_) = why {
-        if let Some(told) = Regex::diagnose_with_syntax(alloc, pattern, flags(), SYNTAX)? {
+        if let Some(diagnosis) = Regex::diagnose_with_syntax(alloc, pattern, flags(), SYNTAX)? {
             bail!(
-                "the schema's #{place} is refused: {told}\n{}",
-                told.below_text(pattern)
+                "the schema's #{place} is refused: {diagnosis}\n{}",
+                diagnosis.below_text(pattern)
             );
         }
     }

@@ -5,7 +5,7 @@ use crate::keyword::{ChildKeyword, Keyword, Range, SameValueKeyword, TextKeyword
 use crate::numbers::is_positive;
 use crate::patterns::Patterns;
 use crate::pointer::child;
-use crate::reference::target;
+use crate::reference::pointer_in_reference;
 use crate::schema::{Claim, Counted, Counting, Kind, Limits, Part, Rule, Schema, Test, TextRule};
 use anyhow::{Result, bail};
 use serde_json::{Map, Number, Value};
@@ -389,7 +389,7 @@ impl<'s> Reader<'s> {
     fn reference(&mut self, part: &Part<'s>, member: Member<'s>) -> Result<usize> {
         let reference = text(part, member)?;
         let own = self.whole.get("$id").and_then(Value::as_str);
-        let pointer = match target(self.alloc, reference, own.unwrap_or("")) {
+        let pointer = match pointer_in_reference(self.alloc, reference, own.unwrap_or("")) {
             Ok(pointer) => pointer,
             Err(why) => bail!("the schema's #{}/$ref: {why}", part.place),
         };

@@ -11,7 +11,7 @@ use std::alloc::Global;
 ///
 /// Returns an error if the reference names another document, if its fragment is not a JSON Pointer,
 /// or if an allocation fails.
-pub fn target(alloc: Global, reference: &str, own: &str) -> Result<String> {
+pub fn pointer_in_reference(alloc: Global, reference: &str, own: &str) -> Result<String> {
     let (uri, fragment) = reference.split_once('#').unwrap_or((reference, ""));
     if !uri.is_empty() && uri != own.trim_end_matches('#') {
         bail!("{reference} refers to another document, which is not supported");

@@ -16,14 +16,14 @@ use std::alloc::Global;
 /// or the first line of why the schema is refused. If the schema is preceded by `--assert-format `
 /// or `--ignore-unknown `, this option applies to the row.
 ///
-/// Returns an error if a row cannot be read or printed, or if an allocation fails.
+/// # Errors
 ///
-/// If a row cannot be read or printed. Allocation failure is an error too.
+/// Returns an error if a row cannot be read or printed, or if an allocation fails.
 pub fn answer_rows(rt: &HostRuntime, options: &Options<'_>) -> Result<()> {
     for row in rt.stdin().lines(rt.alloc()) {
         let row = row.context("reading standard input")?;
-        let told = answer(rt, options, row.as_str())?;
-        println!(rt; "{row} | {told}")?;
+        let answered = answer(rt, options, row.as_str())?;
+        println!(rt; "{row} | {answered}")?;
     }
     Ok(())
 }
@@ -43,7 +43,7 @@ fn answer(rt: &HostRuntime, options: &Options<'_>, row: &str) -> Result<String> 
                 Err(why) => refusal(alloc, &why),
             }
         }
-        _ => bail!("no row: {row}"),
+        _ => bail!("expected `SCHEMA | DOCUMENT` or `SCHEMA | DOCUMENT | STEPS`: {row}"),
     }
 }
 

@@ -140,7 +140,7 @@ impl<'p> Walk<'p> {
                 if !counted.is_in(spot.value) {
                     return Ok(());
                 }
-                let tally = self.count(counted, spot, depth)?;
+                let tally = self.count_holding(counted, spot, depth)?;
                 let outcome = tally.conclude(limits.least, limits.most);
                 let told = by.complaint(tally.possible < limits.least);
                 self.add_test_finding(by.keyword(), spot, outcome, told, report)
@@ -165,7 +165,12 @@ impl<'p> Walk<'p> {
 
     // Counts the parts that hold for a value, or the items for which a part holds.
     #[cycle(walk)]
-    fn count(self, counted: &Counted, spot: &PendingCheck<'_>, depth: u32) -> Result<Tally> {
+    fn count_holding(
+        self,
+        counted: &Counted,
+        spot: &PendingCheck<'_>,
+        depth: u32,
+    ) -> Result<Tally> {
         let mut tally = Tally::NONE;
         let mut tried = Vec::new(self.alloc);
         self.push_values_to_count(counted, spot, &mut tried)?;

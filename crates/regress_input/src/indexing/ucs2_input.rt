@@ -3,8 +3,9 @@
 ghost use Rattle.std.specs.Prelude.{◌≡◌, refl, ◌<◌, ◌*◌, ◌^◌, ℕ, true, length};
 ghost use Rattle.std.proofs.Common.{rules};
 ghost use Rattle.regex_meaning.specs.Text.{ucs2_text, fold_code_point};
+ghost use Rattle.regex_meaning.specs.CodeUnits.{AreU16Units};
 ghost use Rattle.regex_meaning.proofs.{EncodedTextCharacters.{ucs2-characters}, CodeUnitOffsetsLemmas.{ucs2_text-IsText}};
-ghost use Rattle.regress_input.specs.{Utf16CharactersAtOffsets.{AreU16Units}, CharAndByteReadsFromOffset.{vacuous_without_byte_units}};
+ghost use Rattle.regress_input.specs.CharAndByteReadsFromOffset.{vacuous_without_byte_units};
 ghost use Rattle.regress_input.specs.TextSpellingAndOffsetLimit.{ucs2_text-IsSpelled, ucs2_text-fits};
 
 use super::{CharProperties, ElementType, HasUnitType, InputIndexer, Ucs2CodeUnitEncoding};

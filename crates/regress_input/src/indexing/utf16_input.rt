@@ -2,8 +2,9 @@
 
 ghost use Rattle.std.specs.Prelude.{◌≡◌, refl, ◌<◌, ◌*◌, ◌^◌, length};
 ghost use Rattle.regex_meaning.specs.Text.{utf16_text};
+ghost use Rattle.regex_meaning.specs.CodeUnits.{AreU16Units};
 ghost use Rattle.regex_meaning.proofs.{EncodedTextCharacters.{utf16-characters}, CodeUnitOffsetsLemmas.{utf16_text-IsText}};
-ghost use Rattle.regress_input.specs.{Utf16CharactersAtOffsets.{AreU16Units}, CharAndByteReadsFromOffset.{vacuous_without_byte_units}};
+ghost use Rattle.regress_input.specs.CharAndByteReadsFromOffset.{vacuous_without_byte_units};
 ghost use Rattle.regress_input.specs.TextSpellingAndOffsetLimit.{utf16_text-IsSpelled, utf16_text-fits};
 
 use super::{

@@ -2,7 +2,7 @@
 
 ghost use Rattle.regex_meaning.specs.CodeUnitOffsets.{is_past};
 ghost use Rattle.std.specs.Prelude.{◌≡◌, ◌<◌, ◌⊎◌, IfErr, IfOk, IsTrue, false, length, nat_le, not};
-ghost use Rattle.regex_meaning.specs.Text.{is_unit_boundary as is_boundary_of};
+ghost use Rattle.regex_meaning.specs.Text.{is_unit_boundary};
 ghost use Rattle.regress_match.specs.{ProgramTreesAndAnswers.{units_as_ucs2_text, units_as_utf16_text, tree_for_16_bit_units}, CompileErrors.{IsOutOfMemory}};
 ghost use Rattle.regress_match.specs.SearchResults.{YieldsMatches};
 
@@ -26,7 +26,7 @@ impl Regex {
         text: &'t [u16],
         start: usize,
     ) -> Result<Matches<DefaultUtf16Executor<'r, 't>>, SearchError>
-        requires { IsTrue (is_boundary_of text.now start) ⊎ (length text.now < start) }
+        requires { IsTrue (is_unit_boundary text.now start) ⊎ (length text.now < start) }
         ensures answers { IfOk result (YieldsMatches (tree_for_16_bit_units self.now)
             (units_as_utf16_text self.now text.now) start) }
         ensures ended { IfOk result (λ it. it.ended ≡ is_past start (length text.now)) }

@@ -1,7 +1,7 @@
 //! Escaping of texts that are to be matched literally.
 
 ghost use Rattle.std.specs.Prelude.{◌≡◌, IfOk, string_bytes};
-ghost use Rattle.regex_meaning.specs.{FlagLettersAndEscaping.{escape as escaped_text, syntax_characters}, NumberListHelpers.{contains}};
+ghost use Rattle.regex_meaning.specs.{FlagLettersAndEscaping.{escape as spec_escape, syntax_characters}, NumberListHelpers.{contains}};
 
 use std::alloc::{AllocError, Global};
 
@@ -15,7 +15,7 @@ use std::alloc::{AllocError, Global};
 /// `AllocError` if an allocation for the text fails.
 pub fn escape(alloc: Global, text: &str) -> Result<String, AllocError>
     // Syntax characters are ASCII, so escaping bytes is the same as escaping characters.
-    ensures { IfOk result (λ s. string_bytes s ≡ escaped_text text.now) }
+    ensures { IfOk result (λ s. string_bytes s ≡ spec_escape text.now) }
 {
     let mut escaped = String::new(alloc);
     for c in text.chars() {

@@ -29,7 +29,7 @@ pub struct Flags {
 }
 
 impl Flags {
-    ghost use Rattle.regex_pattern_front.specs.AstToSpecTree.{spec_flags_of as front_flags_of};
+    ghost use Rattle.regex_pattern_front.specs.AstToSpecTree.{spec_flags_of as front_spec_flags_of};
     ghost use Rattle.regress_match.specs.PublicFlagsAsSpecFlags.{spec_flags_of};
 
     /// Returns the flags whose letters (`m`, `i`, `s`, `u` and `v`) are among the code points of an
@@ -52,7 +52,7 @@ impl Flags {
 
     /// Returns the same flags as the parser's type, for `try_parse`.
     pub fn for_front(self) -> front::Flags
-        ensures { front_flags_of result ≡ spec_flags_of self }
+        ensures { front_spec_flags_of result ≡ spec_flags_of self }
     {
         front::Flags {
             icase: self.icase,

@@ -1,7 +1,8 @@
 //! Laws of searches for callers to cite. They are functions that do nothing.
 
 ghost use Rattle.regex_meaning.specs.EcmaGrammarWithAnnexB.{ecmascript};
-ghost use Rattle.regress_match.specs.{Laws.{MatchesLieInTextInOrder, SearchesFollowThePattern, SearchesFollowGrammar}, SearchResults.{SearchesReturnMatchesInOrder}};
+ghost use Rattle.regex_meaning.specs.Grammar.{profile};
+ghost use Rattle.regress_match.specs.{Laws.{MatchesLieInTextInOrder, SearchesFollowThePattern, SearchesFollowGrammar, SearchesReturnMatchesOfPattern}, SearchResults.{SearchesReturnMatchesInOrder}};
 ghost use Rattle.regress_match.specs.WorkBounds.{SearchesReturnMatchesWithinWork, CallCostsAreWorkSpent, WorkPerUnitLimitSuffices};
 
 use regress_search::exec::WorkLimitedProducer;
@@ -27,8 +28,8 @@ pub fn call_costs_are_work_spent<P: WorkLimitedProducer>()
     ensures { CallCostsAreWorkSpent P.attempt_costs P.tree P.text P.failures }
 {}
 
-/// A law: the matches of a compiled pattern in a text, in each encoding, are those of the unique
-/// tree that the grammar gives to the pattern.
+/// A law: the matches of a compiled pattern in a text, in each encoding, are those of the
+/// tree that the grammar gives to the pattern (the only one, by `pattern_has_at_most_one_tree`).
 pub fn searches_follow_the_pattern()
     ensures { SearchesFollowThePattern }
 {}
@@ -36,6 +37,16 @@ pub fn searches_follow_the_pattern()
 /// A law: the same for a pattern of `Syntax::EcmaScript2018`.
 pub fn searches_follow_the_ecmascript_pattern()
     ensures { SearchesFollowGrammar ecmascript }
+{}
+
+/// The main theorem, as a law: the results of successive calls of `next` are the matches of the
+/// tree that the grammar gives to the pattern, one after another, and then always `None`, in each
+/// encoding and for both values of `Syntax`. They end earlier only with the error `Memory`.
+///
+/// It follows from `searches_return_matches_in_order` and `searches_follow_the_pattern`.
+pub fn searches_return_matches_of_pattern()
+    ensures profile { SearchesReturnMatchesOfPattern profile }
+    ensures ecmascript { SearchesReturnMatchesOfPattern ecmascript }
 {}
 
 /// A law: the matches of a search are in the text, in ascending order, and do not overlap.

@@ -1,7 +1,7 @@
 //! Searches anchored at one offset.
 
 ghost use Rattle.std.specs.Prelude.{◌≡◌, ◌<◌, ◌⊎◌, IfErr, IfOk, IfSome, IsAscii, IsCharBoundary, IsTrue, length, option_map};
-ghost use Rattle.regex_meaning.specs.Text.{is_unit_boundary as is_boundary_of};
+ghost use Rattle.regex_meaning.specs.Text.{is_unit_boundary};
 ghost use Rattle.regress_search.specs.MatchesAsSpecAnswers.{answer_of};
 ghost use Rattle.regress_match.specs.ProgramTreesAndAnswers.{ascii_answer_beginning_at, ucs2_answer_beginning_at, utf16_answer_beginning_at, utf8_answer_beginning_at};
 ghost use Rattle.regress_match.specs.CompileErrors.{IsOutOfMemory};
@@ -58,7 +58,7 @@ impl Regex {
     ///
     /// `Memory` if an allocation for the search fails.
     pub fn match_at_utf16(&self, text: &[u16], at: usize) -> Result<Option<Match>, SearchError>
-        requires { IsTrue (is_boundary_of text.now at) ⊎ (length text.now < at) }
+        requires { IsTrue (is_unit_boundary text.now at) ⊎ (length text.now < at) }
         ensures found { IfOk result (λ m. option_map answer_of m ≡ utf16_answer_beginning_at self.now text.now at) }
         ensures fits { IfOk result (λ m. IfSome m (λ found. MatchRangesLieWithinUnits text.now (answer_of found))) }
         ensures refused { IfErr result IsOutOfMemory }

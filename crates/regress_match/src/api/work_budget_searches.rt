@@ -2,9 +2,8 @@
 
 ghost use Rattle.regex_meaning.specs.CodeUnitOffsets.{is_past};
 ghost use Rattle.std.specs.Prelude.{◌≡◌, ◌<◌, ◌⊎◌, IfErr, IfOk, IsAscii, IsCharBoundary, IsTrue, OnOk, length, nat_le, not};
-ghost use Rattle.regex_meaning.specs.Text.{is_unit_boundary as is_boundary_of};
-ghost use Rattle.regress_match.specs.ProgramTreesAndAnswers.{bytes_as_ascii_text, units_as_ucs2_text, bytes_as_utf8_text, units_as_utf16_text, tree_for_byte_units};
-ghost use Rattle.regress_match.specs.ProgramTreesAndAnswers.{tree_for_16_bit_units};
+ghost use Rattle.regex_meaning.specs.Text.{is_unit_boundary};
+ghost use Rattle.regress_match.specs.ProgramTreesAndAnswers.{bytes_as_ascii_text, units_as_ucs2_text, bytes_as_utf8_text, units_as_utf16_text, tree_for_byte_units, tree_for_16_bit_units};
 ghost use Rattle.regress_match.specs.CompileErrors.{IsOutOfMemory};
 ghost use Rattle.regress_match.specs.ExpansionsAndMatchRanges.{MatchesFitTextInOrderFrom};
 ghost use Rattle.regress_bounded.specs.CostsOfAttempts.{IteratorBeginsSearches};
@@ -197,7 +196,7 @@ impl<'r> BoundedRegex<'r> {
         start: usize,
         work: u64,
     ) -> Result<MatchesInWork<'r, Utf16Input<'t>>, SearchError>
-        requires { IsTrue (is_boundary_of text.now start) ⊎ (length text.now < start) }
+        requires { IsTrue (is_unit_boundary text.now start) ⊎ (length text.now < start) }
         ensures yields { IfOk result (λ it. YieldsMatchesIfWorkSuffices (tree_for_16_bit_units self.now.re)
             (units_as_utf16_text self.now.re text.now) start self.now.per_unit work (without_costs it)) }
         ensures begins { let e = ⟦<BoundedExecutor<'r, Utf16Input<'t>> as MatchProducer>⟧ in

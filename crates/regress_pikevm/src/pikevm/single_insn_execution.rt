@@ -5,11 +5,10 @@ ghost use Rattle.regex_meaning.specs.CodeUnitOffsets.{units};
 ghost use Rattle.regex_pattern_front.specs.AstToSpecTree.{spec_sameness_of, tree_of};
 ghost use Rattle.regress_input.specs.CharAndByteReadsFromOffset.{direction_of_forward_flag};
 ghost use Rattle.regress_program.specs.{CompilationOfTreesAsFunction.{compiled}, InsnsAsSpec.{insn_as_spec_insn, loop_fields_as_spec}};
-ghost use Rattle.regress_machine.specs.Machine.{running, waiting, goes, asks, state_with_ip, state_at_next_ip, range_swapped_if_leftwards, iterate_or_leave_at_loop_head};
-ghost use Rattle.regress_machine.specs.Machine.{effect_at_iteration_end, loop_again_effect};
-ghost use Rattle.regress_machine.specs.InsnEffects.{begin_capture_group_effect, end_capture_group_effect, reset_capture_group_effect, body_entered_with_iteration_count};
-ghost use Rattle.regress_machine.specs.InsnEffects.{IsNotStuck, is_read_or_assertion_insn};
-ghost use Rattle.regress_pikevm.specs.{InsnEffects.{machine_effect_at_state, effect_of_insn, effect_of_range_backref, effect_of_backref}, States.{machine_state_of, loop_data_in_offsets, effect_of_next_states}};
+ghost use Rattle.regress_machine.specs.Machine.{running, waiting, goes, asks, state_with_ip, state_at_next_ip, range_swapped_if_leftwards, iterate_or_leave_at_loop_head, effect_at_iteration_end, loop_again_effect};
+ghost use Rattle.regress_machine.specs.InsnEffects.{begin_capture_group_effect, end_capture_group_effect, reset_capture_group_effect, body_entered_with_iteration_count, IsNotStuck, is_read_or_assertion_insn};
+ghost use Rattle.regress_pikevm.specs.InsnEffects.{machine_effect_at_state, effect_of_insn, effect_of_range_backref, effect_of_backref};
+ghost use Rattle.regress_pikevm.specs.States.{machine_state_of, loop_data_in_offsets, effect_of_next_states};
 ghost use Rattle.regress_search.specs.OffsetsAfterMatchedInsns.{ByteInsnHasByteText};
 
 use super::char_loops::{CharLoopBoundsAndGreed, execute_char_loop};
@@ -34,7 +33,8 @@ pub fn execute_insn<Input: InputIndexer, Dir: Direction>(
 ) -> Result<NextStates<Input::Position>, AllocError>
     requires code { map insn_as_spec_insn insns.now ≡ (compiled (tree_of searched.now.program.now)).insns }
     requires executable { let s = searched.now in
-        IsNotStuck (machine_effect_at_state Input.Position.offset s.program.now (Input.text s.input) Dir.FORWARD state) }
+        IsNotStuck (machine_effect_at_state Input.Position.offset s.program.now (Input.text s.input) Dir.FORWARD
+        state) }
     requires inside { Input.Position.offset state.pos ≤ units (Input.text searched.now.input) }
     ensures { let s = searched.now in IfOk result (λ t. effect_of_next_states Input.Position.offset t
         ≡ machine_effect_at_state Input.Position.offset s.program.now (Input.text s.input) Dir.FORWARD state) }
@@ -316,7 +316,8 @@ fn state_at_iteration_start<P: PositionType>(
 ) -> State<P>
     requires known { id < length state.loops.items }
     requires within { begin + 1 < 2 ^ 64 }
-    ensures { machine_state_of P.offset result ≡ body_entered_with_iteration_count id begin k (machine_state_of P.offset state) }
+    ensures { machine_state_of P.offset result ≡ body_entered_with_iteration_count id begin k
+        (machine_state_of P.offset state) }
 {
     state.ip = begin + 1;
     state.loops[id as usize] = LoopData {
@@ -357,7 +358,8 @@ fn execute_loop_end_with_data<P: PositionType>(
     state: State<P>,
 ) -> Result<NextStates<P>, AllocError>
     requires executable { IsNotStuck
-        (effect_at_iteration_end (loop_fields_as_spec fields) begin (loop_data_in_offsets P.offset last) (machine_state_of P.offset state)) }
+        (effect_at_iteration_end (loop_fields_as_spec fields) begin (loop_data_in_offsets P.offset last)
+        (machine_state_of P.offset state)) }
     requires within { begin + 1 < 2 ^ 64 }
     ensures { IfOk result (λ t. effect_of_next_states P.offset t
         ≡ effect_at_iteration_end (loop_fields_as_spec fields) begin (loop_data_in_offsets P.offset last)

@@ -108,7 +108,8 @@ pub(crate) fn resume_after_lookaround<P: PositionType>(
     found: Option<State<P>>,
 ) -> Option<State<P>>
     ensures { current_thread_if_any P.offset result
-        ≡ after_lookaround negate (machine_state_of P.offset after) (option_map (λ s. machine_state_of P.offset s) found) }
+        ≡ after_lookaround negate (machine_state_of P.offset after)
+        (option_map (λ s. machine_state_of P.offset s) found) }
 {
     match found {
         Some(mut inner) => {

@@ -1,9 +1,9 @@
 //! Emits the code of byte sequences and strings.
 
 ghost use Rattle.std.specs.Prelude.{◌≡◌, ◌+◌, ◌-◌, ◌*◌, ◌<◌, ◌^◌, length, min, take, drop, OnOk};
-ghost use Rattle.regex_meaning.specs.{Tree.{byte_sequence, string_set}, Text.{expand_code_point as expansion}, CompilationRelation.{chunks}};
+ghost use Rattle.regex_meaning.specs.{Tree.{byte_sequence, string_set}, Text.{expand_code_point as spec_expand_code_point}, CompilationRelation.{chunks}};
 ghost use Rattle.regex_meaning.specs.CompilationRelation as layout;
-ghost use Rattle.regress_program.specs.CompilationOfTreesAsFunction.{string_code, strings_size as size_of_strings};
+ghost use Rattle.regress_program.specs.CompilationOfTreesAsFunction.{string_code, strings_size};
 ghost use Rattle.regress_program.specs.EmitterStateAndAppendedCode.{IsEmitted, emitter_state, with_insn_appended, with_insns_appended, strings_as_code_points};
 
 use crate::emit::emitter::{EmitMode, Emitter};
@@ -21,7 +21,7 @@ pub(crate) fn chunk_count(bytes: &[u8]) -> usize
 
 // Returns the number of instructions of a set of strings, saturating at `usize::MAX`.
 pub(crate) fn insn_count_of_strings(strings: &[Vec<u32>]) -> usize
-    ensures { result ≡ min (size_of_strings (strings_as_code_points strings.now)) (2 ^ 64 - 1) }
+    ensures { result ≡ min (strings_size (strings_as_code_points strings.now)) (2 ^ 64 - 1) }
 {
     let Some((first, others)) = strings.split_first() else {
         return 1;
@@ -63,7 +63,7 @@ impl Emitter {
         icase: bool,
         strings: &[Vec<u32>],
     ) -> Result<(), AllocError>
-        requires { length (emitter_state self.old).insns + size_of_strings
+        requires { length (emitter_state self.old).insns + strings_size
             (strings_as_code_points strings.now) < 2 ^ 32 }
         ensures { OnOk result
             (IsEmitted mode (string_set (strings_as_code_points strings.now) icase) self.old self.new) }
@@ -101,7 +101,7 @@ impl Emitter {
     // Emits one character of a string or, with `icase`, the set of its case variants.
     fn emit_spellings(&mut self, mode: EmitMode, icase: bool, c: u32) -> Result<(), AllocError>
         ensures { OnOk result (emitter_state self.new
-            ≡ with_insn_appended (layout.case_variants_insn (expansion c icase mode.unicode))
+            ≡ with_insn_appended (layout.case_variants_insn (spec_expand_code_point c icase mode.unicode))
             (emitter_state self.old)) }
     {
         let alloc = *self.insns.allocator();

@@ -4,15 +4,12 @@
 ghost use Rattle.std.specs.Prelude.{◌≡◌, ◌&&◌, ◌+◌, ◌-◌, ◌<◌, ◌^◌, true, length, map, IfOk, OnOk, IsTrue, if◌then◌else◌};
 ghost use Rattle.regex_meaning.specs.{Tree.{every_node_passes}, WellFormedTrees.{set_sizes_and_characters_fit_instructions}};
 ghost use Rattle.regex_meaning.specs.CompilationRelation.{EnterLoop, lookaround_insn};
-ghost use Rattle.regex_pattern_front.specs.OptimizedTrees.{reads_one_character as is_one_character};
+ghost use Rattle.regex_pattern_front.specs.OptimizedTrees.{reads_one_character as spec_reads_one_character};
 ghost use Rattle.regex_pattern_front.specs.AstToSpecTree.{class_as_spec, spec_node_of};
 ghost use Rattle.regress_program.specs.InsnsAsSpec.{loop_fields_as_spec};
 ghost use Rattle.regress_program.specs.{InsnsAsSpec.{insn_as_spec_insn}, CompilationOfTreesAsFunction.{group_reset_insns}};
 ghost use Rattle.regress_program.specs.LeafNodesAndOptimizableLoops.{is_leaf};
-ghost use Rattle.regress_program.specs.EmitterStateAndAppendedCode.{HasIndexRoomForNode, emitter_state, with_insn_appended, with_insns_appended, with_insn_at, with_loop};
-ghost use Rattle.regress_program.specs.EmitterStateAndAppendedCode.{empty_state};
-ghost use Rattle.regress_program.specs.EmitterStateAndAppendedCode.{IsEmitted};
-ghost use Rattle.regress_program.specs.EmitterStateAndAppendedCode.{lookaround_as_spec};
+ghost use Rattle.regress_program.specs.EmitterStateAndAppendedCode.{HasIndexRoomForNode, emitter_state, with_insn_appended, with_insns_appended, with_insn_at, with_loop, empty_state, IsEmitted, lookaround_as_spec};
 
 use crate::emit::small_set_and_assertion_insns::{
     anchor_insn, byte_set_insn, char_set_insn, word_boundary_insn,
@@ -48,7 +45,7 @@ impl EmitMode {
 
     // Checks whether a loop over this node is to become a char loop.
     pub(crate) fn should_become_char_loop(self, loopee: &Node) -> bool
-        ensures { result ≡ (self.narrow && is_one_character (spec_node_of loopee.now)) }
+        ensures { result ≡ (self.narrow && spec_reads_one_character (spec_node_of loopee.now)) }
     {
         self.narrow && reads_one_character(loopee)
     }

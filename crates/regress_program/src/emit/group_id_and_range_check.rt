@@ -6,10 +6,7 @@ ghost use Rattle.std.specs.Prelude.{◌≡◌, is_some, IfSome, ◌≤◌, ◌<�
 ghost use Rattle.regex_meaning.specs.{Tree.{alt, group_ids, every_node_passes}, WellFormedTrees.{has_exact_group_range}};
 ghost use Rattle.regex_pattern_front.specs.AstToSpecTree.{spec_node_of};
 ghost use Rattle.regress_program.specs.LeafNodesAndOptimizableLoops.{spec_cat_of_children};
-ghost use Rattle.regress_program.specs.GroupIdCheck.{is_group_id_seen, are_distinct_unseen, has_exact_group_ids};
-ghost use Rattle.regress_program.specs.GroupIdCheck.{node_fills_id_range, count_and_span_of_group_ids, MarksGroupIdsSeen};
-ghost use Rattle.regress_program.specs.GroupIdCheck.{joined as joined_spans};
-ghost use Rattle.regress_program.specs.GroupIdCheck.{GroupIdCountAndSpanNumbers as SpanOfIds};
+ghost use Rattle.regress_program.specs.GroupIdCheck.{is_group_id_seen, are_distinct_unseen, has_exact_group_ids, node_fills_id_range, count_and_span_of_group_ids, MarksGroupIdsSeen, joined as spec_joined, GroupIdCountAndSpanNumbers};
 ghost use Rattle.regress_program.specs.GroupIdSpans.{group_id_span_as_numbers, JoinsGroupIdSpan};
 
 use regex_pattern_front::ir::Node;
@@ -45,7 +42,7 @@ impl GroupIdCountAndBounds {
 
     // Returns the span of the ids of both.
     fn joined(self, other: GroupIdCountAndBounds) -> GroupIdCountAndBounds
-        ensures { group_id_span_as_numbers result ≡ joined_spans (group_id_span_as_numbers self)
+        ensures { group_id_span_as_numbers result ≡ spec_joined (group_id_span_as_numbers self)
             (group_id_span_as_numbers other) }
     {
         GroupIdCountAndBounds {
@@ -137,7 +134,7 @@ impl GroupIdSpanDuringCheck {
         ensures fresh { result ≡ not (is_group_id_seen bits.old id) }
         ensures seen { (k : ℕ) → is_group_id_seen bits.new k ≡ (is_group_id_seen bits.old k || k == id) }
         ensures span { group_id_span_as_numbers self.new.inside
-            ≡ joined_spans (group_id_span_as_numbers self.old.inside) (count_and_span_of_group_ids (id ∷ [])) }
+            ≡ spec_joined (group_id_span_as_numbers self.old.inside) (count_and_span_of_group_ids (id ∷ [])) }
     {
         self.inside = self
             .inside
@@ -261,7 +258,8 @@ impl GroupIdSpanDuringCheck {
         ensures found { result ≡ has_exact_group_ids (is_group_id_seen bits.old) (spec_cat_of_children nodes.now) }
         ensures span { IsTrue result
             → JoinsGroupIdSpan (group_ids (spec_cat_of_children nodes.now)) self.old.inside self.new.inside }
-        ensures seen { IsTrue result → MarksGroupIdsSeen (group_ids (spec_cat_of_children nodes.now)) bits.old bits.new }
+        ensures seen { IsTrue result → MarksGroupIdsSeen (group_ids (spec_cat_of_children nodes.now)) bits.old
+            bits.new }
     {
         for node in nodes {
             if !self.check_part_ids(bits, node) {

@@ -2,16 +2,12 @@
 #![tactic(auto, using(std::proofs::lemmas::Grind::common_steps), unfolding(regex_pattern_front::specs::AstToSpecTree::spec_node_of, crate::specs::EmitterStateAndAppendedCode::node_with_char_loops_if_enabled))]
 
 ghost use Rattle.std.specs.Prelude.{◌≡◌, ◌+◌, ◌<◌, ◌^◌, [], length, not, OnOk, IsTrue};
-ghost use Rattle.regex_meaning.specs.Tree.{alt, capture_group, lookaround, loop as loop_of, loop_1_char_body, every_node_passes};
+ghost use Rattle.regex_meaning.specs.Tree.{alt, capture_group, lookaround, loop as spec_loop, loop_1_char_body, every_node_passes};
 ghost use Rattle.regex_meaning.specs.WellFormedTrees.{set_sizes_and_characters_fit_instructions};
 ghost use Rattle.regex_pattern_front.specs.AstToSpecTree.{spec_node_of, spec_quantifier_of};
 ghost use Rattle.regress_program.specs.LeafNodesAndOptimizableLoops.{spec_cat_of_children, is_leaf};
-ghost use Rattle.regress_program.specs.EmitterStateAndAppendedCode.{HasIndexRoomForNode, node_with_char_loops_if_enabled, node_to_emit_in_mode, emitter_state, IsEmitted};
-ghost use Rattle.regress_program.specs.EmitterStateAndAppendedCode.{lookaround_as_spec};
-ghost use Rattle.regress_program.specs.PendingEmission.{CanEmitPendingPart, FitsIndexWidths, PendingPartIsEmittedOrBegun, BeginsEmittingNode};
-ghost use Rattle.regress_program.specs.PendingEmission.{BeginsEmittingAlternatives, BeginsEmittingNodeList, emitter_and_pending_parts};
-ghost use Rattle.regress_program.specs.PendingEmission.{with_alternatives_emitted, with_lookaround_end};
-ghost use Rattle.regress_program.specs.PendingEmission.{with_loop_end};
+ghost use Rattle.regress_program.specs.EmitterStateAndAppendedCode.{HasIndexRoomForNode, node_with_char_loops_if_enabled, node_to_emit_in_mode, emitter_state, IsEmitted, lookaround_as_spec};
+ghost use Rattle.regress_program.specs.PendingEmission.{CanEmitPendingPart, FitsIndexWidths, PendingPartIsEmittedOrBegun, BeginsEmittingNode, BeginsEmittingAlternatives, BeginsEmittingNodeList, emitter_and_pending_parts, with_alternatives_emitted, with_lookaround_end, with_loop_end};
 
 use crate::emit::emitter::{EmitMode, Emitter, LookaroundFields, loop_head_insn};
 use crate::instructions::{Insn, LoopFields};
@@ -137,7 +133,8 @@ impl Emitter {
         nodes: &'a [Node],
         rest: &mut Vec<UnemittedCodePart<'a>>,
     ) -> Result<(), AllocError>
-        requires sets { IsTrue (every_node_passes set_sizes_and_characters_fit_instructions (spec_cat_of_children nodes.now)) }
+        requires sets { IsTrue (every_node_passes set_sizes_and_characters_fit_instructions
+            (spec_cat_of_children nodes.now)) }
         requires room { HasIndexRoomForNode (emitter_state self.old) (node_with_char_loops_if_enabled mode.narrow
             (spec_cat_of_children nodes.now)) }
         ensures { OnOk result (BeginsEmittingNodeList mode nodes.now (emitter_and_pending_parts self.old rest.old)
@@ -166,7 +163,8 @@ impl Emitter {
         rest: &mut Vec<UnemittedCodePart<'a>>,
     ) -> Result<(), AllocError>
         requires first { IsTrue (every_node_passes set_sizes_and_characters_fit_instructions (spec_node_of first.now)) }
-        requires others { IsTrue (every_node_passes set_sizes_and_characters_fit_instructions (spec_node_of others.now)) }
+        requires others { IsTrue (every_node_passes set_sizes_and_characters_fit_instructions
+            (spec_node_of others.now)) }
         requires room { HasIndexRoomForNode (emitter_state self.old) (alt (node_to_emit_in_mode mode first.now)
             (node_to_emit_in_mode mode others.now)) }
         ensures { OnOk result (BeginsEmittingNode mode (alt (node_to_emit_in_mode mode first.now)
@@ -213,7 +211,8 @@ impl Emitter {
         contents: &'a Node,
         rest: &mut Vec<UnemittedCodePart<'a>>,
     ) -> Result<(), AllocError>
-        requires sets { IsTrue (every_node_passes set_sizes_and_characters_fit_instructions (spec_node_of contents.now)) }
+        requires sets { IsTrue (every_node_passes set_sizes_and_characters_fit_instructions
+            (spec_node_of contents.now)) }
         requires room { HasIndexRoomForNode (emitter_state self.old)
             (capture_group id [] (node_to_emit_in_mode mode contents.now)) }
         ensures { OnOk result (BeginsEmittingNode mode (capture_group id [] (node_to_emit_in_mode mode contents.now))
@@ -234,7 +233,8 @@ impl Emitter {
         contents: &'a Node,
         rest: &mut Vec<UnemittedCodePart<'a>>,
     ) -> Result<(), AllocError>
-        requires sets { IsTrue (every_node_passes set_sizes_and_characters_fit_instructions (spec_node_of contents.now)) }
+        requires sets { IsTrue (every_node_passes set_sizes_and_characters_fit_instructions
+            (spec_node_of contents.now)) }
         requires room { HasIndexRoomForNode (emitter_state self.old) (lookaround (lookaround_as_spec look)
             (node_to_emit_in_mode mode contents.now)) }
         ensures { OnOk result (BeginsEmittingNode mode (lookaround (lookaround_as_spec look)
@@ -275,9 +275,9 @@ impl Emitter {
         rest: &mut Vec<UnemittedCodePart<'a>>,
     ) -> Result<(), AllocError>
         requires sets { IsTrue (every_node_passes set_sizes_and_characters_fit_instructions (spec_node_of loopee.now)) }
-        requires room { HasIndexRoomForNode (emitter_state self.old) (loop_of (spec_quantifier_of quant.now)
+        requires room { HasIndexRoomForNode (emitter_state self.old) (spec_loop (spec_quantifier_of quant.now)
             groups.now.start groups.now.end (node_to_emit_in_mode mode loopee.now)) }
-        ensures { OnOk result (BeginsEmittingNode mode (loop_of (spec_quantifier_of quant.now)
+        ensures { OnOk result (BeginsEmittingNode mode (spec_loop (spec_quantifier_of quant.now)
             groups.now.start groups.now.end (node_to_emit_in_mode mode loopee.now))
             (emitter_and_pending_parts self.old rest.old) (emitter_and_pending_parts self.new rest.new)) }
     {
@@ -343,6 +343,19 @@ pub(crate) fn has_children(node: &Node) -> bool
         Node::LookaroundAssertion { .. } => true,
         Node::Loop { .. } => true,
         Node::Loop1CharBody { .. } => true,
-        _ => false,
+        Node::Empty
+        | Node::Goal
+        | Node::Char { .. }
+        | Node::CharSet(_)
+        | Node::ByteSet(_)
+        | Node::ByteSequence(_)
+        | Node::Bracket(_)
+        | Node::StringSet { .. }
+        | Node::MatchAny
+        | Node::MatchAnyExceptLineTerminator
+        | Node::Anchor { .. }
+        | Node::WordBoundary { .. }
+        | Node::BackRef { .. }
+        | Node::CanonicalBackRef { .. } => false,
     }
 }

@@ -3,7 +3,7 @@
 
 ghost use Rattle.std.specs.Prelude.{◌≡◌, not, true};
 ghost use Rattle.std.proofs.Common.{refl};
-ghost use Rattle.regex_meaning.specs.CompilationRelation.{is_byte_node, tree_contains_byte_nodes as node_reads_bytes};
+ghost use Rattle.regex_meaning.specs.CompilationRelation.{is_byte_node, tree_contains_byte_nodes as spec_tree_contains_byte_nodes};
 ghost use Rattle.regex_pattern_front.specs.OptimizedTrees.{optimized};
 ghost use Rattle.regex_pattern_front.specs.AstToSpecTree.{spec_node_of};
 ghost use Rattle.regress_program.specs.{LeafNodesAndOptimizableLoops.{becomes_char_loop}, TryFoldOverTreeNodes.{step_of_test}};
@@ -33,7 +33,7 @@ impl PreorderNodeVisitor for ByteNodeDetector {
 
 // Checks whether the tree contains a byte set or a byte sequence.
 pub(crate) fn tree_contains_byte_nodes(node: &Node) -> bool
-    ensures { result ≡ node_reads_bytes (spec_node_of node.now) }
+    ensures { result ≡ spec_tree_contains_byte_nodes (spec_node_of node.now) }
 {
     !walk(&mut ByteNodeDetector, node)
 }

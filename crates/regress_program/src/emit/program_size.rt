@@ -5,7 +5,7 @@ ghost use Rattle.std.specs.Prelude.{◌≡◌, ◌+◌, ◌-◌, ◌^◌, Some, 
 ghost use Rattle.std.proofs.Common.{refl};
 ghost use Rattle.regex_meaning.specs.Tree.{group_ids};
 ghost use Rattle.regex_pattern_front.specs.AstToSpecTree.{spec_node_of};
-ghost use Rattle.regress_program.specs.{CompilationOfTreesAsFunction.{node_insn_count, insn_count_without_children as own_size_of, loop_count}, GroupLoopInsnCountsPerNode.{count_node}};
+ghost use Rattle.regress_program.specs.{CompilationOfTreesAsFunction.{node_insn_count, insn_count_without_children as spec_insn_count_without_children, loop_count}, GroupLoopInsnCountsPerNode.{count_node}};
 
 use crate::emit::byte_sequences_and_string_sets::{chunk_count, insn_count_of_strings};
 use crate::emit::tree_walk_with_visitor::{PreorderNodeVisitor, walk};
@@ -75,7 +75,7 @@ impl PreorderNodeVisitor for ProgramSize {
 // Returns the number of instructions of a node without those of its children, saturating at
 // `usize::MAX`.
 fn insn_count_without_children(node: &Node) -> usize
-    ensures { result ≡ min (own_size_of (spec_node_of node.now)) (2 ^ 64 - 1) }
+    ensures { result ≡ min (spec_insn_count_without_children (spec_node_of node.now)) (2 ^ 64 - 1) }
 {
     match node {
         Node::Empty => 0,

@@ -4,12 +4,9 @@
 ghost use Rattle.std.specs.Prelude.{◌≡◌, ◌+◌, ◌∷◌, ◌++◌, [], length, map, set, replicate, string_bytes, IfOk, OnOk, IsTrue, ◌==◌};
 ghost use Rattle.std.proofs.Common.{refl};
 ghost use Rattle.regex_meaning.specs.{Tree.{group_ids}, WellFormedTrees.{each_id_stands_once}};
-ghost use Rattle.regex_meaning.specs.MatchGroupsByNumberAndName.{capturing_group_ids_and_names, group_names_by_id as names_of_tree};
+ghost use Rattle.regex_meaning.specs.MatchGroupsByNumberAndName.{capturing_group_ids_and_names, group_names_by_id};
 ghost use Rattle.regex_pattern_front.specs.AstToSpecTree.{spec_node_of, group_name_bytes};
-ghost use Rattle.regress_program.specs.StoringGroupNamesById.{IsNameListAfterStoringNames, StoresOrPushesNodes, PushesTwoNodes};
-ghost use Rattle.regress_program.specs.StoringGroupNamesById.{PushesNamedNodes, is_nameless, tree_has_no_named_groups as is_node_unnamed, naming_measure_of_node};
-ghost use Rattle.regress_program.specs.StoringGroupNamesById.{naming_measure_of_part};
-ghost use Rattle.regress_program.specs.StoringGroupNamesById.{names_in_pending_part};
+ghost use Rattle.regress_program.specs.StoringGroupNamesById.{IsNameListAfterStoringNames, StoresOrPushesNodes, PushesTwoNodes, PushesNamedNodes, is_nameless, tree_has_no_named_groups as spec_tree_has_no_named_groups, naming_measure_of_node, naming_measure_of_part, names_in_pending_part};
 ghost use Rattle.regress_program.specs.TryFoldOverTreeNodes.{step_of_test};
 
 use crate::emit::nested_nodes::has_children;
@@ -30,7 +27,7 @@ pub(crate) fn names_by_id(
 ) -> Result<Vec<String>, AllocError>
     requires once { IsTrue (each_id_stands_once (spec_node_of root.now)) }
     requires all { groups ≡ length (group_ids (spec_node_of root.now)) }
-    ensures { IfOk result (λ names. map string_bytes names.items ≡ names_of_tree (spec_node_of root.now)) }
+    ensures { IfOk result (λ names. map string_bytes names.items ≡ group_names_by_id (spec_node_of root.now)) }
 {
     if tree_has_no_named_groups(root) {
         return Ok(Vec::new(alloc));
@@ -232,7 +229,7 @@ impl PreorderNodeVisitor for NamedGroupDetector {
 
 // Checks whether no group has a name.
 fn tree_has_no_named_groups(node: &Node) -> bool
-    ensures { result ≡ is_node_unnamed (spec_node_of node.now) }
+    ensures { result ≡ spec_tree_has_no_named_groups (spec_node_of node.now) }
 {
     walk(&mut NamedGroupDetector, node)
 }

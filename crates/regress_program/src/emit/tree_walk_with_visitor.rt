@@ -46,7 +46,20 @@ pub(crate) fn walk<V: PreorderNodeVisitor>(visitor: &mut V, root: &Node) -> bool
                 rest = contents;
             }
             Node::Loop { loopee, .. } | Node::Loop1CharBody { loopee, .. } => rest = loopee,
-            _ => return true,
+            Node::Empty
+            | Node::Goal
+            | Node::Char { .. }
+            | Node::CharSet(_)
+            | Node::ByteSet(_)
+            | Node::ByteSequence(_)
+            | Node::Bracket(_)
+            | Node::StringSet { .. }
+            | Node::MatchAny
+            | Node::MatchAnyExceptLineTerminator
+            | Node::Anchor { .. }
+            | Node::WordBoundary { .. }
+            | Node::BackRef { .. }
+            | Node::CanonicalBackRef { .. } => return true,
         }
     }
     false
@@ -70,7 +83,8 @@ fn walk_arm<V: PreorderNodeVisitor>(visitor: &mut V, arm: &Node) -> bool
 #[inline(always)]
 fn walk_row<V: PreorderNodeVisitor>(visitor: &mut V, nodes: &[Node]) -> bool
     ensures goes_on { result ≡ is_some (try_fold_tree_nodes V.step (spec_cat_of_children nodes.now) visitor.old) }
-    ensures walked { IsTrue result → try_fold_tree_nodes V.step (spec_cat_of_children nodes.now) visitor.old ≡ Some visitor.new }
+    ensures walked { IsTrue result → try_fold_tree_nodes V.step (spec_cat_of_children nodes.now) visitor.old ≡ Some
+        visitor.new }
 {
     for node in nodes {
         if !walk(visitor, node) {

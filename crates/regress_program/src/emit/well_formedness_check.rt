@@ -7,11 +7,8 @@ ghost use Rattle.std.specs.List.{list_all};
 ghost use Rattle.std.specs.Str.{is_utf8, chars, continuation_len};
 ghost use Rattle.regex_pattern_front.specs.AstToSpecTree.{spec_node_of, spec_quantifier_of};
 ghost use Rattle.regex_meaning.specs.Tree.{every_node_passes};
-ghost use Rattle.regex_meaning.specs.WellFormedTrees.{number_of_goal_nodes, ends_in_goal, only_goal_node_is_last, IsWellFormed};
-ghost use Rattle.regex_meaning.specs.WellFormedTrees.{is_one_character as is_one_character_node};
-ghost use Rattle.regex_meaning.specs.WellFormedTrees.{is_min_at_most_max as is_quantifier_in_order};
-ghost use Rattle.regress_program.specs.{GroupIdCheck.{is_well_formed_node as is_node_sound}, EmitterStateAndAppendedCode.{strings_as_code_points}};
-ghost use Rattle.regress_program.specs.{TryFoldOverTreeNodes.{step_of_test}, AtMostOneGoalNodeCheck.{visit_goal}};
+ghost use Rattle.regex_meaning.specs.WellFormedTrees.{number_of_goal_nodes, ends_in_goal, only_goal_node_is_last, IsWellFormed, is_one_character as spec_is_one_character, is_min_at_most_max as spec_is_min_at_most_max};
+ghost use Rattle.regress_program.specs.{GroupIdCheck.{is_well_formed_node}, EmitterStateAndAppendedCode.{strings_as_code_points}, TryFoldOverTreeNodes.{step_of_test}, AtMostOneGoalNodeCheck.{visit_goal}};
 
 use crate::emit::group_id_and_range_check::group_id_span_if_ids_valid;
 use crate::emit::tree_walk_with_visitor::{PreorderNodeVisitor, walk};
@@ -114,7 +111,7 @@ struct WellFormedNodeCheck {
 }
 
 impl PreorderNodeVisitor for WellFormedNodeCheck {
-    ghost step = { λ n it. step_of_test (is_node_sound it.groups n) it };
+    ghost step = { λ n it. step_of_test (is_well_formed_node it.groups n) it };
 
     ghost passes_rows = { λ first rest it. refl };
 
@@ -140,7 +137,7 @@ impl PreorderNodeVisitor for WellFormedNodeCheck {
 // Checks whether the node and each node inside it are well formed by themselves. `groups` is the
 // number of groups.
 fn has_well_formed_nodes(node: &Node, groups: usize) -> bool
-    ensures { result ≡ every_node_passes (is_node_sound groups) (spec_node_of node.now) }
+    ensures { result ≡ every_node_passes (is_well_formed_node groups) (spec_node_of node.now) }
 {
     walk(&mut WellFormedNodeCheck { groups }, node)
 }
@@ -179,7 +176,7 @@ fn holds_code_points(string: &[u32]) -> bool
 }
 
 fn is_min_at_most_max(quant: &Quantifier) -> bool
-    ensures { result ≡ is_quantifier_in_order (spec_quantifier_of quant.now) }
+    ensures { result ≡ spec_is_min_at_most_max (spec_quantifier_of quant.now) }
 {
     match quant.max {
         None => true,
@@ -189,7 +186,7 @@ fn is_min_at_most_max(quant: &Quantifier) -> bool
 
 // Checks whether the node reads exactly one character.
 fn is_one_character(node: &Node) -> bool
-    ensures { result ≡ is_one_character_node (spec_node_of node.now) }
+    ensures { result ≡ spec_is_one_character (spec_node_of node.now) }
 {
     match node {
         Node::Char { .. }

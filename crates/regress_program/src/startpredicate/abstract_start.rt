@@ -2,11 +2,9 @@
 #![tactic(auto, unfolding(regex_pattern_front::specs::AstToSpecTree::spec_node_of, regex_meaning::specs::StartPredicate::abstract_start_predicate, crate::specs::StartPredicates::making_node_start_predicate_may_allocate, crate::specs::InnerNodeCountMeasure::inner_node_count))]
 
 ghost use Rattle.std.specs.Prelude.{◌≡◌, not, true, false, IfOk, OnOk, IsOk};
-ghost use Rattle.regex_meaning.specs.StartPredicate.{abstract_start_predicate, join, byte_sequence_predicate, common_prefix_or_first_bytes, union_of_byte_sets};
-ghost use Rattle.regex_meaning.specs.StartPredicate.{first_byte_as_set, common_prefix};
+ghost use Rattle.regex_meaning.specs.StartPredicate.{abstract_start_predicate, join, byte_sequence_predicate, common_prefix_or_first_bytes, union_of_byte_sets, first_byte_as_set, common_prefix};
 ghost use Rattle.regex_pattern_front.specs.AstToSpecTree.{spec_node_of};
-ghost use Rattle.regress_program.specs.JoinedStarts.{abstract_start_as_spec, join_nonempty_starts};
-ghost use Rattle.regress_program.specs.JoinedStarts.{join_starts_of_alternatives, join_starts};
+ghost use Rattle.regress_program.specs.JoinedStarts.{abstract_start_as_spec, join_nonempty_starts, join_starts_of_alternatives, join_starts};
 ghost use Rattle.regress_program.specs.LeafNodesAndOptimizableLoops.{spec_cat_of_children, is_leaf};
 ghost use Rattle.regress_program.specs.StartPredicates.{predicate_says_reads_nothing, making_node_start_predicate_may_allocate};
 
@@ -87,10 +85,12 @@ fn join_node_list<'a>(
     nodes: &'a [Node],
 ) -> Result<bool, AllocError>
     ensures shared { OnOk result (abstract_start_as_spec shared.new
-        ≡ join_nonempty_starts (abstract_start_as_spec shared.old) (abstract_start_predicate (spec_cat_of_children nodes.now))) }
+        ≡ join_nonempty_starts (abstract_start_as_spec shared.old)
+        (abstract_start_predicate (spec_cat_of_children nodes.now))) }
     ensures reads { IfOk result (λ reads. reads ≡ not (predicate_says_reads_nothing
         (abstract_start_predicate (spec_cat_of_children nodes.now)))) }
-    ensures no_memory { making_node_start_predicate_may_allocate (spec_cat_of_children nodes.now) ≡ false → IsOk result }
+    ensures no_memory { making_node_start_predicate_may_allocate (spec_cat_of_children nodes.now) ≡ false → IsOk
+        result }
 {
     for node in nodes {
         if join_node(shared, node)? {

@@ -4,8 +4,8 @@ ghost use Rattle.std.specs.Prelude.{◌≡◌, [], ◌∷◌, IfSome, MatchOptio
 ghost use Rattle.std.specs.List.{list_any};
 ghost use Rattle.std.specs.Iterator.{UpTo, YieldsFirstBy, at_most, item_count};
 ghost use Rattle.std.specs.Iterator.SizeHint.{IsWithinCount};
-ghost use Rattle.regex_meaning.specs.MatchGroupsByNumberAndName.{named_groups as groups_of_names};
-ghost use Rattle.regress_search.specs.{MatchesAsSpecAnswers.{answer_of, range_as_pair}, GroupIterators.{all_groups, is_new_group_name as is_new_name, distinct_names_from}};
+ghost use Rattle.regex_meaning.specs.MatchGroupsByNumberAndName.{named_groups as spec_named_groups};
+ghost use Rattle.regress_search.specs.{MatchesAsSpecAnswers.{answer_of, range_as_pair}, GroupIterators.{all_groups, is_new_group_name as spec_is_new_group_name, distinct_names_from}};
 
 use crate::exec::Match;
 use std::iter::FusedIterator;
@@ -26,7 +26,7 @@ impl Match {
     /// Iterates over the distinct names of groups in order of their first occurrence. Each name
     /// comes with the range of its first group that matched.
     pub fn named_groups(&self) -> NamedGroups<'_>
-        ensures { result ≡ groups_of_names (answer_of self.now) }
+        ensures { result ≡ spec_named_groups (answer_of self.now) }
     {
         NamedGroups {
             matched: self,
@@ -51,7 +51,7 @@ fn new_name_from(names: &[String], from: usize) -> Option<(usize, &str)>
 }
 
 // Returns the number of names at id `from` or later that do not occur at an earlier id.
-fn new_names_from(names: &[String], from: usize) -> usize
+fn count_new_names_from(names: &[String], from: usize) -> usize
     ensures { result ≡ length (distinct_names_from (map string_bytes names.now) from) }
 {
     let mut left = 0;
@@ -65,7 +65,7 @@ fn new_names_from(names: &[String], from: usize) -> usize
 
 // Checks whether a name is not empty and does not occur in `before`.
 fn is_new_group_name(name: &str, before: &[String]) -> bool
-    ensures { result ≡ is_new_name name.now (map string_bytes before.now) }
+    ensures { result ≡ spec_is_new_group_name name.now (map string_bytes before.now) }
 {
     !name.is_empty() && !is_among_names(name, before)
 }
@@ -200,7 +200,7 @@ impl<'m> Iterator for NamedGroups<'m> {
 impl<'m> ExactSizeIterator for NamedGroups<'m> {
     /// Returns the number of names that are left. This takes a search for each name.
     fn len(&self) -> usize {
-        new_names_from(self.matched.names.as_slice(), self.id)
+        count_new_names_from(self.matched.names.as_slice(), self.id)
     }
 }
 

@@ -1,7 +1,7 @@
 //! The accessors of a match: its range, and its groups by number and by name.
 
 ghost use Rattle.std.specs.Prelude.{◌≡◌, ◌≤◌, IfOk, IsCharBoundary, map, option_map, slice_range};
-ghost use Rattle.regex_meaning.specs.{Outcomes.{group_range}, MatchGroupsByNumberAndName.{first_range, group as group_of, ids_named, named_group as group_of_name}};
+ghost use Rattle.regex_meaning.specs.{Outcomes.{group_range}, MatchGroupsByNumberAndName.{first_range, group as spec_group, ids_named, named_group as spec_named_group}};
 ghost use Rattle.regress_search.specs.MatchesAsSpecAnswers.{answer_of, range_as_pair};
 
 use crate::exec::Match;
@@ -46,7 +46,7 @@ impl Match {
     /// numbered from 1. Returns `None` if there is no such group, if it did not match, or if
     /// `captures` was truncated before it.
     pub fn group(&self, idx: usize) -> Option<Range<usize>>
-        ensures { option_map range_as_pair result ≡ group_of (answer_of self.now) idx }
+        ensures { option_map range_as_pair result ≡ spec_group (answer_of self.now) idx }
     {
         if idx == 0 {
             Some(self.range())
@@ -59,7 +59,7 @@ impl Match {
     /// of the first one, by number, that matched. It returns `None` if none of them matched, and
     /// for the empty name, which marks groups without a name.
     pub fn named_group(&self, name: &str) -> Option<Range<usize>>
-        ensures { option_map range_as_pair result ≡ group_of_name (answer_of self.now) name.now }
+        ensures { option_map range_as_pair result ≡ spec_named_group (answer_of self.now) name.now }
     {
         if name.is_empty() {
             None

@@ -2,7 +2,7 @@
 //! executor.
 
 ghost use Rattle.std.specs.Prelude.{◌<◌, ◌⊎◌, IsTrue, length};
-ghost use Rattle.regex_meaning.specs.Text.{is_unit_boundary as is_boundary_of};
+ghost use Rattle.regex_meaning.specs.Text.{is_unit_boundary as spec_is_unit_boundary};
 
 use crate::fault::ParseFault;
 use crate::hostile::executors::finds;
@@ -13,7 +13,7 @@ use regress_program::insn::CompiledRegexFor16BitUnits;
 
 /// Checks whether an offset does not split a surrogate pair, or is past the end.
 pub fn is_unit_start(units: &[u16], offset: usize) -> bool
-    ensures { IsTrue result → IsTrue (is_boundary_of units.now offset) ⊎ (length units.now < offset) }
+    ensures { IsTrue result → IsTrue (spec_is_unit_boundary units.now offset) ⊎ (length units.now < offset) }
 {
     is_unit_boundary(units, offset) || units.len() < offset
 }
@@ -25,7 +25,7 @@ pub fn all_in_utf16(
     start: usize,
     wanted: &str,
 ) -> Result<bool, ParseFault>
-    requires { IsTrue (is_boundary_of units.now start) ⊎ (length units.now < start) }
+    requires { IsTrue (spec_is_unit_boundary units.now start) ⊎ (length units.now < start) }
 {
     are_expected_matches(re.find_from_utf16(units, start)?, wanted)
 }
@@ -37,7 +37,7 @@ pub fn asked_in_utf16(
     start: usize,
     wanted: &str,
 ) -> Result<bool, ParseFault>
-    requires { IsTrue (is_boundary_of units.now start) ⊎ (length units.now < start) }
+    requires { IsTrue (spec_is_unit_boundary units.now start) ⊎ (length units.now < start) }
 {
     let mut executor = DefaultUtf16Executor::new_utf16(re, units)?;
     finds(&mut executor, start, wanted)

@@ -1,8 +1,7 @@
 use Rattle.std.proofs.Common.{◌++◌, ◌∷◌, [], ◌∙◌, ap, refl, arith, ℕ}
 use Rattle.std.proofs.lemmas.Bool.{ne_eqb}
 use Rattle.regex_pattern_front.specs.AstToSpecTree.{spec_flags_of}
-use Rattle.regex_parser.proofs.ClassReaderLemmas.{ranges-begin, ranges-next, ranges-end, ranges-none, adds-none, adds-more, set-of_members}
-use Rattle.regex_parser.proofs.ClassReaderLemmas.{member-nothing, err-ranges}
+use Rattle.regex_parser.proofs.ClassReaderLemmas.{ranges-begin, ranges-next, ranges-end, ranges-none, adds-none, adds-more, set-of_members, member-nothing, err-ranges}
 use Rattle.regex_parser.proofs.character_class_parser.ranges.Goals as goal
 
 pub loop-c-init : goal.loop-c-init

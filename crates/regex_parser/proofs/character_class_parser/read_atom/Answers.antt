@@ -1,6 +1,5 @@
-use Rattle.std.proofs.Common.{◌∷◌, sym, ap}
+use Rattle.std.proofs.Common.{◌∷◌, sym, ap, refl}
 use Rattle.regex_meaning.specs.CharacterClasses.{backspace, escaped}
-use Rattle.std.proofs.Common.{refl}
 use Rattle.regex_parser.proofs.ClassReaderLemmas.{atom-verbatim, atom-class, no_atom, no_class, err-atom}
 use Rattle.regex_parser.proofs.character_class_parser.read_atom.Goals as goal
 

@@ -2,8 +2,7 @@ use Rattle.std.proofs.Common.{◌≡◌, false, sym, ap, ◌∙◌}
 use Rattle.regex_parser.specs.EcmaReaderContracts.{is_allowed_as_name_character}
 use Rattle.regex_parser.proofs.EscapeLemmas.{scalar-same}
 use Rattle.regex_parser.proofs.EcmaNameLemmas.{no-character}
-use Rattle.regex_parser.proofs.ecmascript_group_name_reader.read_name_character.Goals.{in_default-from_u32-via-in-Some-from_u32+else-is_allowed_in_name}
-use Rattle.regex_parser.proofs.ecmascript_group_name_reader.read_name_character.Goals.{in_default-from_u32-via-in_default-from_u32}
+use Rattle.regex_parser.proofs.ecmascript_group_name_reader.read_name_character.Goals.{in_default-from_u32-via-in-Some-from_u32+else-is_allowed_in_name, in_default-from_u32-via-in_default-from_u32}
 use Rattle.regex_parser.proofs.ecmascript_group_name_reader.read_name_character.Goals as goal
 
 pub returns-in_default-from_u32-clause-text : goal.returns-in_default-from_u32-clause-text

@@ -1,7 +1,6 @@
 use Rattle.std.proofs.Common.{◌∙◌, sym, ap, refl, arith, ◌≡◌, true}
 use Rattle.std.specs.Prelude.{string_bytes, ◌++◌, ◌∷◌, []}
-use Rattle.regex_parser.proofs.GroupNameLemmas.{name-begins, name-goes_on, name-ends, name-stops, name-unclosed, one_byte, follows, follows-not}
-use Rattle.regex_parser.proofs.GroupNameLemmas.{goes_on, none-append, not_end, is_end, may_follow}
+use Rattle.regex_parser.proofs.GroupNameLemmas.{name-begins, name-goes_on, name-ends, name-stops, name-unclosed, one_byte, follows, follows-not, goes_on, none-append, not_end, is_end, may_follow}
 use Rattle.regex_parser.proofs.escapes_and_group_names.name.Goals as goal
 
 pub loop-c-init : goal.loop-c-init

@@ -12,11 +12,10 @@ use Rattle.regress_backtrack.specs.State.{StateModel, current_thread_state_of, l
 use Rattle.regress_search.specs.TreePlanAndText.{program_of}
 use Rattle.regress_backtrack.specs.AttemptResults.{HasSlotPerGroupAndLoop}
 use Rattle.regress_backtrack.specs.SearchProgress.{found_from_state, NeedStepsAtLeast}
-use Rattle.regress_backtrack.specs.StepsTakenFromBudget.{step_limit}
+use Rattle.regress_backtrack.specs.BudgetAccounting.{step_limit}
 use Rattle.regress_machine.specs.SearchFindsFirstOutcomeAtPlace.{state_before_first_insn}
 use Rattle.regress_machine.specs.Machine.{running}
-use Rattle.regress_backtrack.proofs.AttemptResultLemmas.{Begins, first-state, begins, attempt-ends, attempt-spends, attempt-stops, found-with, spends-none}
-use Rattle.regress_backtrack.proofs.AttemptResultLemmas.{stopped-takes, takes-none, tells-memory}
+use Rattle.regress_backtrack.proofs.AttemptResultLemmas.{Begins, first-state, begins, attempt-ends, attempt-spends, attempt-stops, found-with, spends-none, stopped-takes, takes-none, tells-memory}
 use Rattle.regress_backtrack.proofs.PushedRecordLemmas.{sound-same}
 use Rattle.regress_backtrack.proofs.attempts.attempt.Given.{Over}
 use Rattle.regress_backtrack.proofs.attempts.attempt.Goals.{In_ok-begin}

@@ -1,7 +1,8 @@
 use Rattle.std.proofs.Common.{◌≡◌, true, false}
+use Rattle.std.proofs.lemmas.Bool.{not-false}
 use Rattle.regress_backtrack.specs.MemoizedExecution.{memo_is_on}
 use Rattle.regress_backtrack.proofs.MemoizedExecutionLemmas.{knows-on, ends-on}
-use Rattle.regress_backtrack.proofs.KnownEndLemmas.{if-some, was-true}
+use Rattle.regress_backtrack.proofs.KnownEndLemmas.{if-some}
 use Rattle.regress_backtrack.proofs.memoized_ends.known_end_if_any_end_suffices.Goals as goal
 
 pub known_end_of_threads-requires-clause-sound : goal.known_end_of_threads-requires-clause-sound
@@ -19,4 +20,4 @@ returns-clause-on g c =
 
 pub returns-clause-any : goal.returns-clause-any
 returns-clause-any g c =
-    if-some c.known_end_of_threads.result (was-true c.args.base.any_end c.if-not-base.false)
+    if-some c.known_end_of_threads.result (not-false c.args.base.any_end c.if-not-base.false)

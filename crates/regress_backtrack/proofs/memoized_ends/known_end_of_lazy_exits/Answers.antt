@@ -1,9 +1,10 @@
 use Rattle.std.proofs.Common.{◌≡◌, ◌-◌, true, sym, ap, ◌∙◌, subst, arith}
 use Rattle.std.specs.Prelude.{is_some}
-use Rattle.regress_backtrack.specs.FailureMemo.{memo_key_as_spec}
+use Rattle.regress_backtrack.specs.FailureMemo.{record_key_as_spec}
 use Rattle.regress_backtrack.specs.KnownEnds.{IsKnownEnd, AreLastLazyExits}
 use Rattle.regress_backtrack.specs.MemoizedCharLoops.{DecidesLoopRest}
-use Rattle.regress_backtrack.proofs.KnownEndLemmas.{some-is, rightwards-exits, exits-behind, lazy-known}
+use Rattle.regress_backtrack.proofs.KnownEndLemmas.{rightwards-exits, exits-behind, lazy-known}
+use Rattle.regress_backtrack.proofs.GroupAndLoopOperations.{some-is}
 use Rattle.regress_backtrack.proofs.memoized_ends.known_end_of_lazy_exits.Goals as goal
 
 pub overflow_sub-from : goal.overflow_sub-from
@@ -26,7 +27,7 @@ returns-then-is_known_to_find_end g c =
     let key = c.in-Some-key_of_loop_rest.key in
     let last = some-is (AreLastLazyExits g.Dir.Direction.FORWARD c.args.base h) c.in-Some.is c.choice_point_of_last_lazy_exits.ensures in
     let loop = c.is_unbounded_lazy.ensures c.if-not-is_unbounded_lazy.false in
-    let tells = some-is (λ k. DecidesLoopRest w t true (record { ip = m.ip - 2; at = m.next }) (memo_key_as_spec k) h) c.in-Some-key_of_loop_rest.is c.key_of_loop_rest.ensures in
-    let finds = c.requires.ends.finds (memo_key_as_spec key) (sym c.is_known_to_find_end.ensures ∙ c.if-is_known_to_find_end.true) in
+    let tells = some-is (λ k. DecidesLoopRest w t true (record { ip = m.ip - 2; at = m.next }) (record_key_as_spec k) h) c.in-Some-key_of_loop_rest.is c.key_of_loop_rest.ensures in
+    let finds = c.requires.ends.finds (record_key_as_spec key) (sym c.is_known_to_find_end.ensures ∙ c.if-is_known_to_find_end.true) in
     subst (λ f. IsKnownEnd w t f c.args.base c.args.here h key) (sym last.rightwards)
     (lazy-known w c.args.base c.args.here h m (rightwards-exits last) c.requires.standing (g.met.W.SearchContext.is_text c.args.context.now) t key loop tells finds)

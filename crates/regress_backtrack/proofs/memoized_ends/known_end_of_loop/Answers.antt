@@ -3,7 +3,7 @@ use Rattle.std.specs.Prelude.{IfSome}
 use Rattle.regress_input.specs.CharAndByteReadsFromOffset.{direction_of_forward_flag}
 use Rattle.regress_memo.proofs.ThreadListSuccessLemmas.{rows-reach}
 use Rattle.regress_search.specs.TreePlanAndText.{program_of}
-use Rattle.regress_backtrack.specs.FailureMemo.{memo_key_as_spec}
+use Rattle.regress_backtrack.specs.FailureMemo.{record_key_as_spec}
 use Rattle.regress_backtrack.specs.MemoizedCharLoops.{DecidesLoopRest}
 use Rattle.regress_backtrack.proofs.KnownEndLemmas.{rest-key}
 use Rattle.regress_backtrack.proofs.CharLoopTurns.{rows-of, run-with, bounds-inside, class-inside, readable, tested}
@@ -52,7 +52,7 @@ returns-then-rest_is_known_to_find_end g c =
     let fits = g.met.W.SearchContext.offsets_fit it in
     let near = run-near here most fits t.0 t.1 c.advance_over_class_at_most-near.ensures c.if-count-least.false in
     let finds = c.rest_is_known_to_find_end.ensures c.if-rest_is_known_to_find_end.true in
-    let tells = subst (λ o. IfSome o (λ k. DecidesLoopRest w (g.M.FailureMemo.terms c.args.memo.now) d (record { ip = c.args.here.ip; at = c.advance_over_class_at_most-near.result.0 }) (memo_key_as_spec k) c.args.memory.now)) c.in-Some.is c.key_of_loop_rest.ensures in (
+    let tells = subst (λ o. IfSome o (λ k. DecidesLoopRest w (g.M.FailureMemo.terms c.args.memo.now) d (record { ip = c.args.here.ip; at = c.advance_over_class_at_most-near.result.0 }) (record_key_as_spec k) c.args.memory.now)) c.in-Some.is c.key_of_loop_rest.ensures in (
       (rows-reach (program_of w) w.text (direction_of_forward_flag d)).simulated 1 _ _ near.1 (finds t.0 t.1),
       rest-key is (run-over here most fits) near.0 t.0 t.1 tells finds,
     )

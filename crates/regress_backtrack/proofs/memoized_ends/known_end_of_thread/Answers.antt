@@ -4,7 +4,7 @@ use Rattle.regress_input.specs.CharAndByteReadsFromOffset.{direction_of_forward_
 use Rattle.regress_machine.specs.Machine.{running}
 use Rattle.regress_search.specs.TreePlanAndText.{program_of}
 use Rattle.regress_backtrack.specs.State.{current_thread_state_of}
-use Rattle.regress_backtrack.specs.FailureMemo.{memo_key_as_spec, KeyStandsForThreadsInDirection, KeyFindsEnd}
+use Rattle.regress_backtrack.specs.FailureMemo.{record_key_as_spec, KeyStandsForThreadsInDirection, KeyFindsEnd}
 use Rattle.regress_backtrack.proofs.memoized_ends.known_end_of_thread.Goals as goal
 
 pub returns-then-is_known_to_find_end : goal.returns-then-is_known_to_find_end
@@ -14,6 +14,6 @@ returns-then-is_known_to_find_end g c =
     let d = g.Dir.Direction.FORWARD in
     let row = running (current_thread_state_of c.args.memory.now c.args.here.ip c.args.here.at) ∷ [] in
     let forward : c.FORWARD.result ≡ d = cc (c.FORWARD.ensures) in
-    let of = subst (λ o. IfSome o (λ k. KeyStandsForThreadsInDirection w t d (memo_key_as_spec k) row)) c.in-Some.is (subst (λ d. IfSome c.key_at.result (λ k. KeyStandsForThreadsInDirection w t d (memo_key_as_spec k) row)) forward c.key_at.ensures) in
-    let finds : KeyFindsEnd (program_of w) w.text t (memo_key_as_spec c.in-Some.key) = c.requires.ends.finds (memo_key_as_spec c.in-Some.key) (sym c.is_known_to_find_end.ensures ∙ c.if-is_known_to_find_end.true) in
+    let of = subst (λ o. IfSome o (λ k. KeyStandsForThreadsInDirection w t d (record_key_as_spec k) row)) c.in-Some.is (subst (λ d. IfSome c.key_at.result (λ k. KeyStandsForThreadsInDirection w t d (record_key_as_spec k) row)) forward c.key_at.ensures) in
+    let finds : KeyFindsEnd (program_of w) w.text t (record_key_as_spec c.in-Some.key) = c.requires.ends.finds (record_key_as_spec c.in-Some.key) (sym c.is_known_to_find_end.ensures ∙ c.if-is_known_to_find_end.true) in
     (finds (direction_of_forward_flag d) row of, finds)

@@ -1,5 +1,6 @@
 use Rattle.regress_backtrack.specs.KnownEnds.{ThreadHasKnownEnd}
-use Rattle.regress_backtrack.proofs.KnownEndLemmas.{some-is, thread-known}
+use Rattle.regress_backtrack.proofs.KnownEndLemmas.{thread-known}
+use Rattle.regress_backtrack.proofs.GroupAndLoopOperations.{some-is}
 use Rattle.regress_backtrack.proofs.memoized_ends.known_end_of_threads.Goals as goal
 
 pub returns-in-Some : goal.returns-in-Some

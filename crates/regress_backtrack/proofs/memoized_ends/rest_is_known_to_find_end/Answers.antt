@@ -4,7 +4,7 @@ use Rattle.regress_program.specs.InsnsAsSpec.{insn_as_spec_insn}
 use Rattle.regress_machine.specs.Machine.{test_of}
 use Rattle.regress_search.specs.TreePlanAndText.{program_of}
 use Rattle.regress_search.proofs.CharLoopReach.{some-of}
-use Rattle.regress_backtrack.specs.FailureMemo.{memo_key_as_spec}
+use Rattle.regress_backtrack.specs.FailureMemo.{record_key_as_spec}
 use Rattle.regress_backtrack.specs.MemoizedCharLoops.{DecidesLoopRest}
 use Rattle.regress_backtrack.proofs.KnownEndLemmas.{seeking-begin, seeking-found, seeking-goes}
 use Rattle.regress_backtrack.proofs.memoized_ends.rest_is_known_to_find_end.Goals as goal
@@ -16,9 +16,9 @@ pub returns-then-is_known_to_find_end : goal.returns-then-is_known_to_find_end
 returns-then-is_known_to_find_end g c = λ found.
     let w = g.W.SearchContext.searching c.args.context.now in
     let t = g.M.FailureMemo.terms c.args.memo.now in
-    let tells = subst (λ o. IfSome o (λ k. DecidesLoopRest w t g.Dir.Direction.FORWARD (record { ip = c.args.from.ip; at = c.places.at }) (memo_key_as_spec k) c.args.memory.now)) c.in-Some.is c.key_of_loop_rest.ensures in
+    let tells = subst (λ o. IfSome o (λ k. DecidesLoopRest w t g.Dir.Direction.FORWARD (record { ip = c.args.from.ip; at = c.places.at }) (record_key_as_spec k) c.args.memory.now)) c.in-Some.is c.key_of_loop_rest.ensures in
     seeking-found (g.met.W.SearchContext.is_text c.args.context.now) c.requires.run c.places.invariant tells
-    (c.requires.ends.finds (memo_key_as_spec c.in-Some.key) (sym c.is_known_to_find_end.ensures ∙ c.if-is_known_to_find_end.true))
+    (c.requires.ends.finds (record_key_as_spec c.in-Some.key) (sym c.is_known_to_find_end.ensures ∙ c.if-is_known_to_find_end.true))
 
 pub read_class_char-requires-clause-at : goal.read_class_char-requires-clause-at
 read_class_char-requires-clause-at g c = c.places.invariant.boundary

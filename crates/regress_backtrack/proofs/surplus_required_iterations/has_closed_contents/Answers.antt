@@ -11,5 +11,5 @@ returns-in-Some g c = λ yes insn is.
     let w = g.W.SearchContext.searching c.args.context.now in
     let s = c.in-Some in
     op-closes (program_of w) w.plan c.args.changes c.args.from c.args.ip s.op.now insn
-    (subst (λ contents. AreLookaroundContentsClosed c.args.changes (program_of w) c.args.from c.args.ip contents) c.contents_of.ensures (c.are_lookaround_contents_closed.ensures yes))
+    (subst (λ contents. AreLookaroundContentsClosed c.args.changes (program_of w) c.args.from c.args.ip contents) c.contents_role.ensures (c.are_lookaround_contents_closed.ensures yes))
     (c.lemma_plan_fits_program.ensures.each c.args.ip s.op.now insn (sym c.op_at.ensures ∙ ap (option_map (λ (o : Bor Op). o.now)) s.is) is)

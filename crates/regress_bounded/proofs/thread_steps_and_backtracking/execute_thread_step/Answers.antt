@@ -1,10 +1,11 @@
 use Rattle.std.proofs.Common.{◌≡◌, ◌<◌, ◌^◌, ◌+◌, length, ap, sym, ◌∙◌, arith, rules}
 use Rattle.regex_meaning.specs.CompilationRelation.{Loop1CharBody}
+use Rattle.regex_meaning.proofs.EscapesAndNamesLemmas.{Some_inj}
 use Rattle.regress_program.specs.InsnsAsSpec.{insn_as_spec_insn}
 use Rattle.regress_pikevm.specs.States.{machine_state_of}
 use Rattle.regress_bounded.specs.BoundedState.{min_and_greed_of_loop}
 use Rattle.regress_bounded.proofs.CharLoopBodyInsns.{body-spelled}
-use Rattle.regress_bounded.proofs.StepResultLemmas.{turns-handed, turns-short, some-key}
+use Rattle.regress_bounded.proofs.StepResultLemmas.{turns-handed, turns-short}
 use Rattle.regress_bounded.proofs.ThreadTurnLemmas.{standing-place, known-over, known-goes, has-maximum, RunAt, here-below, here-insn, run-at}
 use Rattle.regress_bounded.proofs.thread_steps_and_backtracking.execute_thread_step.Goals.{In-Some}
 use Rattle.regress_bounded.proofs.thread_steps_and_backtracking.execute_thread_step.Given.{Over}
@@ -77,5 +78,5 @@ returns-in_err-next-clause-continues g c = λ b h.
 pub execute_with_record-requires-clause-limited : goal.execute_with_record-requires-clause-limited
 execute_with_record-requires-clause-limited g c = λ least most greedy run.
     let here = here-insn c.args.searched.now.program.now c.args.insns.now c.requires.code c.requires.stands c.index-insns-state.result c.index-insns-state.is in
-    let is : insn_as_spec_insn c.index-insns-state.result ≡ Loop1CharBody least most greedy = some-key (sym here ∙ run) in
+    let is : insn_as_spec_insn c.index-insns-state.result ≡ Loop1CharBody least most greedy = Some_inj (sym here ∙ run) in
     has-maximum greedy least most (sym c.in_default.is ∙ c.unbounded_loop.ensures ∙ ap min_and_greed_of_loop is)

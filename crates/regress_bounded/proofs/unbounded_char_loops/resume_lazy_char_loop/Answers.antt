@@ -6,8 +6,7 @@ use Rattle.regress_program.specs.CompilationOfTreesAsFunction.{compiled}
 use Rattle.regress_program.specs.InsnsAsSpec.{insn_as_spec_insn}
 use Rattle.regress_memo.specs.CheckedAnalysis.{IsRecordableMemoKey}
 use Rattle.regress_memo.specs.MemoContents.{memo_key_as_spec}
-use Rattle.regress_bounded.proofs.LazyLoopTurnsAndResumption.{rest-of, back-known-over, back-known-goes, back-over, back-goes, back-place, back-boundary, back-tested}
-use Rattle.regress_bounded.proofs.LazyLoopTurnsAndResumption.{back-keyed}
+use Rattle.regress_bounded.proofs.LazyLoopTurnsAndResumption.{rest-of, back-known-over, back-known-goes, back-over, back-goes, back-place, back-boundary, back-tested, back-keyed}
 use Rattle.regress_bounded.proofs.CharLoopBodyInsns.{body-insn, body-below, body-fits, body-spelled}
 use Rattle.regress_bounded.proofs.StepResultLemmas.{goes-short}
 use Rattle.regress_bounded.proofs.unbounded_char_loops.resume_lazy_char_loop.Given.{Over}

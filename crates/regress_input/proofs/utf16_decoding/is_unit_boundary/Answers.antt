@@ -1,6 +1,6 @@
 use Rattle.std.proofs.Common.{sym, ◌∙◌, ap, not, arith}
 use Rattle.std.proofs.Math.Facts.{Fits-lt-pow}
-use Rattle.regress_input.specs.Utf16CharactersAtOffsets.{AreU16Units}
+use Rattle.regex_meaning.specs.CodeUnits.{AreU16Units}
 use Rattle.regress_input.proofs.Utf16Reads.{boundary-start, boundary-end, boundary-inside}
 use Rattle.regress_input.proofs.utf16_decoding.is_unit_boundary.Goals as goal
 

@@ -25,7 +25,8 @@ impl Regex {
         requires { ClosureCanBeCalled (F.pre with) (take 1 (utf8_answers self.now text.now 0)) }
         ensures made { IfOk result (λ s. IsReplacedBy (F.post with) text.now
             (take 1 (utf8_answers self.now text.now 0)) (string_bytes s)) }
-        ensures refused { IfErr result (IsPossibleReplaceError (F.post with) (take 1 (utf8_answers self.now text.now 0))) }
+        ensures refused { IfErr result (IsPossibleReplaceError (F.post with)
+            (take 1 (utf8_answers self.now text.now 0))) }
     {
         replace_first_by_closure(self.allocator(), self.find_iter(text)?, text, with)
     }

@@ -2,8 +2,7 @@
 
 ghost use Rattle.std.specs.Prelude.{◌≡◌, ◌++◌, ◌<◌, IfNone, IfOk, IfSome, Some, length, option_map, slice_get, string_bytes};
 ghost use Rattle.regex_meaning.specs.MatchGroupsByNumberAndName.{Answer};
-ghost use Rattle.regex_meaning.specs.Replace.{parse_after_dollar, expansion, group_part, parse_digits_of_group_number, parsed_part_from_single_replacement_part, text_of};
-ghost use Rattle.regex_meaning.specs.Replace.{text_of_parts};
+ghost use Rattle.regex_meaning.specs.Replace.{parse_after_dollar, expansion, group_part, parse_digits_of_group_number, parsed_part_from_single_replacement_part, text_of, text_of_parts};
 ghost use Rattle.regress_search.specs.MatchesAsSpecAnswers.{answer_of, range_as_pair};
 ghost use Rattle.regress_match.specs.ReplacementPartsAsSpecParts.{parsed_part_and_rest, spec_parts_of_substitution};
 ghost use Rattle.regress_match.specs.ExpansionsAndMatchRanges.{MatchFitsText, IsCharBoundaryRange};

@@ -5,7 +5,7 @@ use Rattle.regex_meaning.specs.Text.{rightwards}
 use Rattle.regex_pattern_front.specs.AstToSpecTree.{tree_of}
 use Rattle.regress_input.proofs.BoundaryPositions.{boundary_inside}
 use Rattle.regress_machine.specs.Machine as machine
-use Rattle.regress_machine.specs.SearchFindsFirstOutcomeAtPlace.{end_of}
+use Rattle.regress_machine.specs.SearchFindsFirstOutcomeAtPlace.{end_and_groups_of_state}
 use Rattle.regress_search.specs.AttemptsAndStarts.{search_from}
 use Rattle.regress_machine.specs.InsnEffects.{end_of_search}
 use Rattle.regress_search.proofs.SearchableProgramLemmas.{can-search}
@@ -40,5 +40,5 @@ returns g c =
     let offset = g.Input.Position.PositionType.offset in
     let at = offset c.args.pos in
     map-end offset c.in_ok-end.end
-    ∙ ap (option_map end_of) (c.in_ok-end.ensures ∙ ap (λ s. end_of_search (search_from tree text at rightwards s)) c.in_ok-start.ensures)
+    ∙ ap (option_map end_and_groups_of_state) (c.in_ok-end.ensures ∙ ap (λ s. end_of_search (search_from tree text at rightwards s)) c.in_ok-start.ensures)
     ∙ (begins tree text at (can-search tree text searched.well_formed is searched.unicode (λ reads. (searched.bytes reads).reads)) c.requires).end

@@ -3,7 +3,7 @@ use Rattle.std.specs.Arc.{arc_value}
 use Rattle.regex_pattern_front.specs.AstToSpecTree.{tree_of}
 use Rattle.regress_program.specs.CompilationOfTreesAsFunction.{node_insn_count}
 use Rattle.regress_program.proofs.CompiledTreeLemmas.{compiled-is_code}
-use Rattle.regress_program.proofs.TreeToRunLemmas.{run-fits, size-to_run, well_formed-planned}
+use Rattle.regress_program.proofs.TreeToRunLemmas.{run-fits, size-tree_to_compile, well_formed-planned}
 use Rattle.regress_program.proofs.emit.emit_both.Goals as goal
 
 pub unit_plan_of-requires : goal.unit_plan_of-requires
@@ -13,7 +13,7 @@ unit_plan_of-requires c =
 
 pub byte_program_of-requires-clause-fits : goal.byte_program_of-requires-clause-fits
 byte_program_of-requires-clause-fits c =
-    omega (arith, size-to_run (tree_of c.args.re), c.in_ok-program.ensures.fits.insns, ap (λ t. node_insn_count t.root) c.to_run-tree.ensures)
+    omega (arith, size-tree_to_compile (tree_of c.args.re), c.in_ok-program.ensures.fits.insns, ap (λ t. node_insn_count t.root) c.tree_to_compile-tree.ensures)
 
 pub returns-clause-unit_code : goal.returns-clause-unit_code
 returns-clause-unit_code c = record {

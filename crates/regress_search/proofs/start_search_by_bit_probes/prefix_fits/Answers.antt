@@ -6,7 +6,7 @@ use Rattle.regress_input.proofs.UnitsAtBoundaries.{units-length}
 use Rattle.regress_input.proofs.BoundaryPositions.{boundary_inside}
 use Rattle.regress_program.specs.PrefixesAndPrefilters.{units_allowed_by_prefix}
 use Rattle.regress_program.specs.TableKeysOfUnits.{key, is_16_bit_encoding}
-use Rattle.regress_search.specs.StartSearch.{keys_in}
+use Rattle.regress_search.specs.StartSearch.{unit_keys_of_text}
 use Rattle.regress_search.proofs.PrefixUnitLemmas.{fits-short}
 use Rattle.regress_search.proofs.start_search_by_bit_probes.prefix_fits.Goals as goal
 
@@ -33,4 +33,4 @@ returns-else-text_end-at g c =
     let long = units-length w.encoding w.text has.spelled in
     let few : c.text_end.result - c.args.at < prefix.len = omega (arith, c.if-text_end-at.false) in
     lt-leb prefix.len (c.text_end.result - c.args.at) few
-    ∙ sym (fits-short (units_allowed_by_prefix prefix) (keys_in w) c.args.at prefix.len (omega (arith, inside, count, long)) (omega (arith, few, count, long, c.text_end.ensures)))
+    ∙ sym (fits-short (units_allowed_by_prefix prefix) (unit_keys_of_text w) c.args.at prefix.len (omega (arith, inside, count, long)) (omega (arith, few, count, long, c.text_end.ensures)))

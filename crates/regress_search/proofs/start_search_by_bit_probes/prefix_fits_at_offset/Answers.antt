@@ -1,6 +1,6 @@
 use Rattle.std.proofs.Common.{◌≡◌, sym, ap, ◌∙◌, arith}
 use Rattle.regress_program.specs.PrefixesAndPrefilters.{units_allowed_by_prefix, prefix_allows_units_at}
-use Rattle.regress_search.specs.StartSearch.{keys_in}
+use Rattle.regress_search.specs.StartSearch.{unit_keys_of_text}
 use Rattle.regress_search.proofs.ProbeLemmas.{fits-goes, fits-stops}
 use Rattle.regress_search.proofs.start_search_by_bit_probes.prefix_fits_at_offset.Goals as goal
 
@@ -23,4 +23,4 @@ pub returns : goal.returns
 returns g c =
     let w = g.W.SearchContext.searching c.args.context.now in
     let all : c.units.ahead ≡ c.args.prefix.now.len = omega (arith, c.units-test.false, c.units.invariant.0) in
-    sym (ap (prefix_allows_units_at (units_allowed_by_prefix c.args.prefix.now) (keys_in w) c.args.at) (sym all) ∙ c.units.invariant.1)
+    sym (ap (prefix_allows_units_at (units_allowed_by_prefix c.args.prefix.now) (unit_keys_of_text w) c.args.at) (sym all) ∙ c.units.invariant.1)

@@ -1,7 +1,8 @@
 use Rattle.std.proofs.Common.{◌≡◌, ◌∙◌, subst, sym}
 use Rattle.std.specs.Prelude.{◌||◌, true}
+use Rattle.std.proofs.lemmas.Bool.{or_left}
 use Rattle.use_grep.specs.Selecting.{IsLocal}
-use Rattle.use_grep.proofs.Searched.{alone-searched, framed-searched, alone-is-one, none-in_lines, by-words, by-lines}
+use Rattle.use_grep.proofs.Searched.{alone-searched, framed-searched, alone-is-one, none-in_lines, by-lines}
 use Rattle.use_grep.proofs.pattern.compile.Goals as goal
 use Rattle.use_grep.proofs.pattern.compile.Goals.{else-not-options-via-then-not-options+else-not-options-2, else-not-options-via-else-not-options}
 
@@ -24,7 +25,7 @@ returns-clause-searched c =
     let o = c.args.options.now in
     let either : (o.words || o.whole_lines) ≡ true = elim c.else-not-options.branch [
       | else-not-options-via-then-not-options+else-not-options-2 w ↦ by-lines o.words o.whole_lines w.if-not-options.true w.if-not-options-2.false
-      | else-not-options-via-else-not-options w ↦ by-words o.words o.whole_lines w.if-not-options.false
+      | else-not-options-via-else-not-options w ↦ or_left o.words o.whole_lines w.if-not-options.false
     ] in
     framed-searched _ _ c.flags-2.ensures o.words o.whole_lines o.pattern.now c.in_ok-re.re c.as_str.result.now either
     (c.as_str.ensures.value ∙ c.in_ok-framed.ensures) c.in_ok-re.ensures.compiled

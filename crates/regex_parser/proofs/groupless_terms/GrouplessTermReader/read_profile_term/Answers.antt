@@ -2,8 +2,7 @@ use Rattle.std.proofs.Common.{[], ◌∷◌}
 use Rattle.std.proofs.lemmas.Bool.{ne_eqb}
 use Rattle.regex_meaning.proofs.GroupNameScanLemmas.{scanned}
 use Rattle.regex_parser.specs.GrouplessTermContracts.{pattern_context, NoTerm}
-use Rattle.regex_parser.proofs.GrouplessTermLemmas.{read-leaf, read-err, character-read, in-all, passed-of, alone, alone-none, bracket-none}
-use Rattle.regex_parser.proofs.GrouplessTermLemmas.{bracket-read}
+use Rattle.regex_parser.proofs.GrouplessTermLemmas.{read-leaf, read-err, character-read, in-all, passed-of, alone, alone-none, bracket-none, bracket-read}
 use Rattle.regex_parser.proofs.groupless_terms.GrouplessTermReader.read_profile_term.Goals as goal
 
 pub returns-in_err-contents-clause-text : goal.returns-in_err-contents-clause-text

@@ -1,13 +1,12 @@
-use Rattle.std.proofs.Common.{arith}
-use Rattle.regex_pattern_front.specs.AstToSpecTree.{spec_node_of}
+use Rattle.std.proofs.Common.{arith, ◌≡◌, [], refl}
+use Rattle.regex_pattern_front.specs.AstToSpecTree.{spec_node_of, group_name_bytes, spec_flags_of}
 use Rattle.regex_pattern_front.specs.SubtreeListInvariants.{IsSoundSubtreeWithGroupIds}
 use Rattle.regex_parser.specs.GroupIdInvariant.{nodes_read_in_disjunction}
-use Rattle.regex_pattern_front.proofs.SubtreeListLemmas.{parts-push, empty-list}
+use Rattle.regex_pattern_front.proofs.SubtreeListLemmas.{parts-push}
 use Rattle.regex_parser.proofs.GroupIdInvariantLemmas.{IsLast, open-pop}
-use Rattle.std.proofs.Common.{◌≡◌, [], refl}
+use Rattle.std.proofs.lemmas.List.{nil_from_length}
 use Rattle.regex_parser.proofs.DialectRequirementLemmas.{readable}
 use Rattle.regex_parser.proofs.ParserInvariantsLemmas.{none-opened}
-use Rattle.regex_pattern_front.specs.AstToSpecTree.{group_name_bytes, spec_flags_of}
 use Rattle.regex_parser.proofs.ParserContractsLemmas.{err-reads, at-last, leave-refused, left, reads-on}
 use Rattle.regex_parser.proofs.parse.Parser.close_open_group.Goals as goal
 
@@ -34,7 +33,7 @@ returns-clause-reading c =
 pub returns-in_default-clause-text : goal.returns-in_default-clause-text
 returns-in_default-clause-text c = λ r pattern names h.
     let none : c.args.self.now.around.items ≡ [] =
-    empty-list c.args.self.now.around.items (omega (arith, c.in_default.ensures.cases.0, c.args.self.now.around.ok.0)) in
+    nil_from_length c.args.self.now.around.items (omega (arith, c.in_default.ensures.cases.0, c.args.self.now.around.ok.0)) in
     none-opened (readable c.args.self.now.leaves.syntax) (rw none at h.stands)
 
 pub returns-in_err-node-2-clause-text : goal.returns-in_err-node-2-clause-text

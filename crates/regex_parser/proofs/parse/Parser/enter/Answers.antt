@@ -1,8 +1,7 @@
-use Rattle.std.proofs.Common.{◌+◌}
+use Rattle.std.proofs.Common.{◌+◌, [], arith}
 use Rattle.regex_parser.specs.GroupIdInvariant.{captures_opened_by_group_kind}
 use Rattle.regex_pattern_front.proofs.SubtreeListLemmas.{parts-none}
 use Rattle.regex_parser.proofs.GroupIdInvariantLemmas.{open-push}
-use Rattle.std.proofs.Common.{[], arith}
 use Rattle.std.specs.BTreeMap.{get_by_text}
 use Rattle.regex_parser.proofs.ParserContractsLemmas.{err-reads, opening-refused, name-refused, entered, around-push, reads-on}
 use Rattle.regex_parser.proofs.ParserInvariantsLemmas.{past-most}

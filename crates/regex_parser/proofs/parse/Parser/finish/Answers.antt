@@ -1,10 +1,11 @@
 use Rattle.std.proofs.Common.{true≢false, ◌≡◌, ◌≤◌, ◌∙◌, [], refl, sym, arith, vec_len}
 use Rattle.std.proofs.lemmas.Bool.{eqb-true, eq-eqb}
+use Rattle.std.proofs.lemmas.List.{nil_from_length}
 use Rattle.regex_meaning.specs.Tree.{goal as the_goal}
 use Rattle.regex_pattern_front.specs.AstToSpecTree.{spec_node_of}
 use Rattle.regex_pattern_front.specs.declared.ir.Node.TheVariants.{Goal}
 use Rattle.regex_pattern_front.proofs.AstToSpecTreeLemmas.{spec_node_of-Cat}
-use Rattle.regex_pattern_front.proofs.SubtreeListLemmas.{empty-list, whole, whole-plain, whole-reads_none}
+use Rattle.regex_pattern_front.proofs.SubtreeListLemmas.{whole, whole-plain, whole-reads_none}
 use Rattle.regex_parser.proofs.GroupIdInvariantLemmas.{parts-whole}
 use Rattle.regex_parser.proofs.DialectRequirementLemmas.{readable}
 use Rattle.regex_parser.proofs.ParserInvariantsLemmas.{past-groups, stands-end}
@@ -48,6 +49,6 @@ returns-then-self-from-clause-tree c = λ pattern names h refused.
 pub returns-clause-tree : goal.returns-clause-tree
 returns-clause-tree c = λ pattern names h.
     let none : vec_len c.args.self.around ≡ 0 = eqb-true _ _ (sym c.is_empty.ensures ∙ c.if-not-is_empty.false) in
-    let closed : c.args.self.around.items ≡ [] = empty-list c.args.self.around.items (omega (arith, none, c.args.self.around.ok.0)) in
+    let closed : c.args.self.around.items ≡ [] = nil_from_length c.args.self.around.items (omega (arith, none, c.args.self.around.ok.0)) in
     rw (spec_node_of-Cat c.in_ok-vec.field-0, c.in_ok-vec.ensures.items, spec_node_of-Goal, c.in_ok-node.ensures.node)
     (stands-end (readable c.args.self.leaves.syntax) (rw closed at h.stands) (omega (arith, c.if-self-from.false, c.from.ensures)))

@@ -1,4 +1,5 @@
 use Rattle.std.proofs.Common.{◌≡◌, ◌+◌, true, refl, ap, sym, ◌∙◌, subst}
+use Rattle.std.proofs.lemmas.Bool.{not-false}
 use Rattle.regex_meaning.specs.CodeUnitOffsets.{units}
 use Rattle.regress_memo.specs.MemoKeys.{IsSoundState}
 use Rattle.regress_memo.specs.declared.analysis_result.MemoAnalysis.{MemoAnalysis}
@@ -7,7 +8,7 @@ use Rattle.regress_memo.specs.AnalysisAsPotentials.{insn_analysis_of, analysis_a
 use Rattle.regress_memo.specs.MemoContents.{has_failure}
 use Rattle.regress_backtrack.specs.State.{current_thread_state_of}
 use Rattle.regress_backtrack.specs.FailuresInMemoTable.{scheme_of}
-use Rattle.regress_backtrack.proofs.ThreadKeyLemmas.{same-way, not-false}
+use Rattle.regress_backtrack.proofs.ThreadKeyLemmas.{same-way}
 use Rattle.regress_backtrack.proofs.CharLoopKeyLemmas.{rest-tells, stored-rest}
 use Rattle.regress_backtrack.proofs.failures_in_memo_table.MemoTableFailureMemo.unbounded_char_loop_rest_key.Goals as goal
 

@@ -1,7 +1,7 @@
 use Rattle.std.proofs.Common.{sym, subst}
 use Rattle.std.specs.Prelude.{IfSome}
 use Rattle.regress_search.specs.TreePlanAndText.{program_of}
-use Rattle.regress_backtrack.specs.FailureMemo.{AreFailuresSoundIn, memo_key_as_spec, scheme_of_optional_memo, failures_of_optional_memo}
+use Rattle.regress_backtrack.specs.FailureMemo.{AreFailuresSoundIn, record_key_as_spec, scheme_of_optional_memo, failures_of_optional_memo}
 use Rattle.regress_backtrack.specs.MemoizedCharLoops.{DecidesLoopRest}
 use Rattle.regress_backtrack.proofs.failures_in_memo_table.OptionBoxFailureMemo.unbounded_char_loop_rest_key.Goals as goal
 
@@ -18,5 +18,5 @@ unbounded_char_loop_rest_key-requires g c =
 pub returns-in-Some : goal.returns-in-Some
 returns-in-Some g c =
     let w = g.W.SearchContext.searching c.args.context.now in
-    subst (λ o. IfSome c.unbounded_char_loop_rest_key.result (λ k. DecidesLoopRest w (scheme_of_optional_memo (λ memo. g.M.FailureMemo.terms memo.value) o) c.args.run.forward c.args.run.here (memo_key_as_spec k) c.args.memory.now)) (sym c.in-Some.is)
-    (subst (λ m. IfSome c.unbounded_char_loop_rest_key.result (λ k. DecidesLoopRest w (g.M.FailureMemo.terms m) c.args.run.forward c.args.run.here (memo_key_as_spec k) c.args.memory.now)) c.deref.ensures c.unbounded_char_loop_rest_key.ensures)
+    subst (λ o. IfSome c.unbounded_char_loop_rest_key.result (λ k. DecidesLoopRest w (scheme_of_optional_memo (λ memo. g.M.FailureMemo.terms memo.value) o) c.args.run.forward c.args.run.here (record_key_as_spec k) c.args.memory.now)) (sym c.in-Some.is)
+    (subst (λ m. IfSome c.unbounded_char_loop_rest_key.result (λ k. DecidesLoopRest w (g.M.FailureMemo.terms m) c.args.run.forward c.args.run.here (record_key_as_spec k) c.args.memory.now)) c.deref.ensures c.unbounded_char_loop_rest_key.ensures)

@@ -1,15 +1,13 @@
 use Rattle.std.proofs.Common.{◌≡◌, ◌+◌, ◌∙◌, ◌∷◌, ap, sym, [], arith, length, drop, get_or}
-use Rattle.std.proofs.lemmas.List.{drop_all, drop_more}
+use Rattle.std.proofs.lemmas.List.{drop_all, drop_more, nil_from_length}
 use Rattle.std.specs.Str.{chars}
-use Rattle.regress_program.proofs.ByteAndStringCodeLemmas.{no_length}
-use Rattle.regress_program.proofs.Utf8CharCountLemmas.{left_count, length-chars-nil, length-chars-cons, left_count-ready, left_count-more, left_count-done}
-use Rattle.regress_program.proofs.Utf8CharCountLemmas.{left_count-cut}
+use Rattle.regress_program.proofs.Utf8CharCountLemmas.{left_count, length-chars-nil, length-chars-cons, left_count-ready, left_count-more, left_count-done, left_count-cut}
 use Rattle.regress_program.proofs.emit.well_formedness_check.utf8_char_count.Goals as goal
 use Rattle.regress_program.proofs.emit.well_formedness_check.utf8_char_count.Goals.{then-left-eq0, else-left-eq0}
 
 pub returns-in_default : goal.returns-in_default
 returns-in_default c =
-    let none : c.args.bytes.now ≡ [] = no_length c.args.bytes.now c.in_default.ensures.cases in
+    let none : c.args.bytes.now ≡ [] = nil_from_length c.args.bytes.now c.in_default.ensures.cases in
     rw none (sym length-chars-nil)
 
 pub loop-byte-preserved : goal.loop-byte-preserved

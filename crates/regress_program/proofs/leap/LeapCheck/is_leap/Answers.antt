@@ -1,6 +1,6 @@
 use Rattle.std.proofs.Common.{sym, ◌∙◌}
 use Rattle.regress_program.specs.Leaps.{leap_to_goal}
-use Rattle.regress_program.specs.LeapCertificatesOfPlans.{is_on_way}
+use Rattle.regress_program.specs.LeapCertificatesOfPlans.{is_op_on_way}
 use Rattle.regress_program.specs.TableKeysOfUnits.{is_16_bit_width}
 use Rattle.regress_program.proofs.LeapOpsLemmas.{certified}
 use Rattle.regress_program.proofs.LeapCertificatesLemmas.{certified-sound}
@@ -11,7 +11,7 @@ returns c = λ yes program ops.
     let wide = is_16_bit_width c.args.self.units in
     let plan = c.args.self.plan.now in
     let leap = c.args.self.leap.now in
-    let way = is_on_way c.args.self.on_way.now in
+    let way = is_op_on_way c.args.self.on_way.now in
     let alike = c.treats_high_keys_alike.ensures c.if-not-treats_high_keys_alike.false in
     record {
       alike = alike;

@@ -13,7 +13,7 @@ pub loop-key-preserved : goal.loop-key-preserved
 loop-key-preserved c =
     let mask = get_or c.loop-key.self.masks c.loop-key.key 0 in
     let keys = c.args.set.now.keys in
-    let chosen = λ (b : Bool). if b then c.all_but-kept.result else 65535 in
+    let chosen = λ (b : Bool). if b then c.mask_without_bits-kept.result else 65535 in
     let inside : c.loop-key.key < length keys = search rules in
     let default : get_or keys c.loop-key.key false ≡ get_or keys c.loop-key.key true = get_or_default keys c.loop-key.key false true inside in
     let is : c.if-set-key.self ≡ chosen (get_or keys c.loop-key.key false) = elim c.if-set-key.branch [
@@ -32,7 +32,7 @@ invariant_of-self-2 c =
 pub returns : goal.returns
 returns c =
     let short = c.args.self.now.short in
-    units-cleared c.args.self.now _ c.args.count c.all_but-kept.result (unit_table_of_set c.args.set.now).keys c.loop-key.invariant.1.sized
+    units-cleared c.args.self.now _ c.args.count c.mask_without_bits-kept.result (unit_table_of_set c.args.set.now).keys c.loop-key.invariant.1.sized
     (omega (arith, short, c.min-more.ensures, c.loop-key.invariant.0))
-    (λ ahead more less. c.all_but-kept.ensures ahead more (omega (arith, less, c.loop-key.invariant.0)))
+    (λ ahead more less. c.mask_without_bits-kept.ensures ahead more (omega (arith, less, c.loop-key.invariant.0)))
     (λ k below. c.loop-key.invariant.1.changed k (omega (arith, below, c.loop-key-test.false)))

@@ -2,8 +2,7 @@ use Rattle.std.proofs.Common.{◌≡◌, ◌+◌, ◌<◌, ◌∙◌, ap, sym, a
 use Rattle.regex_meaning.specs.Tree.{alt}
 use Rattle.regex_meaning.specs.StartPredicate.{abstract_start_predicate}
 use Rattle.regex_pattern_front.specs.AstToSpecTree.{spec_node_of}
-use Rattle.regress_program.specs.JoinedStarts.{abstract_start_as_spec, join_nonempty_starts}
-use Rattle.regress_program.specs.JoinedStarts.{join_starts_of_alternatives}
+use Rattle.regress_program.specs.JoinedStarts.{abstract_start_as_spec, join_nonempty_starts, join_starts_of_alternatives}
 use Rattle.regress_program.specs.LeafNodesAndOptimizableLoops.{spec_cat_of_children}
 use Rattle.regress_program.specs.StartPredicates.{making_node_start_predicate_may_allocate}
 use Rattle.regress_program.proofs.JoinedStartsLemmas.{arms-after, arms-next, quiet-arms}

@@ -1,7 +1,6 @@
 use Rattle.regress_program.proofs.JoinedStartsLemmas.{ends_left, ends_right, differ_here, front_ends}
 use Rattle.regress_program.proofs.startpredicate.abstract_start.common_prefix.Goals as goal
-use Rattle.regress_program.proofs.startpredicate.abstract_start.common_prefix.Goals.{then-loop-shared-test+then-shared-ys+else-xs-shared}
-use Rattle.regress_program.proofs.startpredicate.abstract_start.common_prefix.Goals.{then-loop-shared-test+else-shared-ys, else-loop-shared-test}
+use Rattle.regress_program.proofs.startpredicate.abstract_start.common_prefix.Goals.{then-loop-shared-test+then-shared-ys+else-xs-shared, then-loop-shared-test+else-shared-ys, else-loop-shared-test}
 
 pub returns : goal.returns
 returns c =

@@ -8,8 +8,8 @@ decreases-step l = 4 * l.depth + 3
 abbrev pub decreases-check_test : goal.decreases-check_test
 decreases-check_test l = 4 * l.depth + 2
 
-abbrev pub decreases-count : goal.decreases-count
-decreases-count l = 4 * l.depth + 1
+abbrev pub decreases-count_holding : goal.decreases-count_holding
+decreases-count_holding l = 4 * l.depth + 1
 
 abbrev pub decreases-check_names : goal.decreases-check_names
 decreases-check_names l = 4 * l.depth + 1

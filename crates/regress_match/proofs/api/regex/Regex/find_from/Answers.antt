@@ -1,8 +1,8 @@
 use Rattle.std.proofs.Common.{◌∙◌, ap, nat_le, not, refl, subst, sym}
+use Rattle.std.proofs.lemmas.Result.{IfOk-weaker}
 use Rattle.regress_match.specs.ProgramTreesAndAnswers.{tree_for_byte_units}
 use Rattle.regress_match.specs.ExpansionsAndMatchRanges.{MatchesFitTextInOrderFrom}
 use Rattle.regress_match.proofs.MatchRangeLemmas.{matches-stand}
-use Rattle.regress_match.proofs.FlagLemmas.{IfOk-map}
 use Rattle.regress_match.proofs.SearchStartLemmas.{utf8_start, utf8_units}
 use Rattle.regress_match.proofs.api.regex.Regex.find_from.Goals as goal
 
@@ -11,9 +11,9 @@ search_with_executor_from-requires c = λ lifetimes. ((refl, tt), (tt, utf8_star
 
 pub returns-clause-ended : goal.returns-clause-ended
 returns-clause-ended c =
-    IfOk-map c.search_with_executor_from.result _ _ (λ it e. e ∙ ap (λ n. not (nat_le c.args.start n)) (utf8_units _ c.args.text.now (tree_for_byte_units c.args.self.now).flags.unicode refl c.utf8.text)) c.search_with_executor_from.ensures.ended
+    IfOk-weaker c.search_with_executor_from.result _ _ (λ it e. e ∙ ap (λ n. not (nat_le c.args.start n)) (utf8_units _ c.args.text.now (tree_for_byte_units c.args.self.now).flags.unicode refl c.utf8.text)) c.search_with_executor_from.ensures.ended
 
 pub returns-clause-in_text : goal.returns-clause-in_text
 returns-clause-in_text c =
-    IfOk-map c.search_with_executor_from.result _ _
+    IfOk-weaker c.search_with_executor_from.result _ _
     (λ it y. subst (MatchesFitTextInOrderFrom c.args.text.now c.args.start) (sym y.answers) (matches-stand c.args.self.now c.args.text.now c.args.start c.utf8.text)) c.search_with_executor_from.ensures.answers

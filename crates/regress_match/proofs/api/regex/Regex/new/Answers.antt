@@ -1,7 +1,8 @@
 use Rattle.std.proofs.Common.{◌≡◌, [], subst}
 use Rattle.regex_meaning.specs.FlagLettersAndEscaping.{flags_from_letters}
-use Rattle.regress_match.proofs.FlagLemmas.{IfErr-map, IfOk-map, flags-none, flags_by}
+use Rattle.regress_match.proofs.FlagLemmas.{IfErr-map, flags-none, flags_by}
 use Rattle.std.specs.Prelude.{chars}
+use Rattle.std.proofs.lemmas.Result.{IfOk-weaker}
 use Rattle.regress_match.specs.ProgramTreesAndAnswers.{IsCompiledWith}
 use Rattle.regress_match.specs.CompileErrors.{IsPatternRefusedWith}
 use Rattle.regress_match.proofs.api.regex.Regex.new.Goals.{After-with_flags}
@@ -18,7 +19,7 @@ none c =
 
 pub returns-clause-compiled : goal.returns-clause-compiled
 returns-clause-compiled c =
-    IfOk-map c.with_flags.result _ _ (λ re h. subst (λ flags. IsCompiledWith flags (chars c.args.pattern.now) re) (none c) h) c.with_flags.ensures.compiled
+    IfOk-weaker c.with_flags.result _ _ (λ re h. subst (λ flags. IsCompiledWith flags (chars c.args.pattern.now) re) (none c) h) c.with_flags.ensures.compiled
 
 pub returns-clause-refused : goal.returns-clause-refused
 returns-clause-refused c =

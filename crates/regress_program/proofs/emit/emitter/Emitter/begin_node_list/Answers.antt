@@ -4,8 +4,7 @@ use Rattle.regress_program.specs.LeafNodesAndOptimizableLoops.{spec_cat_of_child
 use Rattle.regress_program.specs.InnerNodeCountMeasure.{inner_node_count}
 use Rattle.regress_program.specs.EmitterStateAndAppendedCode.{node_with_char_loops_if_enabled, emitter_state, with_code}
 use Rattle.regress_program.specs.PendingEmission.{pending_measure, is_emittable, with_pending}
-use Rattle.regress_program.proofs.PendingEmissionLemmas.{begun-whole, begun-two, grows-code, grows-then, put-row, row-code, row-ended, row-less, row-light}
-use Rattle.regress_program.proofs.PendingEmissionLemmas.{row-room-first, row-room-rest, row-sets}
+use Rattle.regress_program.proofs.PendingEmissionLemmas.{begun-whole, begun-two, grows-code, grows-then, put-row, row-code, row-ended, row-less, row-light, row-room-first, row-room-rest, row-sets}
 use Rattle.regress_program.proofs.emit.emitter.Emitter.begin_node_list.Goals as goal
 
 pub emit_leaf-requires-clause-room : goal.emit_leaf-requires-clause-room

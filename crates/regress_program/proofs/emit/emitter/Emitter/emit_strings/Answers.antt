@@ -1,15 +1,15 @@
 use Rattle.std.proofs.Common.{◌≡◌, ◌+◌, ◌-◌, ◌<◌, [], ◌∙◌, ap, sym, arith, length, drop, get_or}
 use borrow.Author.Tests.{eqb-true}
+use Rattle.std.proofs.lemmas.List.{nil_from_length}
 use Rattle.regex_meaning.specs.Tree.{string_set}
 use Rattle.regress_program.specs.CompilationOfTreesAsFunction.{string_code, strings_code, strings_size}
 use Rattle.regress_program.specs.EmitterStateAndAppendedCode.{emitter_state, with_insns_appended, with_code, strings_as_code_points}
-use Rattle.regress_program.proofs.ByteAndStringCodeLemmas.{code_points-next, length-code_points, size_from, last_code, strings_step, strings_target}
-use Rattle.regress_program.proofs.ByteAndStringCodeLemmas.{with_code-string_set, no_length, ne_zero}
+use Rattle.regress_program.proofs.ByteAndStringCodeLemmas.{code_points-next, length-code_points, size_from, last_code, strings_step, strings_target, with_code-string_set, ne_zero}
 use Rattle.regress_program.proofs.emit.emitter.Emitter.emit_strings.Goals as goal
 
 pub returns-then-is_empty : goal.returns-then-is_empty
 returns-then-is_empty c =
-    let none : c.args.strings.now ≡ [] = no_length c.args.strings.now (eqb-true _ _ (sym c.if-is_empty.ensures)) in
+    let none : c.args.strings.now ≡ [] = nil_from_length c.args.strings.now (eqb-true _ _ (sym c.if-is_empty.ensures)) in
     rw (none, with_code-string_set c.args.mode.unicode c.args.mode.behind c.args.icase [] (emitter_state c.args.self.now)) c.append_insn.ensures
 
 pub overflow_cast-secondary : goal.overflow_cast-secondary

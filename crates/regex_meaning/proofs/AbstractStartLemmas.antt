@@ -9,7 +9,8 @@ use mathlib.Core.Logic.{◌⊎◌, inl, inr}
 use Rattle.regex_meaning.specs.Tree.{Intervals, BracketContents, bracket}
 use Rattle.regex_meaning.specs.Text.{Text, is_scalar}
 use Rattle.regex_meaning.specs.Outcomes.{is_some_and, in_intervals, accepts}
-use Rattle.regex_meaning.specs.StartPredicate.{AbstractStartPredicate, open_ended, arbitrary, sequence, one_of, join, common_prefix_or_first_bytes, common_prefix, union_of_byte_sets, first_byte_as_set, first_byte_is_one_of, utf8_bytes_of_text_from_place, interval_minus, intervals_minus, intersects}
+use Rattle.regex_meaning.specs.StartPredicate.{AbstractStartPredicate, open_ended, arbitrary, sequence, one_of, join, common_prefix_or_first_bytes, common_prefix, union_of_byte_sets}
+use Rattle.regex_meaning.specs.StartPredicate.{first_byte_as_set, first_byte_is_one_of, utf8_bytes_of_text_from_place, interval_minus, intervals_minus, intersects}
 use Rattle.regex_meaning.specs.StartPredicate.{code_points_of_class, first_bytes, chars_with_first_byte}
 use Rattle.regex_meaning.specs.NumberListHelpers.{contains}
 use Rattle.regex_meaning.proofs.FirstByteOfCharacter.{in_range-true, true-in_range, scalar-below, contains-bytes_where, first_of_char, FirstOf}

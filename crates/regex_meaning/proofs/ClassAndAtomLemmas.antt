@@ -9,8 +9,10 @@ use Rattle.regex_meaning.specs.NumberListHelpers.{contains}
 use Rattle.regex_meaning.specs.Tree.{Node, Flags, BracketContents, Intervals, back_ref, bracket, by_case}
 use Rattle.regex_meaning.specs.ReadingStatesAndDigits.{RemainingCodePoints, PatternContext, ◌∈◌, begins_with_characters, Digits, group_number_of}
 use Rattle.regex_meaning.specs.EscapesNamesQuantifiers.{CharacterEscape, control_escape, null, hex_escape, unicode_escape, identity_escape, GroupName, group_name, is_ascii_identifier_start}
-use Rattle.regex_meaning.specs.CharacterClasses.{ClassMember, character, range, class, class_escape, ClassAtom, verbatim, of_class, backspace, escaped, are_characters, IsRangeDash, ClassMembers, alone, from_to, no_range, ClassRanges, no_more, more, CharacterClass, plain, inverted, IsSetOf}
-use Rattle.regex_meaning.specs.Grammar.{SimpleAtom, pattern_character, extended_character, any_character, decimal_escape, named_reference, character_escape, character_class_escape, character_class, character_node, profile}
+use Rattle.regex_meaning.specs.CharacterClasses.{ClassMember, character, range, class, class_escape, ClassAtom, verbatim, of_class, backspace, escaped, are_characters, IsRangeDash, ClassMembers}
+use Rattle.regex_meaning.specs.CharacterClasses.{alone, from_to, no_range, ClassRanges, no_more, more, CharacterClass, plain, inverted, IsSetOf}
+use Rattle.regex_meaning.specs.Grammar.{SimpleAtom, pattern_character, extended_character, any_character, decimal_escape, named_reference, character_escape, character_class_escape, character_class}
+use Rattle.regex_meaning.specs.Grammar.{character_node, profile}
 use Rattle.regex_meaning.proofs.DisjunctionReadingLemmas.{first, rest_of, unlike, leaf_begins, IsReadInOneWay}
 use Rattle.regex_meaning.proofs.EscapesAndNamesLemmas.{Same, behind, apart, firsts, inside, outside, digits_on, one_character, one_name, is_some, Some_inj, is_control_letter, control_letter}
 use Rattle.regex_meaning.proofs.CanonicalIntervalsLemmas.{one_set}

@@ -1,5 +1,6 @@
 -- Offsets increase with positions, and the boundaries are the offsets of positions.
-use Rattle.std.proofs.Common.{◌≡◌, ℕ, zero, suc, ◌+◌, ◌<◌, ◌≤◌, Bool, List, [], ◌∷◌, length, map, get_or, Option, Some, None, refl, le_refl, sym, ap, arith, lt-ltb, eqb-true, eq-eqb, ne_eqb, nat_eq, position, is_some, IsTrue}
+use Rattle.std.proofs.Common.{◌≡◌, ℕ, zero, suc, ◌+◌, ◌<◌, ◌≤◌, Bool, List, [], ◌∷◌, length, map, get_or, Option, Some, None, refl, le_refl, sym, ap, arith, lt-ltb, eqb-true, eq-eqb, ne_eqb, nat_eq}
+use Rattle.std.proofs.Common.{position, is_some, IsTrue}
 use Rattle.std.proofs.lemmas.Bool.{cases_lt, cases_order}
 use mathlib.Core.Logic.{inl, inr}
 use Rattle.std.proofs.lemmas.List.Sums.{position_or_len_is}
@@ -7,7 +8,8 @@ use Rattle.std.proofs.lemmas.List.Quantifiers.{position-Some}
 use Rattle.std.specs.List.{position_or_len}
 use Rattle.std.specs.Char.{len_utf8}
 use Rattle.std.specs.Str.{chars}
-use Rattle.regex_meaning.specs.Text.{Text, last_place, offsets_from, width_of_single_unit_character, fold_char, fold_ascii, fold_code_point, utf16_width, utf16_characters, utf8_text, ascii_text, utf16_text, ucs2_text}
+use Rattle.regex_meaning.specs.Text.{Text, last_place, offsets_from, width_of_single_unit_character, fold_char, fold_ascii, fold_code_point, utf16_width, utf16_characters, utf8_text, ascii_text}
+use Rattle.regex_meaning.specs.Text.{utf16_text, ucs2_text}
 use Rattle.regex_meaning.specs.CodeUnitOffsets.{IsStrictlyIncreasing, HasRisingPlaceOffsets, offset, units, place_at, IsBoundary}
 
 -- ---- Rising lists

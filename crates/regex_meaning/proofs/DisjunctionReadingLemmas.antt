@@ -5,9 +5,11 @@ use Rattle.std.proofs.lemmas.Bool.{or_right, or_cases, eq-eqb, eqb-true, false�
 use Rattle.std.proofs.lemmas.List.{append_cancel_left}
 use Prim.Native.String.{String}
 use Rattle.regex_meaning.specs.Tree.{Node, Quantifier, anchor, start_of_line, end_of_line, word_boundary, capture_group, lookaround, loop}
-use Rattle.regex_meaning.specs.ReadingStatesAndDigits.{RemainingCodePoints, ParseState, PatternContext, number_of_opened_groups, ◌▸◌, state_with_text_left, with_opened_group, ◌∈◌, begins_with_characters, arm}
+use Rattle.regex_meaning.specs.ReadingStatesAndDigits.{RemainingCodePoints, ParseState, PatternContext, number_of_opened_groups, ◌▸◌, state_with_text_left, with_opened_group, ◌∈◌}
+use Rattle.regex_meaning.specs.ReadingStatesAndDigits.{begins_with_characters, arm}
 use Rattle.regex_meaning.specs.EscapesNamesQuantifiers.{BeginsQuantifier, ValidQuantifier, greedy, lazy}
-use Rattle.regex_meaning.specs.Grammar.{PatternDialect, Disjunction, Alternative, Term, Assertion, Atom, last_alternative, alternatives, no_terms, terms, assertion, repeated_assertion, atom, quantified, start, end, boundary, look, lookaround_opener, leaf, group, named_group, plain_group}
+use Rattle.regex_meaning.specs.Grammar.{PatternDialect, Disjunction, Alternative, Term, Assertion, Atom, last_alternative, alternatives, no_terms, terms, assertion, repeated_assertion, atom}
+use Rattle.regex_meaning.specs.Grammar.{quantified, start, end, boundary, look, lookaround_opener, leaf, group, named_group, plain_group}
 
 -- Nothing is left, or a closing parenthesis is next.
 abbrev pub closes_here : RemainingCodePoints → Bool

@@ -13,9 +13,12 @@ use Rattle.regex_meaning.specs.ReadingStatesAndDigits.{RemainingCodePoints, Patt
 use Rattle.regex_meaning.specs.CharacterClasses.{IsRangeDash}
 use Rattle.regex_meaning.specs.UnicodeProperties.{Property, has_property}
 use Rattle.regex_meaning.specs.EcmaEscapesAndNames.{GrammarParameters, is_identity_escape, CharacterEscape, non_identity_escape, identity_escape, PropertyExpression, GroupName}
-use Rattle.regex_meaning.specs.EcmaClasses.{ClassMember, character, range, class, InvertibleSet, is_in_invertible_set, class_escape_set, CharacterClassEscape, by_letter, by_property, IsSetOf, SimpleClassEscape, backspace, dash, class_control_letter, ClassEscape, simple_escape, class_escape}
-use Rattle.regex_meaning.specs.EcmaClasses.{character_escape as escaped_character, ClassAtom, verbatim, escaped, backslash as backslash_in_class, are_characters, ClassMembers, alone, from_to, no_range, ClassRanges, no_more, more, CharacterClass, plain, inverted}
-use Rattle.regex_meaning.specs.EcmaGrammarWithAnnexB.{reference_node, has_named_groups, grammar_parameters_of, node_of_case_variants, GroupNumber, group_number, AtomEscape, decimal_escape, character_class_escape, property_escape, character_escape, named_reference, ecmascript}
+use Rattle.regex_meaning.specs.EcmaClasses.{ClassMember, character, range, class, InvertibleSet, is_in_invertible_set, class_escape_set, CharacterClassEscape, by_letter, by_property, IsSetOf}
+use Rattle.regex_meaning.specs.EcmaClasses.{SimpleClassEscape, backspace, dash, class_control_letter, ClassEscape, simple_escape, class_escape}
+use Rattle.regex_meaning.specs.EcmaClasses.{character_escape as escaped_character, ClassAtom, verbatim, escaped, backslash as backslash_in_class, are_characters, ClassMembers, alone, from_to}
+use Rattle.regex_meaning.specs.EcmaClasses.{no_range, ClassRanges, no_more, more, CharacterClass, plain, inverted}
+use Rattle.regex_meaning.specs.EcmaGrammarWithAnnexB.{reference_node, has_named_groups, grammar_parameters_of, node_of_case_variants, GroupNumber, group_number, AtomEscape, decimal_escape}
+use Rattle.regex_meaning.specs.EcmaGrammarWithAnnexB.{character_class_escape, property_escape, character_escape, named_reference, ecmascript}
 use Rattle.regex_meaning.specs.EcmaGrammarWithAnnexB.{SimpleAtom, pattern_character, extended_pattern_character, any_character, atom_escape, backslash, character_class}
 use Rattle.regex_meaning.proofs.DisjunctionReadingLemmas.{first, rest_of, unlike, leaf_begins, IsReadInOneWay}
 use Rattle.regex_meaning.proofs.EscapesAndNamesLemmas.{Same, behind, apart, firsts, inside, outside, digits_on, is_some, Some_inj, is_control_letter}

@@ -17,9 +17,12 @@ use Rattle.ucd_sets.specs.declared.set.Set.TheVariants as set
 use Rattle.ucd_script.specs.declared.Script.{Script}
 use Rattle.regex_meaning.specs.ReadingStatesAndDigits.{RemainingCodePoints, ◌∈◌}
 use Rattle.regex_meaning.specs.EscapesNamesQuantifiers.{control_escape_code_point, is_high_surrogate}
-use Rattle.regex_meaning.specs.UnicodeProperties.{Property, in_database, is_word, value_named, binary_property_names, binary_property_named, general_category_named, property_named, property_with_value}
-use Rattle.regex_meaning.specs.EcmaEscapesAndNames.{GrammarParameters, next_code_point_passes, is_octal_digit, is_zero_to_three, is_four_to_seven, LegacyOctalEscape, one_digit, two_digits, two_high_digits, three_digits, CharacterEscape, non_identity_escape, identity_escape}
-use Rattle.regex_meaning.specs.EcmaEscapesAndNames.{NonIdentityEscape, control_escape, control_letter, null, hex_escape, unicode_escape, legacy_octal_escape, PropertyExpression, with_value, alone, is_identifier_start, is_identifier_part, NameCharacter, verbatim, escaped}
+use Rattle.regex_meaning.specs.UnicodeProperties.{Property, in_database, is_word, value_named, binary_property_names, binary_property_named, general_category_named, property_named}
+use Rattle.regex_meaning.specs.UnicodeProperties.{property_with_value}
+use Rattle.regex_meaning.specs.EcmaEscapesAndNames.{GrammarParameters, next_code_point_passes, is_octal_digit, is_zero_to_three, is_four_to_seven, LegacyOctalEscape, one_digit, two_digits}
+use Rattle.regex_meaning.specs.EcmaEscapesAndNames.{two_high_digits, three_digits, CharacterEscape, non_identity_escape, identity_escape}
+use Rattle.regex_meaning.specs.EcmaEscapesAndNames.{NonIdentityEscape, control_escape, control_letter, null, hex_escape, unicode_escape, legacy_octal_escape, PropertyExpression, with_value, alone}
+use Rattle.regex_meaning.specs.EcmaEscapesAndNames.{is_identifier_start, is_identifier_part, NameCharacter, verbatim, escaped}
 use Rattle.regex_meaning.specs.EcmaEscapesAndNames.{surrogates, NameRest, name_end, name_part, GroupName, group_name}
 use Rattle.regex_meaning.proofs.DisjunctionReadingLemmas.{first, rest_of, unlike}
 use Rattle.regex_meaning.proofs.EscapesAndNamesLemmas.{Same, behind, apart, firsts, inside, one_hex, one_unicode, is_some, Some_inj, is_control_letter, control_letter as control_letter_passes}

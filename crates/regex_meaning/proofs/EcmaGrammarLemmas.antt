@@ -8,10 +8,12 @@ use Rattle.regex_meaning.specs.Canonical.{AreCaseVariants}
 use Rattle.regex_meaning.proofs.CaseVariantListLemmas.{few-case-variants}
 use Rattle.regex_meaning.specs.ReadingStatesAndDigits.{RemainingCodePoints, PatternContext}
 use Rattle.regex_meaning.specs.Grammar.{pattern_is}
-use Rattle.regex_meaning.specs.EcmaGrammarWithAnnexB.{node_of_case_variants, group_number, AtomEscape, decimal_escape, character_class_escape, property_escape, character_escape, named_reference, ecmascript}
+use Rattle.regex_meaning.specs.EcmaGrammarWithAnnexB.{node_of_case_variants, group_number, AtomEscape, decimal_escape, character_class_escape, property_escape, character_escape, named_reference}
+use Rattle.regex_meaning.specs.EcmaGrammarWithAnnexB.{ecmascript}
 use Rattle.regex_meaning.specs.EcmaGrammarWithAnnexB.{SimpleAtom, pattern_character, extended_pattern_character, any_character, atom_escape, backslash, character_class}
 use Rattle.regex_meaning.specs.SubtreeInvariants.{IsWellFormedGrouplessSubtree}
-use Rattle.regex_meaning.specs.EcmaGrammarLaws.{EcmaScriptGroupsAreFound, EcmaScriptGroupsIndependentOfContext, EcmaScriptPatternHasAtMostOneTree, EcmaScriptTreesAreWellFormed, EcmaScriptGroupsAgreeWithScan}
+use Rattle.regex_meaning.specs.EcmaGrammarLaws.{EcmaScriptGroupsAreFound, EcmaScriptGroupsIndependentOfContext, EcmaScriptPatternHasAtMostOneTree, EcmaScriptTreesAreWellFormed}
+use Rattle.regex_meaning.specs.EcmaGrammarLaws.{EcmaScriptGroupsAgreeWithScan}
 use Rattle.regex_meaning.proofs.BackreferenceNumberLemmas.{number-positive, number_of-bounds}
 use Rattle.regex_meaning.proofs.GroupNamesOfTreeLemmas.{names-by}
 use Rattle.regex_meaning.proofs.PatternTreeLemmas.{leaf-reference, AtomsAreSound, groups_in, counted-by, well-formed-by, leaf-if}

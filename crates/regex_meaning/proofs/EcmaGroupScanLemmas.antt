@@ -9,14 +9,20 @@ use Rattle.regex_meaning.specs.Tree.{Node, Flags, BracketContents}
 use Rattle.regex_meaning.specs.ReadingStatesAndDigits.{RemainingCodePoints, PatternContext, ◌∈◌, begins_with_characters}
 use Rattle.regex_meaning.specs.EscapesNamesQuantifiers.{is_high_surrogate, is_low_surrogate}
 use Rattle.regex_meaning.specs.UnicodeProperties.{Property}
-use Rattle.regex_meaning.specs.EcmaEscapesAndNames.{GrammarParameters, is_octal_digit, LegacyOctalEscape, one_digit, two_digits, two_high_digits, three_digits, control_escape, control_letter, null, hex_escape, unicode_escape, legacy_octal_escape, CharacterEscape, GroupName, group_name}
-use Rattle.regex_meaning.specs.EcmaEscapesAndNames.{non_identity_escape, identity_escape, PropertyExpression, with_value, alone, NameCharacter, verbatim, escaped, surrogates, NameRest, name_end, name_part}
-use Rattle.regex_meaning.specs.EcmaClasses.{ClassMember, CharacterClassEscape, by_letter, by_property, is_class_control_letter, SimpleClassEscape, backspace, dash, class_control_letter, ClassEscape, simple_escape, class_escape, character_escape as escaped_character}
-use Rattle.regex_meaning.specs.EcmaClasses.{ClassAtom, verbatim as verbatim_in_class, escaped as escaped_in_class, backslash as backslash_in_class, ClassMembers, alone as one_atom, from_to, no_range, ClassRanges, no_more, more, CharacterClass, plain, inverted}
-use Rattle.regex_meaning.specs.EcmaGrammarWithAnnexB.{group_number, AtomEscape, decimal_escape, character_class_escape, property_escape, character_escape, named_reference, SimpleAtom, pattern_character, extended_pattern_character, any_character, atom_escape, backslash, character_class, ecmascript}
+use Rattle.regex_meaning.specs.EcmaEscapesAndNames.{GrammarParameters, is_octal_digit, LegacyOctalEscape, one_digit, two_digits, two_high_digits, three_digits, control_escape, control_letter, null}
+use Rattle.regex_meaning.specs.EcmaEscapesAndNames.{hex_escape, unicode_escape, legacy_octal_escape, CharacterEscape, GroupName, group_name}
+use Rattle.regex_meaning.specs.EcmaEscapesAndNames.{non_identity_escape, identity_escape, PropertyExpression, with_value, alone, NameCharacter, verbatim, escaped, surrogates, NameRest, name_end}
+use Rattle.regex_meaning.specs.EcmaEscapesAndNames.{name_part}
+use Rattle.regex_meaning.specs.EcmaClasses.{ClassMember, CharacterClassEscape, by_letter, by_property, is_class_control_letter, SimpleClassEscape, backspace, dash, class_control_letter, ClassEscape}
+use Rattle.regex_meaning.specs.EcmaClasses.{simple_escape, class_escape, character_escape as escaped_character}
+use Rattle.regex_meaning.specs.EcmaClasses.{ClassAtom, verbatim as verbatim_in_class, escaped as escaped_in_class, backslash as backslash_in_class, ClassMembers, alone as one_atom, from_to, no_range}
+use Rattle.regex_meaning.specs.EcmaClasses.{ClassRanges, no_more, more, CharacterClass, plain, inverted}
+use Rattle.regex_meaning.specs.EcmaGrammarWithAnnexB.{group_number, AtomEscape, decimal_escape, character_class_escape, property_escape, character_escape, named_reference, SimpleAtom}
+use Rattle.regex_meaning.specs.EcmaGrammarWithAnnexB.{pattern_character, extended_pattern_character, any_character, atom_escape, backslash, character_class, ecmascript}
 use Rattle.regex_meaning.specs.GroupOpeningScanWithoutParsing.{texts_after_parentheses}
 use Rattle.regex_meaning.proofs.EscapesAndNamesLemmas.{inside}
-use Rattle.regex_meaning.proofs.GroupOpeningScanLemmas.{Ahead, nothing, signs, past, past_there, past_open, past_close, past_all, all_of, says_nothing, past_hex, past_in, past_slash, past_unicode, past_extended, past_number, IsScanned}
+use Rattle.regex_meaning.proofs.GroupOpeningScanLemmas.{Ahead, nothing, signs, past, past_there, past_open, past_close, past_all, all_of, says_nothing, past_hex, past_in, past_slash, past_unicode}
+use Rattle.regex_meaning.proofs.GroupOpeningScanLemmas.{past_extended, past_number, IsScanned}
 use Rattle.regex_meaning.proofs.EcmaEscapesAndNamesLemmas.{is_name_character, is_good, lone-good, property-good, value-good, TestsNames, start-tests, part-tests, no-sign}
 use Rattle.regex_meaning.proofs.EcmaClassAndAtomLemmas.{property_letter, property-here, c-first}
 

@@ -6,8 +6,10 @@ use Rattle.std.specs.Char.{is_digit, is_ascii_alphanumeric}
 use Rattle.std.proofs.lemmas.Bool.{or_cases, and_parts, eqb-true, false_from_ne_true}
 use Rattle.regex_meaning.specs.NumberListHelpers.{contains}
 use Rattle.regex_meaning.specs.ReadingStatesAndDigits.{RemainingCodePoints, ◌∈◌, begins_with_characters, Digits, digits_from, leading_digits, value_of_digits}
-use Rattle.regex_meaning.specs.EscapesNamesQuantifiers.{FixedHexDigits, hex, SurrogatePair, pair, UnicodeEscape, surrogates, four_digits, code_point, CharacterEscape, control_escape_code_point, control_escape, null, hex_escape, unicode_escape, identity_escape, GroupName, group_name}
-use Rattle.regex_meaning.specs.EscapesNamesQuantifiers.{is_ascii_identifier_start, is_ascii_identifier_part, is_name, saturated_count, QuantifierPrefix, star, plus, question, exactly, at_least, between, greedy, lazy}
+use Rattle.regex_meaning.specs.EscapesNamesQuantifiers.{FixedHexDigits, hex, SurrogatePair, pair, UnicodeEscape, surrogates, four_digits, code_point, CharacterEscape, control_escape_code_point}
+use Rattle.regex_meaning.specs.EscapesNamesQuantifiers.{control_escape, null, hex_escape, unicode_escape, identity_escape, GroupName, group_name}
+use Rattle.regex_meaning.specs.EscapesNamesQuantifiers.{is_ascii_identifier_start, is_ascii_identifier_part, is_name, saturated_count, QuantifierPrefix, star, plus, question, exactly, at_least}
+use Rattle.regex_meaning.specs.EscapesNamesQuantifiers.{between, greedy, lazy}
 use Rattle.regex_meaning.proofs.DisjunctionReadingLemmas.{first, rest_of, unlike, QuantifiersAgree}
 
 -- Two readings are the same if they leave the same text and have the same result.

@@ -8,16 +8,21 @@ use Rattle.std.proofs.lemmas.List.Concat.{flat_map-append}
 use Rattle.regex_meaning.specs.NumberListHelpers.{contains}
 use Rattle.regex_meaning.specs.Tree.{Node, Flags, Quantifier, BracketContents}
 use Rattle.regex_meaning.specs.ReadingStatesAndDigits.{RemainingCodePoints, ParseState, PatternContext, ◌▸◌, state_with_text_left, with_opened_group, ◌∈◌, begins_with_characters}
-use Rattle.regex_meaning.specs.EscapesNamesQuantifiers.{CharacterEscape, control_escape, null, hex_escape, unicode_escape, identity_escape, GroupName, group_name, is_ascii_identifier_start, is_ascii_identifier_part, is_name, ValidQuantifier}
-use Rattle.regex_meaning.specs.CharacterClasses.{ClassMember, ClassAtom, verbatim, of_class, backspace, escaped, ClassMembers, alone, from_to, no_range, ClassRanges, no_more, more, CharacterClass, plain, inverted}
-use Rattle.regex_meaning.specs.Grammar.{profile, lookaround_opener, SimpleAtom, pattern_character, extended_character, any_character, decimal_escape, named_reference, character_escape, character_class_escape, character_class}
+use Rattle.regex_meaning.specs.EscapesNamesQuantifiers.{CharacterEscape, control_escape, null, hex_escape, unicode_escape, identity_escape, GroupName, group_name, is_ascii_identifier_start}
+use Rattle.regex_meaning.specs.EscapesNamesQuantifiers.{is_ascii_identifier_part, is_name, ValidQuantifier}
+use Rattle.regex_meaning.specs.CharacterClasses.{ClassMember, ClassAtom, verbatim, of_class, backspace, escaped, ClassMembers, alone, from_to, no_range, ClassRanges, no_more, more, CharacterClass}
+use Rattle.regex_meaning.specs.CharacterClasses.{plain, inverted}
+use Rattle.regex_meaning.specs.Grammar.{profile, lookaround_opener, SimpleAtom, pattern_character, extended_character, any_character, decimal_escape, named_reference, character_escape}
+use Rattle.regex_meaning.specs.Grammar.{character_class_escape, character_class}
 use Rattle.regex_meaning.specs.GroupNameScan.{group_name_at, name_of_opened_group, scanned_names_per_capturing_group}
 use Rattle.regex_meaning.specs.GroupOpeningScanWithoutParsing.{texts_after_parentheses, OpensGroups, no_parenthesis, opens_plain_group, opens_lookaround, opens_group, opens_named_group}
 use Rattle.regex_meaning.specs.GrammarLaws.{ScanFindsOpenedGroupNames}
 use Rattle.regex_meaning.proofs.DisjunctionReadingLemmas.{rest_of}
 use Rattle.regex_meaning.proofs.EscapesAndNamesLemmas.{inside, name_letters}
-use Rattle.regex_meaning.proofs.GroupOpeningScanLemmas.{Ahead as SameAhead, nothing, signs, past as pass, past_there, past_open, past_close, past_all, all_of, says_nothing, take_split, while_more, past_hex, past_in, past_slash, past_unicode}
-use Rattle.regex_meaning.proofs.GroupOpeningScanLemmas.{past_quantifier as pass_quantifier, past_extended, past_number, IsScanned, Opens as OpensBy, past_opener as pass_opener, past_plain as pass_plain, past_group as pass_group, past_named as pass_named, groups-found}
+use Rattle.regex_meaning.proofs.GroupOpeningScanLemmas.{Ahead as SameAhead, nothing, signs, past as pass, past_there, past_open, past_close, past_all, all_of, says_nothing, take_split, while_more}
+use Rattle.regex_meaning.proofs.GroupOpeningScanLemmas.{past_hex, past_in, past_slash, past_unicode}
+use Rattle.regex_meaning.proofs.GroupOpeningScanLemmas.{past_quantifier as pass_quantifier, past_extended, past_number, IsScanned, Opens as OpensBy, past_opener as pass_opener}
+use Rattle.regex_meaning.proofs.GroupOpeningScanLemmas.{past_plain as pass_plain, past_group as pass_group, past_named as pass_named, groups-found}
 
 -- The scan passes over a character escape together with its backslash.
 past_character : (b : Bool) {unicode : Bool} {here a there : RemainingCodePoints} {n : ℕ} → here ≡ 92 ∷ a → CharacterEscape unicode a there n → SameAhead b here there

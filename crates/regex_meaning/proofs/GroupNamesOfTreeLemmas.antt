@@ -13,7 +13,8 @@ use Rattle.regex_meaning.proofs.EachElementLemmas.{Each-append, Each-reverse}
 use Rattle.regex_meaning.proofs.BoolLemmas.{same-truth}
 use Rattle.regex_meaning.proofs.ListLemmas.{length-numbers_from}
 use Rattle.regex_meaning.specs.ReadingStatesAndDigits.{RemainingCodePoints, ParseState, PatternContext, number_of_opened_groups, state_with_text_left, with_opened_group, arm, sequence_node}
-use Rattle.regex_meaning.specs.Grammar.{PatternDialect, profile, Disjunction, Alternative, Term, Assertion, Atom, last_alternative, alternatives, no_terms, terms, assertion, repeated_assertion, atom, quantified, start, end, boundary, look, leaf, group, named_group, plain_group, pattern_is}
+use Rattle.regex_meaning.specs.Grammar.{PatternDialect, profile, Disjunction, Alternative, Term, Assertion, Atom, last_alternative, alternatives, no_terms, terms, assertion, repeated_assertion, atom}
+use Rattle.regex_meaning.specs.Grammar.{quantified, start, end, boundary, look, leaf, group, named_group, plain_group, pattern_is}
 use Rattle.regex_meaning.specs.GrammarLaws.{ScanFindsGroupNames}
 use Rattle.regex_meaning.proofs.SubtreeInvariantsLemmas.{contains-counted, once-inside}
 use Rattle.regex_meaning.proofs.GroupNameScanLemmas.{scan_finds_opened_group_names}

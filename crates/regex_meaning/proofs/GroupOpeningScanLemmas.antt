@@ -1,15 +1,19 @@
 -- The scan for parentheses finds exactly those that open the groups of a pattern.
-use Rattle.std.proofs.Common.{◌≡◌, ℕ, Bool, true, false, not, ◌&&◌, List, [], ◌∷◌, ◌++◌, length, drop, true≢false, ⊎_elim, nat_eq, refl, sym, ap, ap₂, subst, ◌∙◌, arith, append_assoc, append-nil, one-add}
+use Rattle.std.proofs.Common.{◌≡◌, ℕ, Bool, true, false, not, ◌&&◌, List, [], ◌∷◌, ◌++◌, length, drop, true≢false, ⊎_elim, nat_eq, refl, sym, ap, ap₂, subst, ◌∙◌, arith, append_assoc, append-nil}
+use Rattle.std.proofs.Common.{one-add}
 use Rattle.std.specs.Prelude.{codes, ◌||◌, if◌then◌else◌, take_while}
 use Rattle.std.specs.List.{list_all}
 use Rattle.std.specs.Char.{is_digit}
 use Rattle.std.proofs.lemmas.Bool.{or_cases, and_parts, eqb-true, false_from_ne_true}
 use Rattle.regex_meaning.specs.NumberListHelpers.{contains}
 use Rattle.regex_meaning.specs.Tree.{Node, Quantifier}
-use Rattle.regex_meaning.specs.ReadingStatesAndDigits.{RemainingCodePoints, ParseState, PatternContext, ◌▸◌, state_with_text_left, with_opened_group, ◌∈◌, begins_with_characters, Digits, digits_from, leading_digits}
-use Rattle.regex_meaning.specs.EscapesNamesQuantifiers.{FixedHexDigits, hex, SurrogatePair, pair, UnicodeEscape, surrogates, four_digits, code_point, QuantifierPrefix, star, plus, question, exactly, at_least, between, ValidQuantifier, greedy, lazy}
+use Rattle.regex_meaning.specs.ReadingStatesAndDigits.{RemainingCodePoints, ParseState, PatternContext, ◌▸◌, state_with_text_left, with_opened_group, ◌∈◌, begins_with_characters, Digits, digits_from}
+use Rattle.regex_meaning.specs.ReadingStatesAndDigits.{leading_digits}
+use Rattle.regex_meaning.specs.EscapesNamesQuantifiers.{FixedHexDigits, hex, SurrogatePair, pair, UnicodeEscape, surrogates, four_digits, code_point, QuantifierPrefix, star, plus, question, exactly}
+use Rattle.regex_meaning.specs.EscapesNamesQuantifiers.{at_least, between, ValidQuantifier, greedy, lazy}
 use Prim.Native.String.{String}
-use Rattle.regex_meaning.specs.Grammar.{PatternDialect, lookaround_opener, Disjunction, Alternative, Term, Assertion, Atom, last_alternative, alternatives, no_terms, terms, assertion, repeated_assertion, atom, quantified, start, end, boundary, look, leaf, group, named_group, plain_group}
+use Rattle.regex_meaning.specs.Grammar.{PatternDialect, lookaround_opener, Disjunction, Alternative, Term, Assertion, Atom, last_alternative, alternatives, no_terms, terms, assertion}
+use Rattle.regex_meaning.specs.Grammar.{repeated_assertion, atom, quantified, start, end, boundary, look, leaf, group, named_group, plain_group}
 use Rattle.regex_meaning.specs.GroupOpeningScanWithoutParsing.{texts_after_parentheses, OpensGroups, no_parenthesis, opens_plain_group, opens_lookaround, opens_group, opens_named_group}
 use Rattle.regex_meaning.proofs.DisjunctionReadingLemmas.{IsReadInOneWay, unlike, second, rest_of, third}
 use Rattle.regex_meaning.proofs.EscapesAndNamesLemmas.{inside}

@@ -1,5 +1,6 @@
 -- Matches are disjoint, in ascending order and within the text.
-use Rattle.std.proofs.Common.{◌≡◌, ℕ, zero, suc, ◌+◌, ◌-◌, ◌<◌, ◌≤◌, List, [], ◌∷◌, ◌++◌, length, map, min, max, Option, Some, None, refl, sym, ap, ◌∙◌, arith, le_refl, option_map, option_and_then, IfSome, lt-ltb}
+use Rattle.std.proofs.Common.{◌≡◌, ℕ, zero, suc, ◌+◌, ◌-◌, ◌<◌, ◌≤◌, List, [], ◌∷◌, ◌++◌, length, map, min, max, Option, Some, None, refl, sym, ap, ◌∙◌, arith, le_refl, option_map, option_and_then}
+use Rattle.std.proofs.Common.{IfSome, lt-ltb}
 use Rattle.std.specs.Prelude.{if◌then◌else◌, nat_lt}
 use Rattle.std.specs.Option.{option_or}
 use Rattle.std.proofs.lemmas.List.{length-set, length-replicate, length-map, length-append}

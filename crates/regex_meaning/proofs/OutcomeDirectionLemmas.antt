@@ -3,7 +3,8 @@ use Rattle.regex_meaning.specs.Tree.{Sameness, Node, empty, goal, byte_sequence,
 use Rattle.std.proofs.Common.{◌≡◌, ℕ, zero, suc, ◌+◌, ◌-◌, ◌<◌, ◌≤◌, Bool, true, false, List, [], ◌∷◌, length, Option, Some, None, arith, leb→le, T, filter, flat_map}
 use Rattle.std.specs.Prelude.{if◌then◌else◌, ◌&&◌, nat_le, nat_lt, slice_get}
 use Rattle.regex_meaning.specs.Text.{Text, Direction, rightwards, leftwards, last_place, characters_ahead, moved, next_character}
-use Rattle.regex_meaning.specs.Outcomes.{Groups, Outcome, Repetition, bounded_repeat, outcomes, passes_empty_check, preferred, captured, with_groups_cleared, is_some_and, one_character, spelled, is_case_variant, backref_outcomes, empty_match_if, lookaround_outcomes}
+use Rattle.regex_meaning.specs.Outcomes.{Groups, Outcome, Repetition, bounded_repeat, outcomes, passes_empty_check, preferred, captured, with_groups_cleared, is_some_and, one_character, spelled}
+use Rattle.regex_meaning.specs.Outcomes.{is_case_variant, backref_outcomes, empty_match_if, lookaround_outcomes}
 pub use Rattle.regex_meaning.specs.Laws.{IsAtOrAheadInDirection}
 use Rattle.regex_meaning.proofs.EachElementLemmas.{Each, Each-append, Each-if, Each-when, Each-filter, Each-map, Each-flat_map, Each-image}
 

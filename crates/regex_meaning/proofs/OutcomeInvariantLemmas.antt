@@ -1,9 +1,11 @@
 -- The outcomes of a node keep each invariant of positions and groups that the search keeps.
-use Rattle.regex_meaning.specs.Tree.{Sameness, Node, empty, goal, char, char_set, byte_set, byte_sequence, cat, end_of_cat, alt, bracket, string_set, match_any, match_any_except_line_terminator, anchor, word_boundary, capture_group, back_ref, lookaround, loop, loop_1_char_body}
+use Rattle.regex_meaning.specs.Tree.{Sameness, Node, empty, goal, char, char_set, byte_set, byte_sequence, cat, end_of_cat, alt, bracket, string_set, match_any, match_any_except_line_terminator}
+use Rattle.regex_meaning.specs.Tree.{anchor, word_boundary, capture_group, back_ref, lookaround, loop, loop_1_char_body}
 use Rattle.std.proofs.Common.{ℕ, zero, suc, ◌+◌, ◌-◌, Bool, true, false, List, [], ◌∷◌, map, min, max, Option, Some, None, filter, flat_map}
 use Rattle.std.specs.Prelude.{if◌then◌else◌, nat_lt, nat_le, slice_set}
 use Rattle.regex_meaning.specs.Text.{Text, Direction}
-use Rattle.regex_meaning.specs.Outcomes.{Groups, Outcome, Repetition, bounded_repeat, outcomes, passes_empty_check, preferred, captured, with_groups_cleared, one_character, spelled, is_case_variant, backref_outcomes, empty_match_if, lookaround_outcomes, direction_of}
+use Rattle.regex_meaning.specs.Outcomes.{Groups, Outcome, Repetition, bounded_repeat, outcomes, passes_empty_check, preferred, captured, with_groups_cleared, one_character, spelled, is_case_variant}
+use Rattle.regex_meaning.specs.Outcomes.{backref_outcomes, empty_match_if, lookaround_outcomes, direction_of}
 use Rattle.regex_meaning.specs.Laws.{IsAtOrAheadInDirection}
 use Rattle.regex_meaning.proofs.EachElementLemmas.{Each, Each-append, Each-if, Each-filter, Each-flat_map, Each-image}
 use Rattle.regex_meaning.proofs.OutcomeDirectionLemmas.{one_character-onward, spelled-onward}

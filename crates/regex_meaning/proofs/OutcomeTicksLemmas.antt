@@ -1,10 +1,13 @@
 -- The list of outcomes with ticks is, without the ticks, the list of outcomes.
 use Rattle.std.proofs.Common.{◌≡◌, ℕ, zero, suc, ◌+◌, ◌-◌, Bool, true, false, List, [], ◌∷◌, refl, ap, sym, ◌∙◌, ◌++◌, filter, flat_map, map}
 use Rattle.std.specs.Prelude.{if◌then◌else◌, nat_le, nat_lt}
-use Rattle.regex_meaning.specs.Tree.{Quantifier, Node, empty, goal, char, char_set, byte_set, byte_sequence, cat, end_of_cat, alt, bracket, string_set, match_any, match_any_except_line_terminator, anchor, word_boundary, capture_group, back_ref, lookaround, loop, loop_1_char_body}
+use Rattle.regex_meaning.specs.Tree.{Quantifier, Node, empty, goal, char, char_set, byte_set, byte_sequence, cat, end_of_cat, alt, bracket, string_set, match_any, match_any_except_line_terminator}
+use Rattle.regex_meaning.specs.Tree.{anchor, word_boundary, capture_group, back_ref, lookaround, loop, loop_1_char_body}
 use Rattle.regex_meaning.specs.Text.{Text, Direction}
-use Rattle.regex_meaning.specs.Outcomes.{Groups, Outcome, repetition, bounded_repeat, passes_empty_check, preferred, captured, with_groups_cleared, lookaround_outcomes, direction_of, spelled, is_case_variant, outcomes, max_iterations}
-use Rattle.regex_meaning.specs.OutcomesWithStepTicks.{TickOrOutcome, tick, pair, outcomes_without_ticks, ticks, outcomes_replaced_by_lists, ticks_before_outcomes, with_ticks_between, ticked_alt, ticked_preferred, ticked_bounded_repeat, ticked_string, ticked_strings, ticked}
+use Rattle.regex_meaning.specs.Outcomes.{Groups, Outcome, repetition, bounded_repeat, passes_empty_check, preferred, captured, with_groups_cleared, lookaround_outcomes, direction_of, spelled}
+use Rattle.regex_meaning.specs.Outcomes.{is_case_variant, outcomes, max_iterations}
+use Rattle.regex_meaning.specs.OutcomesWithStepTicks.{TickOrOutcome, tick, pair, outcomes_without_ticks, ticks, outcomes_replaced_by_lists, ticks_before_outcomes, with_ticks_between, ticked_alt}
+use Rattle.regex_meaning.specs.OutcomesWithStepTicks.{ticked_preferred, ticked_bounded_repeat, ticked_string, ticked_strings, ticked}
 use Rattle.std.proofs.lemmas.List.{append-nil, map-id}
 use Rattle.std.proofs.lemmas.List.Concat.{flat_map_single}
 use Rattle.regex_meaning.proofs.ListLemmas.{flat_map-same}

@@ -3,13 +3,16 @@ use Rattle.std.proofs.Common.{◌≡◌, ℕ, ◌+◌, ◌<◌, ◌≤◌, Bool,
 use Rattle.std.specs.Prelude.{if◌then◌else◌, nat_le, nat_lt, nat_eq, ◌==◌, IsTrue}
 use Rattle.std.proofs.lemmas.Bool.{le-leb}
 use Rattle.std.proofs.lemmas.List.{reverse-append}
-use Rattle.regex_meaning.specs.Tree.{Node, Flags, Quantifier, group_ids, every_node_passes, goal, char, char_set, cat, end_of_cat, back_ref, match_any, Sameness, by_case, match_any_except_line_terminator, capture_group, lookaround}
+use Rattle.regex_meaning.specs.Tree.{Node, Flags, Quantifier, group_ids, every_node_passes, goal, char, char_set, cat, end_of_cat, back_ref, match_any, Sameness, by_case}
+use Rattle.regex_meaning.specs.Tree.{match_any_except_line_terminator, capture_group, lookaround}
 use Rattle.regex_meaning.specs.Text.{expand_code_point, fold_code_point, code_points_with_fold, to_ascii_uppercase, to_ascii_lowercase}
 use Rattle.regex_meaning.specs.WellFormedTrees.{is_min_at_most_max, number_of_goal_nodes, IsWellFormed}
 use Rattle.regex_meaning.specs.ReadingStatesAndDigits.{RemainingCodePoints, ParseState, PatternContext, number_of_opened_groups, arm, sequence_node}
 use Rattle.regex_meaning.specs.EscapesNamesQuantifiers.{ValidQuantifier, greedy, lazy}
-use Rattle.regex_meaning.specs.Grammar.{character_node, SimpleAtom, pattern_character, extended_character, any_character, decimal_escape, named_reference, character_escape, character_class_escape, character_class, Disjunction, Alternative, Term, Assertion, Atom, end, boundary, look}
-use Rattle.regex_meaning.specs.Grammar.{PatternDialect, profile, last_alternative, alternatives, no_terms, terms, assertion, repeated_assertion, atom, quantified, start, leaf, group, named_group, plain_group, pattern_is}
+use Rattle.regex_meaning.specs.Grammar.{character_node, SimpleAtom, pattern_character, extended_character, any_character, decimal_escape, named_reference, character_escape, character_class_escape}
+use Rattle.regex_meaning.specs.Grammar.{character_class, Disjunction, Alternative, Term, Assertion, Atom, end, boundary, look}
+use Rattle.regex_meaning.specs.Grammar.{PatternDialect, profile, last_alternative, alternatives, no_terms, terms, assertion, repeated_assertion, atom, quantified, start, leaf, group, named_group}
+use Rattle.regex_meaning.specs.Grammar.{plain_group, pattern_is}
 use Rattle.regex_meaning.specs.SubtreeInvariants.{is_well_formed_in_pattern, occurrences_of_id, one_if_id_within, IsSoundSubtreeWithGroupIds, IsWellFormedGrouplessSubtree}
 use Rattle.regex_meaning.specs.GroupNameScan.{scanned_names_per_capturing_group}
 use Rattle.regex_meaning.proofs.BoolLemmas.{and-left, and-right}
@@ -17,7 +20,8 @@ use Rattle.regex_meaning.proofs.GroupNameScanLemmas.{scan_finds_opened_group_nam
 use Rattle.regex_meaning.specs.GrammarLaws.{ScanCountsPatternGroups, TreesAreWellFormed}
 use Rattle.regex_meaning.specs.CompilationRelation.{tree_contains_byte_nodes}
 use Rattle.regex_meaning.specs.TreesWithoutCharLoops.{has_no_char_loops}
-use Rattle.regex_meaning.proofs.SubtreeInvariantsLemmas.{part-leaf, IsJoined, part-joined, joined-cat, joined-alt, part-group, part-lookaround, part-loop, count_by-append, whole, whole-reads_none, whole-plain}
+use Rattle.regex_meaning.proofs.SubtreeInvariantsLemmas.{part-leaf, IsJoined, part-joined, joined-cat, joined-alt, part-group, part-lookaround, part-loop, count_by-append, whole, whole-reads_none}
+use Rattle.regex_meaning.proofs.SubtreeInvariantsLemmas.{whole-plain}
 use Rattle.regex_meaning.proofs.BackreferenceNumberLemmas.{number-positive, number_of-bounds}
 
 -- ---- Atoms without groups

@@ -7,7 +7,8 @@ use Rattle.std.proofs.lemmas.Bool.{cases_Bool, and_parts}
 use Rattle.std.proofs.lemmas.Str.{chars-IsAscii}
 use mathlib.Core.Logic.{inl, inr}
 use Rattle.regex_meaning.specs.Tree.{Node}
-use Rattle.regex_meaning.specs.Text.{Text, is_scalar, is_ascii_lowercase, is_ascii_uppercase, to_ascii_lowercase, to_ascii_uppercase, fold_code_point, fold_char, fold_ascii, offsets_from, width_of_single_unit_character, utf16_width, utf16_characters, utf8_text, ascii_text, utf16_text}
+use Rattle.regex_meaning.specs.Text.{Text, is_scalar, is_ascii_lowercase, is_ascii_uppercase, to_ascii_lowercase, to_ascii_uppercase, fold_code_point, fold_char, fold_ascii, offsets_from}
+use Rattle.regex_meaning.specs.Text.{width_of_single_unit_character, utf16_width, utf16_characters, utf8_text, ascii_text, utf16_text}
 use Rattle.regex_meaning.specs.CodeUnitOffsets.{place_at}
 use Rattle.regex_meaning.specs.FirstAndAllMatches.{match_list}
 use Rattle.regex_meaning.specs.MatchGroupsByNumberAndName.{answer, answers_from}

@@ -8,13 +8,16 @@ use lib.Pointwise.{pointwise}
 use lib.Utf8.{scalars}
 use Rattle.regex_meaning.specs.NumberListHelpers.{contains}
 use Rattle.regex_meaning.specs.Laws.{Each}
-use Rattle.regex_meaning.specs.Tree.{Quantifier, Node, empty, goal, char, char_set, byte_set, byte_sequence, cat, end_of_cat, alt, bracket, string_set, match_any, match_any_except_line_terminator, anchor, start_of_line, word_boundary, capture_group}
+use Rattle.regex_meaning.specs.Tree.{Quantifier, Node, empty, goal, char, char_set, byte_set, byte_sequence, cat, end_of_cat, alt, bracket, string_set, match_any, match_any_except_line_terminator}
+use Rattle.regex_meaning.specs.Tree.{anchor, start_of_line, word_boundary, capture_group}
 use Rattle.regex_meaning.specs.Tree.{back_ref, lookaround, loop, loop_1_char_body, every_node_passes, Tree}
 use Rattle.regex_meaning.specs.Text.{Text, rightwards, is_scalar, character_before, last_place}
-use Rattle.regex_meaning.specs.Outcomes.{Outcome, Groups, Repetition, repetition, bounded_repeat, passes_empty_check, preferred, captured, with_groups_cleared, accepts, one_character, spelled, lookaround_outcomes, is_line_boundary, outcomes}
+use Rattle.regex_meaning.specs.Outcomes.{Outcome, Groups, Repetition, repetition, bounded_repeat, passes_empty_check, preferred, captured, with_groups_cleared, accepts, one_character, spelled}
+use Rattle.regex_meaning.specs.Outcomes.{lookaround_outcomes, is_line_boundary, outcomes}
 use Rattle.regex_meaning.specs.WellFormedTrees.{has_text_in_sequence, set_sizes_and_characters_fit_instructions, IsWellFormed}
 use Rattle.regex_meaning.proofs.WellFormedTreesLemmas.{clauses}
-use Rattle.regex_meaning.specs.StartPredicate.{AbstractStartPredicate, open_ended, arbitrary, sequence, one_of, byte_sequence_predicate, first_not_open_ended, join, abstract_start_predicate, utf8_bytes_of_text_from_place, may_start}
+use Rattle.regex_meaning.specs.StartPredicate.{AbstractStartPredicate, open_ended, arbitrary, sequence, one_of, byte_sequence_predicate, first_not_open_ended, join, abstract_start_predicate}
+use Rattle.regex_meaning.specs.StartPredicate.{utf8_bytes_of_text_from_place, may_start}
 use Rattle.regex_meaning.specs.StartPredicate.{bytes_that_pass, first_bytes, code_points_of_class, is_anchored, resolved_start_predicate, start_anchored, start_predicate}
 use Rattle.regex_meaning.specs.FirstAndAllMatches.{no_groups}
 use Rattle.regex_meaning.proofs.EachElementLemmas.{Each-append, Each-if, Each-when, Each-filter, Each-map, Each-flat_map, Each-image, Each-all}

@@ -13,8 +13,10 @@ use Rattle.regex_meaning.specs.Tree.{Intervals, Node, char_set, byte_set, byte_s
 use Rattle.regex_meaning.specs.Text.{is_scalar}
 use Rattle.regex_meaning.specs.WellFormedTrees.{has_text_in_sequence, set_sizes_and_characters_fit_instructions, IsWellFormed}
 use Rattle.regex_meaning.proofs.WellFormedTreesLemmas.{clauses}
-use Rattle.regex_meaning.specs.StartPredicate.{AbstractStartPredicate, open_ended, arbitrary, sequence, one_of, byte_sequence_predicate, common_prefix_or_first_bytes, common_prefix, first_byte_as_set, union_of_byte_sets, first_not_open_ended, join, abstract_start_predicate, bytes_that_pass}
-use Rattle.regex_meaning.specs.StartPredicate.{chars_with_first_byte, intersects, first_bytes, code_points_of_class, IsSoundStartPredicateOf, begins_characters, has_nonempty_bytes, is_anchored, resolved_start_predicate, start_anchored, start_predicate}
+use Rattle.regex_meaning.specs.StartPredicate.{AbstractStartPredicate, open_ended, arbitrary, sequence, one_of, byte_sequence_predicate, common_prefix_or_first_bytes, common_prefix}
+use Rattle.regex_meaning.specs.StartPredicate.{first_byte_as_set, union_of_byte_sets, first_not_open_ended, join, abstract_start_predicate, bytes_that_pass}
+use Rattle.regex_meaning.specs.StartPredicate.{chars_with_first_byte, intersects, first_bytes, code_points_of_class, IsSoundStartPredicateOf, begins_characters, has_nonempty_bytes, is_anchored}
+use Rattle.regex_meaning.specs.StartPredicate.{resolved_start_predicate, start_anchored, start_predicate}
 use Rattle.regex_meaning.proofs.FirstByteOfCharacter.{in_range-below, in_range-true, true-in_range, first_of_char}
 use Rattle.regex_meaning.proofs.StartPredicateLemmas.{all-contains, predicate-holds}
 use Rattle.std.proofs.lemmas.Bool.{or_cases, and_from, or_left, or_right, ltb-true, le-ltb, ne_eqb}

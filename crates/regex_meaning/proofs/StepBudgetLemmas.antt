@@ -12,7 +12,8 @@ use Rattle.regex_meaning.specs.MatchGroupsByNumberAndName.{Answer, answer, answe
 use Rattle.regex_meaning.specs.SearchAnswers.{first_answer, first_found, next_start, answers_on, answer_then_list}
 use Rattle.regex_meaning.specs.OutcomesWithStepTicks.{need, needs, needs_from}
 use Rattle.regex_meaning.specs.Laws.{step_needs_from_optional_place, needs_after_match}
-use Rattle.regex_meaning.specs.StepBudget.{budget_suffices, remaining_budget, items_within_steps, need_from, needs_of_answers, answers_within, finishes_within, answers_within_from_next, finishes_from_next}
+use Rattle.regex_meaning.specs.StepBudget.{budget_suffices, remaining_budget, items_within_steps, need_from, needs_of_answers, answers_within, finishes_within, answers_within_from_next}
+use Rattle.regex_meaning.specs.StepBudget.{finishes_from_next}
 use Rattle.regex_meaning.proofs.SearchAnswersLemmas.{answers-go_on}
 use Rattle.regex_meaning.proofs.FirstAndAllMatchesLemmas.{StandsFrom, stands-first, GoesOnInside, goes-inside}
 use Rattle.regex_meaning.proofs.NeededStepsLemmas.{needs-unfold}

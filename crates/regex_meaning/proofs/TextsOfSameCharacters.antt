@@ -1,11 +1,13 @@
 -- Texts with the same characters have the same matches if their folds agree on these characters.
-use Rattle.regex_meaning.specs.Tree.{Sameness, exact, folded, alike as by_unicode, Quantifier, Node, empty, goal, byte_sequence, cat, end_of_cat, alt, string_set, anchor, start_of_line, end_of_line, word_boundary, capture_group, back_ref, lookaround, loop, loop_1_char_body}
+use Rattle.regex_meaning.specs.Tree.{Sameness, exact, folded, alike as by_unicode, Quantifier, Node, empty, goal, byte_sequence, cat, end_of_cat, alt, string_set, anchor, start_of_line, end_of_line}
+use Rattle.regex_meaning.specs.Tree.{word_boundary, capture_group, back_ref, lookaround, loop, loop_1_char_body}
 use Rattle.std.proofs.Common.{◌≡◌, ℕ, zero, suc, ◌+◌, ◌-◌, Bool, ◌||◌, List, [], ◌∷◌, length, map, drop, Option, Some, None, refl, ap, ◌∙◌, flat_map, option_and_then}
 use Rattle.std.specs.Prelude.{◌==◌, slice_range}
 use mathlib.Core.Path.{fun_ext}
 use lib.Pointwise.{pointwise}
 use Rattle.regex_meaning.specs.Text.{Text, Direction, rightwards, leftwards}
-use Rattle.regex_meaning.specs.Outcomes.{is_same, Groups, Outcome, Repetition, repetition, repeat, outcomes, captured, with_groups_cleared, one_character, spelled, backref_outcomes, group_range, lookaround_outcomes, direction_of}
+use Rattle.regex_meaning.specs.Outcomes.{is_same, Groups, Outcome, Repetition, repetition, repeat, outcomes, captured, with_groups_cleared, one_character, spelled, backref_outcomes, group_range}
+use Rattle.regex_meaning.specs.Outcomes.{lookaround_outcomes, direction_of}
 use Rattle.regex_meaning.specs.FirstAndAllMatches.{Found, no_groups, first_match, first_match_among, place_after_match, matches_from, match_list}
 use Rattle.regex_meaning.proofs.EachElementLemmas.{Each, Each-take, Each-drop}
 use Rattle.regex_meaning.proofs.ListLemmas.{flat_map-same}

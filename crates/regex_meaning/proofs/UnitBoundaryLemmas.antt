@@ -1,10 +1,12 @@
 -- The boundaries of a UTF-16 text are the offsets that cut no surrogate pair.
-use Rattle.std.proofs.Common.{◌≡◌, ℕ, zero, suc, ◌+◌, ◌<◌, Bool, true, false, cond, not, ◌&&◌, List, [], ◌∷◌, length, map, refl, sym, ap, ◌∙◌, arith, zero-add, eq-eqb, ne_eqb, lt-ltb, le-leb, leb-true, is_some, nat_eq, nat_le, nat_lt, Some, None, slice_index}
+use Rattle.std.proofs.Common.{◌≡◌, ℕ, zero, suc, ◌+◌, ◌<◌, Bool, true, false, cond, not, ◌&&◌, List, [], ◌∷◌, length, map, refl, sym, ap, ◌∙◌, arith, zero-add, eq-eqb, ne_eqb, lt-ltb, le-leb}
+use Rattle.std.proofs.Common.{leb-true, is_some, nat_eq, nat_le, nat_lt, Some, None, slice_index}
 use Rattle.std.specs.List.{list_any, position_or_len}
 use Rattle.std.proofs.lemmas.Bool.{cases_Bool, lt-leb, and_parts}
 use mathlib.Core.Logic.{inl, inr}
 use Rattle.regex_meaning.specs.NumberListHelpers.{contains}
-use Rattle.regex_meaning.specs.Text.{is_high_surrogate, is_low_surrogate, decode_surrogate_pair, utf16_width, utf16_characters, offsets_from, is_unit_boundary, utf16_text, width_of_single_unit_character}
+use Rattle.regex_meaning.specs.Text.{is_high_surrogate, is_low_surrogate, decode_surrogate_pair, utf16_width, utf16_characters, offsets_from, is_unit_boundary, utf16_text}
+use Rattle.regex_meaning.specs.Text.{width_of_single_unit_character}
 use Rattle.regex_meaning.specs.CodeUnitOffsets.{place_at, units}
 use Rattle.regex_meaning.specs.Laws.{is_within_pair}
 use Rattle.std.proofs.Math.Bool.{and-false}

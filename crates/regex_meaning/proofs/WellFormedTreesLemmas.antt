@@ -2,7 +2,8 @@
 use Rattle.std.proofs.Common.{Bool, ◌&&◌, length}
 use Rattle.std.specs.Prelude.{IsTrue}
 use Rattle.regex_meaning.specs.Tree.{Node, group_ids, every_node_passes}
-use Rattle.regex_meaning.specs.WellFormedTrees.{IsWellFormed, is_well_formed, only_goal_node_is_last, each_id_stands_once, has_exact_group_range, refers_to_a_group, has_order_in_quantifier, has_one_character_body, has_text_in_sequence, set_sizes_and_characters_fit_instructions}
+use Rattle.regex_meaning.specs.WellFormedTrees.{IsWellFormed, is_well_formed, only_goal_node_is_last, each_id_stands_once, has_exact_group_range, refers_to_a_group, has_order_in_quantifier}
+use Rattle.regex_meaning.specs.WellFormedTrees.{has_one_character_body, has_text_in_sequence, set_sizes_and_characters_fit_instructions}
 use Rattle.std.proofs.lemmas.Bool.{and_from}
 use Rattle.regex_meaning.proofs.BoolLemmas.{and-left, and-right}
 

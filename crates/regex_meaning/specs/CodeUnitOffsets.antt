@@ -1,5 +1,6 @@
 -- Offsets in code units, and the characters that are read at them (a rule of this crate).
-use Rattle.std.specs.Prelude.{◌≡◌, ℕ, ◌+◌, ◌<◌, ◌⊎◌, if◌then◌else◌, Bool, IsTrue, List, [], ◌∷◌, length, nat_eq, nat_le, not, position, slice_index, Option, Some, None, is_some, option_and_then, option_map}
+use Rattle.std.specs.Prelude.{◌≡◌, ℕ, ◌+◌, ◌<◌, ◌⊎◌, if◌then◌else◌, Bool, IsTrue, List, [], ◌∷◌, length, nat_eq, nat_le, not, position, slice_index, Option, Some, None, is_some, option_and_then}
+use Rattle.std.specs.Prelude.{option_map}
 use Rattle.regex_meaning.specs.Text.{Text, Direction, next_character, moved, last_place}
 
 -- Each number is less than the next.

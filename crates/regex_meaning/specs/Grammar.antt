@@ -5,10 +5,12 @@
 -- productions with groups have a parameter, the dialect (`PatternDialect`), which says what differs
 -- between this profile and other pattern languages.
 use Rattle.std.specs.Prelude.{◌≡◌, ℕ, ◌≤◌, Bool, true, false, ◌&&◌, List, [], ◌∷◌, ◌++◌, AllPairs, nat_lt, length, codes, Some, if◌then◌else◌, IsTrue}
-use Rattle.regex_meaning.specs.Tree.{Node, Tree, Flags, Quantifier, Lookaround, BracketContents, Intervals, goal, char, char_set, cat, end_of_cat, alt, bracket, match_any, match_any_except_line_terminator, anchor, start_of_line, end_of_line, word_boundary, capture_group}
+use Rattle.regex_meaning.specs.Tree.{Node, Tree, Flags, Quantifier, Lookaround, BracketContents, Intervals, goal, char, char_set, cat, end_of_cat, alt, bracket, match_any}
+use Rattle.regex_meaning.specs.Tree.{match_any_except_line_terminator, anchor, start_of_line, end_of_line, word_boundary, capture_group}
 use Rattle.regex_meaning.specs.Tree.{by_case, back_ref, lookaround, loop}
 use Rattle.regex_meaning.specs.Text.{expand_code_point}
-use Rattle.regex_meaning.specs.ReadingStatesAndDigits.{RemainingCodePoints, ParseState, PatternContext, number_of_opened_groups, ◌▸◌, state_with_text_left, with_opened_group, ◌∈◌, begins_with_characters, Digits, group_number_of, arm}
+use Rattle.regex_meaning.specs.ReadingStatesAndDigits.{RemainingCodePoints, ParseState, PatternContext, number_of_opened_groups, ◌▸◌, state_with_text_left, with_opened_group, ◌∈◌}
+use Rattle.regex_meaning.specs.ReadingStatesAndDigits.{begins_with_characters, Digits, group_number_of, arm}
 use Rattle.regex_meaning.specs.EscapesNamesQuantifiers.{CharacterEscape, GroupName, BeginsQuantifier, ValidQuantifier}
 use Prim.Native.String.{String}
 use Rattle.regex_meaning.specs.CharacterClasses.{class, class_escape, CharacterClass, IsSetOf}

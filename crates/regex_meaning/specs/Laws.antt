@@ -1,8 +1,10 @@
 -- Laws of the definitions of this crate; `src/lib.rt` proves each.
-use Rattle.std.specs.Prelude.{◌≡◌, ℕ, zero, suc, ◌+◌, ◌-◌, ◌<◌, ◌≤◌, Bool, false, not, ◌&&◌, is_some, slice_index, List, [], ◌∷◌, ◌++◌, length, map, codes, chars, IsAscii, IfSome, if◌then◌else◌, nat_lt, nat_le, max, ◌==◌, Option, Some, None, option_and_then, filter, flat_map}
+use Rattle.std.specs.Prelude.{◌≡◌, ℕ, zero, suc, ◌+◌, ◌-◌, ◌<◌, ◌≤◌, Bool, false, not, ◌&&◌, is_some, slice_index, List, [], ◌∷◌, ◌++◌, length, map, codes, chars, IsAscii, IfSome, if◌then◌else◌}
+use Rattle.std.specs.Prelude.{nat_lt, nat_le, max, ◌==◌, Option, Some, None, option_and_then, filter, flat_map}
 use Rattle.std.specs.Option.{option_or, option_map_or}
 use Rattle.regex_meaning.specs.Tree.{Quantifier, Node, Tree, Flags, group_ids}
-use Rattle.regex_meaning.specs.Text.{Text, Direction, rightwards, leftwards, last_place, is_high_surrogate, is_low_surrogate, is_unit_boundary, utf8_text, ascii_text, utf16_text, ucs2_text, utf16_characters}
+use Rattle.regex_meaning.specs.Text.{Text, Direction, rightwards, leftwards, last_place, is_high_surrogate, is_low_surrogate, is_unit_boundary, utf8_text, ascii_text, utf16_text, ucs2_text}
+use Rattle.regex_meaning.specs.Text.{utf16_characters}
 use Rattle.regex_meaning.specs.CodeUnitOffsets.{HasRisingPlaceOffsets, offset, place_at, IsBoundary}
 use Rattle.regex_meaning.specs.Outcomes.{Groups, repetition, repeat, passes_empty_check, preferred, max_iterations, outcomes}
 use Rattle.regex_meaning.specs.FirstAndAllMatches.{Found, match_at, first_match, place_after_match, match_list}

@@ -1,13 +1,16 @@
 -- The outcomes of a node at a place, in order of priority (ECMA-262, 21.2.2).
-use Rattle.std.specs.Prelude.{ℕ, zero, suc, ◌+◌, ◌-◌, ◌^◌, min, max, Bool, true, false, not, ◌&&◌, ◌||◌, List, [], ◌∷◌, length, Option, Some, None, if◌then◌else◌, nat_lt, nat_le, nat_eq, ◌==◌, slice_get, slice_set, slice_range, chars, unwrap_or, ◌++◌, filter, flat_map, map}
+use Rattle.std.specs.Prelude.{ℕ, zero, suc, ◌+◌, ◌-◌, ◌^◌, min, max, Bool, true, false, not, ◌&&◌, ◌||◌, List, [], ◌∷◌, length, Option, Some, None, if◌then◌else◌, nat_lt, nat_le, nat_eq, ◌==◌}
+use Rattle.std.specs.Prelude.{slice_get, slice_set, slice_range, chars, unwrap_or, ◌++◌, filter, flat_map, map}
 use Rattle.std.specs.List.{list_any}
 use Rattle.std.specs.Option.{option_map_or}
 use lib.Pointwise.{pointwise}
 use Rattle.regex_meaning.specs.NumberListHelpers.{contains}
-use Rattle.regex_meaning.specs.Tree.{Intervals, AnchorType, start_of_line, end_of_line, Quantifier, Lookaround, Node, empty, goal, char, char_set, byte_set, byte_sequence, cat, end_of_cat, alt, bracket, string_set, match_any, match_any_except_line_terminator, Sameness, exact, folded, alike}
+use Rattle.regex_meaning.specs.Tree.{Intervals, AnchorType, start_of_line, end_of_line, Quantifier, Lookaround, Node, empty, goal, char, char_set, byte_set, byte_sequence, cat, end_of_cat, alt}
+use Rattle.regex_meaning.specs.Tree.{bracket, string_set, match_any, match_any_except_line_terminator, Sameness, exact, folded, alike}
 use Rattle.regex_meaning.specs.Tree.{anchor, word_boundary, capture_group, back_ref, lookaround, loop, loop_1_char_body}
 use Rattle.regex_meaning.specs.Canonical.{canonicalize}
-use Rattle.regex_meaning.specs.Text.{Text, Direction, rightwards, leftwards, is_line_terminator, is_word_char, expand_code_point, character_before, character_after, next_character, characters_ahead, moved, next_characters}
+use Rattle.regex_meaning.specs.Text.{Text, Direction, rightwards, leftwards, is_line_terminator, is_word_char, expand_code_point, character_before, character_after, next_character, characters_ahead}
+use Rattle.regex_meaning.specs.Text.{moved, next_characters}
 use Rattle.std.specs.Int.{is_in_range}
 
 -- An entry for each capturing group by id: `None`, or its start and end places in order (21.2.2.1,

@@ -1,12 +1,14 @@
 -- The outcomes of a node with ticks among them. A tick is one step of a search that tries the
 -- outcomes in order (a rule of this crate).
-use Rattle.std.specs.Prelude.{ℕ, zero, suc, ◌+◌, ◌-◌, min, Bool, true, false, List, [], ◌∷◌, map, reverse, length, take, drop, replicate, Option, Some, None, if◌then◌else◌, nat_lt, nat_le, nat_eq, encode_utf8_all, filter, ◌++◌}
+use Rattle.std.specs.Prelude.{ℕ, zero, suc, ◌+◌, ◌-◌, min, Bool, true, false, List, [], ◌∷◌, map, reverse, length, take, drop, replicate, Option, Some, None, if◌then◌else◌, nat_lt, nat_le, nat_eq}
+use Rattle.std.specs.Prelude.{encode_utf8_all, filter, ◌++◌}
 use Rattle.std.specs.List.{starts_with, prefix_len}
 use Rattle.std.specs.Option.{option_map_or}
 use Rattle.regex_meaning.specs.NumberListHelpers.{numbers_from}
 use Rattle.regex_meaning.specs.Tree.{Quantifier, Node, empty, byte_sequence, cat, end_of_cat, alt, string_set, capture_group, lookaround, loop, loop_1_char_body, Tree}
 use Rattle.regex_meaning.specs.Text.{Text, Direction, rightwards, leftwards, last_place, characters_ahead}
-use Rattle.regex_meaning.specs.Outcomes.{Groups, Outcome, accepts, with_groups_cleared, captured, max_iterations, Repetition, repetition, passes_empty_check, is_case_variant, spelled, lookaround_outcomes, direction_of, outcomes}
+use Rattle.regex_meaning.specs.Outcomes.{Groups, Outcome, accepts, with_groups_cleared, captured, max_iterations, Repetition, repetition, passes_empty_check, is_case_variant, spelled}
+use Rattle.regex_meaning.specs.Outcomes.{lookaround_outcomes, direction_of, outcomes}
 use Rattle.regex_meaning.specs.StartPredicate.{StartPredicate, start_anchored, start_predicate, may_start}
 use Rattle.regex_meaning.specs.FirstAndAllMatches.{no_groups, first_match, place_after_match}
 use Rattle.regex_meaning.specs.CompilationRelation.{chunks}

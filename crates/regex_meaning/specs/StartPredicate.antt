@@ -1,10 +1,12 @@
 -- The bytes with which a text must begin at a place where a tree has an outcome (a rule of this
 -- crate).
-use Rattle.std.specs.Prelude.{◌≢◌, ℕ, ◌+◌, ◌*◌, ◌-◌, ◌≤◌, Bool, true, false, ◌&&◌, ◌||◌, not, List, [], ◌∷◌, take, drop, filter, map, flat_map, min, max, ◌++◌, if◌then◌else◌, nat_lt, nat_le, nat_eq, ◌==◌, encode_utf8_all, IsTrue}
+use Rattle.std.specs.Prelude.{◌≢◌, ℕ, ◌+◌, ◌*◌, ◌-◌, ◌≤◌, Bool, true, false, ◌&&◌, ◌||◌, not, List, [], ◌∷◌, take, drop, filter, map, flat_map, min, max, ◌++◌, if◌then◌else◌, nat_lt, nat_le, nat_eq}
+use Rattle.std.specs.Prelude.{◌==◌, encode_utf8_all, IsTrue}
 use Rattle.std.specs.List.{list_any, list_all, starts_with}
 use Rattle.std.specs.Int.{is_in_range}
 use Rattle.regex_meaning.specs.NumberListHelpers.{contains, numbers_from}
-use Rattle.regex_meaning.specs.Tree.{Intervals, BracketContents, start_of_line, Node, char_set, byte_set, byte_sequence, cat, end_of_cat, alt, bracket, anchor, capture_group, lookaround, loop, loop_1_char_body, Tree}
+use Rattle.regex_meaning.specs.Tree.{Intervals, BracketContents, start_of_line, Node, char_set, byte_set, byte_sequence, cat, end_of_cat, alt, bracket, anchor, capture_group, lookaround, loop}
+use Rattle.regex_meaning.specs.Tree.{loop_1_char_body, Tree}
 use Rattle.regex_meaning.specs.Text.{Text, rightwards, last_place, is_scalar}
 use Rattle.regex_meaning.specs.Outcomes.{outcomes}
 use Rattle.regex_meaning.specs.FirstAndAllMatches.{no_groups}

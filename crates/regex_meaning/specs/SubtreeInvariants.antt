@@ -1,7 +1,8 @@
 -- What holds for the tree of each part of a pattern. These definitions are not part of the grammar.
 use Rattle.std.specs.Prelude.{◌≡◌, ℕ, ◌+◌, Bool, true, false, ◌&&◌, [], length, count_by, nat_eq, nat_le, nat_lt, if◌then◌else◌, IsTrue}
 use Rattle.regex_meaning.specs.Tree.{Node, byte_set, byte_sequence, loop_1_char_body, group_ids, every_node_passes}
-use Rattle.regex_meaning.specs.WellFormedTrees.{number_of_goal_nodes, has_exact_group_range, refers_to_a_group, has_order_in_quantifier, has_one_character_body, set_sizes_and_characters_fit_instructions}
+use Rattle.regex_meaning.specs.WellFormedTrees.{number_of_goal_nodes, has_exact_group_range, refers_to_a_group, has_order_in_quantifier, has_one_character_body}
+use Rattle.regex_meaning.specs.WellFormedTrees.{set_sizes_and_characters_fit_instructions}
 
 -- The node can occur in the tree of a pattern: it is not a byte set, a byte sequence or a loop over
 -- one character.

@@ -1,5 +1,6 @@
 -- Texts as lists of characters, and the characters beside a place.
-use Rattle.std.specs.Prelude.{ℕ, zero, suc, ◌+◌, ◌-◌, ◌*◌, ◌%◌, Bool, true, false, ◌&&◌, ◌||◌, List, [], ◌∷◌, ◌++◌, map, length, Option, None, if◌then◌else◌, nat_le, ◌==◌, slice_get, slice_range, chars}
+use Rattle.std.specs.Prelude.{ℕ, zero, suc, ◌+◌, ◌-◌, ◌*◌, ◌%◌, Bool, true, false, ◌&&◌, ◌||◌, List, [], ◌∷◌, ◌++◌, map, length, Option, None, if◌then◌else◌, nat_le, ◌==◌, slice_get, slice_range}
+use Rattle.std.specs.Prelude.{chars}
 use Rattle.std.specs.Char.{len_utf8}
 use Rattle.regex_meaning.specs.NumberListHelpers.{contains}
 use Rattle.std.specs.Int.{is_in_range}

@@ -12,9 +12,12 @@ use Rattle.ucd_sets.specs.Sets.{in_set}
 use Rattle.ucd_sets.specs.declared.set.Set.{Set}
 use Rattle.ucd_sets.specs.declared.set.Set.TheVariants as set
 use Rattle.ucd_sets.specs.declared.property.BinaryProperty.{BinaryProperty}
-use Rattle.ucd_sets.specs.declared.property.BinaryProperty.TheVariants.{AsciiHexDigit, Alphabetic, BidiControl, BidiMirrored, CaseIgnorable, Cased, ChangesWhenCasefolded, ChangesWhenCasemapped, ChangesWhenLowercased, ChangesWhenTitlecased, ChangesWhenUppercased, Dash, DefaultIgnorableCodePoint}
-use Rattle.ucd_sets.specs.declared.property.BinaryProperty.TheVariants.{Deprecated, Diacritic, Emoji, EmojiComponent, EmojiModifier, EmojiModifierBase, EmojiPresentation, Extender, GraphemeBase, GraphemeExtend, HexDigit, IdsBinaryOperator, IdsTrinaryOperator, IdContinue, IdStart, XidStart}
-use Rattle.ucd_sets.specs.declared.property.BinaryProperty.TheVariants.{Ideographic, JoinControl, LogicalOrderException, Lowercase, Math, NoncharacterCodePoint, PatternSyntax, PatternWhiteSpace, QuotationMark, Radical, RegionalIndicator, SentenceTerminal, SoftDotted, TerminalPunctuation}
+use Rattle.ucd_sets.specs.declared.property.BinaryProperty.TheVariants.{AsciiHexDigit, Alphabetic, BidiControl, BidiMirrored, CaseIgnorable, Cased, ChangesWhenCasefolded, ChangesWhenCasemapped}
+use Rattle.ucd_sets.specs.declared.property.BinaryProperty.TheVariants.{ChangesWhenLowercased, ChangesWhenTitlecased, ChangesWhenUppercased, Dash, DefaultIgnorableCodePoint}
+use Rattle.ucd_sets.specs.declared.property.BinaryProperty.TheVariants.{Deprecated, Diacritic, Emoji, EmojiComponent, EmojiModifier, EmojiModifierBase, EmojiPresentation, Extender, GraphemeBase}
+use Rattle.ucd_sets.specs.declared.property.BinaryProperty.TheVariants.{GraphemeExtend, HexDigit, IdsBinaryOperator, IdsTrinaryOperator, IdContinue, IdStart, XidStart}
+use Rattle.ucd_sets.specs.declared.property.BinaryProperty.TheVariants.{Ideographic, JoinControl, LogicalOrderException, Lowercase, Math, NoncharacterCodePoint, PatternSyntax, PatternWhiteSpace}
+use Rattle.ucd_sets.specs.declared.property.BinaryProperty.TheVariants.{QuotationMark, Radical, RegionalIndicator, SentenceTerminal, SoftDotted, TerminalPunctuation}
 use Rattle.ucd_sets.specs.declared.property.BinaryProperty.TheVariants.{UnifiedIdeograph, Uppercase, VariationSelector, WhiteSpace, XidContinue}
 
 -- A property that a code point has or does not have: a set of the Unicode Character Database, or

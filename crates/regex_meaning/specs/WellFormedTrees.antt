@@ -4,7 +4,8 @@ use Rattle.std.specs.List.{list_all}
 use Rattle.std.specs.Option.{option_map_or}
 use Rattle.std.specs.Str.{is_utf8}
 use Rattle.regex_meaning.specs.NumberListHelpers.{contains, numbers_from}
-use Rattle.regex_meaning.specs.Tree.{Quantifier, Node, goal, char, char_set, byte_set, byte_sequence, cat, end_of_cat, bracket, string_set, match_any, match_any_except_line_terminator, back_ref, lookaround, loop, loop_1_char_body, fold_nodes, group_ids, every_node_passes}
+use Rattle.regex_meaning.specs.Tree.{Quantifier, Node, goal, char, char_set, byte_set, byte_sequence, cat, end_of_cat, bracket, string_set, match_any, match_any_except_line_terminator, back_ref}
+use Rattle.regex_meaning.specs.Tree.{lookaround, loop, loop_1_char_body, fold_nodes, group_ids, every_node_passes}
 
 -- 1 for `Goal`, 0 for any other node
 abbrev pub one_if_goal_node : Node → ℕ

@@ -1,12 +1,18 @@
 //! The meaning of patterns: the definitions that contracts cite, and proofs of their laws.
 #![tactic(auto)]
 
-ghost use Rattle.regex_meaning.specs.Laws.{CountingTicksKeepsOutcomes, LoopRepetitionUnfolds, OutcomesEndAheadOfPlace, OutcomesKeepNumberOfGroups, OutcomesStayInText, FirstMatchUnfolds, MatchListUnfolds, NeededStepsUnfoldMatchByMatch, PlacesCorrespondToBoundaries, EncodedTextsHaveRisingOffsets};
-ghost use Rattle.regex_meaning.specs.Laws.{Utf16BoundariesCutNoPair, SameMatchesInUtf8AndUtf16, AsciiAndUtf8AnswersAgree, AnswersFromOffsetUnfold, NextStartIsAhead, FirstAnswerLiesOnBoundaries, MatchAtIsFirstAnswerIfThere, NamedGroupAgreesWithNamedGroups};
-ghost use Rattle.regex_meaning.specs.Laws.{AnswersAreWellFormed, AnswersAreOrderedWithoutOverlap, AnswerCountIsBounded, ResumingAfterNonemptyMatchYieldsRest, ReplacingMatchesByThemselvesChangesNothing, FlagsRoundTripExceptNoOpt, EscapeIsInjective, StartPredicateIsSound};
-ghost use Rattle.regex_meaning.specs.CaseLaws.{AlikeWithoutUnicodeIsAlikeWithUnicode, OnlyTwoCharactersFoldIntoAscii, ProfileFoldsTableAsUnicodeDoes, WordCharacterIffAsciiWordFold, EachCharacterHasCaseVariants, CaseVariantsAreFew};
-ghost use Rattle.regex_meaning.specs.GrammarLaws.{ScanFindsOpenedGroupNames, PatternHasAtMostOneTree, ExampleIsParsed, EscapedUtf8ParsesAsLiteral, EscapedTextParsesAsLiteral, ScanCountsPatternGroups, ScanFindsGroupNames, TreesAreWellFormed};
-ghost use Rattle.regex_meaning.specs.EcmaGrammarLaws.{EcmaScriptGroupsAreFound, EcmaScriptGroupsIndependentOfContext, EcmaScriptPatternHasAtMostOneTree, EcmaScriptTreesAreWellFormed, EcmaScriptGroupsAgreeWithScan, EcmaScriptClassesAreClosed};
+ghost use Rattle.regex_meaning.specs.Laws.{CountingTicksKeepsOutcomes, LoopRepetitionUnfolds, OutcomesEndAheadOfPlace, OutcomesKeepNumberOfGroups, OutcomesStayInText, FirstMatchUnfolds};
+ghost use Rattle.regex_meaning.specs.Laws.{MatchListUnfolds, NeededStepsUnfoldMatchByMatch, PlacesCorrespondToBoundaries, EncodedTextsHaveRisingOffsets};
+ghost use Rattle.regex_meaning.specs.Laws.{Utf16BoundariesCutNoPair, SameMatchesInUtf8AndUtf16, AsciiAndUtf8AnswersAgree, AnswersFromOffsetUnfold, NextStartIsAhead, FirstAnswerLiesOnBoundaries};
+ghost use Rattle.regex_meaning.specs.Laws.{MatchAtIsFirstAnswerIfThere, NamedGroupAgreesWithNamedGroups};
+ghost use Rattle.regex_meaning.specs.Laws.{AnswersAreWellFormed, AnswersAreOrderedWithoutOverlap, AnswerCountIsBounded, ResumingAfterNonemptyMatchYieldsRest};
+ghost use Rattle.regex_meaning.specs.Laws.{ReplacingMatchesByThemselvesChangesNothing, FlagsRoundTripExceptNoOpt, EscapeIsInjective, StartPredicateIsSound};
+ghost use Rattle.regex_meaning.specs.CaseLaws.{AlikeWithoutUnicodeIsAlikeWithUnicode, OnlyTwoCharactersFoldIntoAscii, ProfileFoldsTableAsUnicodeDoes, WordCharacterIffAsciiWordFold};
+ghost use Rattle.regex_meaning.specs.CaseLaws.{EachCharacterHasCaseVariants, CaseVariantsAreFew};
+ghost use Rattle.regex_meaning.specs.GrammarLaws.{ScanFindsOpenedGroupNames, PatternHasAtMostOneTree, ExampleIsParsed, EscapedUtf8ParsesAsLiteral, EscapedTextParsesAsLiteral, ScanCountsPatternGroups};
+ghost use Rattle.regex_meaning.specs.GrammarLaws.{ScanFindsGroupNames, TreesAreWellFormed};
+ghost use Rattle.regex_meaning.specs.EcmaGrammarLaws.{EcmaScriptGroupsAreFound, EcmaScriptGroupsIndependentOfContext, EcmaScriptPatternHasAtMostOneTree, EcmaScriptTreesAreWellFormed};
+ghost use Rattle.regex_meaning.specs.EcmaGrammarLaws.{EcmaScriptGroupsAgreeWithScan, EcmaScriptClassesAreClosed};
 
 /// The list of ticks and outcomes of a node contains exactly its outcomes, in order.
 /// Statement: `specs/Laws`.

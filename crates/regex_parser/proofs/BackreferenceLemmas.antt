@@ -1,5 +1,6 @@
 -- The reader reads backreferences and other escapes of atoms as the profile's grammar specifies.
-use Rattle.std.proofs.Common.{◌≡◌, ℕ, zero, suc, ◌-◌, ◌<◌, ◌≤◌, ◌^◌, max, ◌⊎◌, inl, inr, Bool, true, false, not, List, [], ◌∷◌, ◌++◌, length, true≢false, ⊎_elim, nat_eq, nat_lt, refl, sym, ap, subst, ◌∙◌, arith, Some, None}
+use Rattle.std.proofs.Common.{◌≡◌, ℕ, zero, suc, ◌-◌, ◌<◌, ◌≤◌, ◌^◌, max, ◌⊎◌, inl, inr, Bool, true, false, not, List, [], ◌∷◌, ◌++◌, length, true≢false, ⊎_elim, nat_eq, nat_lt, refl, sym, ap, subst}
+use Rattle.std.proofs.Common.{◌∙◌, arith, Some, None}
 use Rattle.std.specs.Prelude.{codes, Option, ◌||◌, ◌==◌, Result, Ok, Err, IsTrue, option_map, String}
 use Rattle.std.specs.Result.{IsErrAnd}
 use Rattle.std.specs.BTreeMap.{BTreeMap, get_by_text}
@@ -28,7 +29,8 @@ use Rattle.regex_parser.specs.ClassReaderContracts.{uninverted_digit_word_or_spa
 use Rattle.regex_parser.specs.CodePointReaderContracts.{first_char_if_any, IsCodePointReadIfAny, is_syntax_error, IsNumberRead}
 use Rattle.regex_parser.specs.declared.parser_error.ParseStopReason.{ParseStopReason}
 use Rattle.regex_pattern_front.specs.AstToSpecTree.{spec_node_of, spec_flags_of, class_as_spec}
-use Rattle.regex_parser.specs.GrouplessTermContracts.{NoSimpleAtom, pattern_context, NamesAreNumberedWithinGroupLimit, IsTermReadOrNone, TextBetweenOpensNoGroup, begins_backreference, IsReference, IsReferencedGroupNumberRead}
+use Rattle.regex_parser.specs.GrouplessTermContracts.{NoSimpleAtom, pattern_context, NamesAreNumberedWithinGroupLimit, IsTermReadOrNone, TextBetweenOpensNoGroup, begins_backreference, IsReference}
+use Rattle.regex_parser.specs.GrouplessTermContracts.{IsReferencedGroupNumberRead}
 use Rattle.regex_parser.specs.GrouplessTermContracts.{IsNameWithNumber, IsReferencedNameNumberRead, IsNumberUnlessMissingOrZero, IsDecimalReadIfItFitsU32}
 use Rattle.regex_parser.proofs.GrouplessTermLemmas.{leaf-of, special}
 use Rattle.regex_parser.proofs.NumberReaderLemmas.{nonzero_digit_bounds, no-number}

@@ -1,5 +1,6 @@
 -- A loop over the intervals of a set adds the characters that match their members.
-use Rattle.std.proofs.Common.{◌≡◌, ◌⊎◌, ℕ, zero, suc, ◌+◌, ◌<◌, Bool, true, false, ◌||◌, List, [], ◌∷◌, ◌++◌, map, take, length, get_or, refl, sym, ap, ◌∙◌, arith, inl, inr, ⊎_elim, true≢false, nat_eq, eq-eqb, eqb-true}
+use Rattle.std.proofs.Common.{◌≡◌, ◌⊎◌, ℕ, zero, suc, ◌+◌, ◌<◌, Bool, true, false, ◌||◌, List, [], ◌∷◌, ◌++◌, map, take, length, get_or, refl, sym, ap, ◌∙◌, arith, inl, inr, ⊎_elim, true≢false}
+use Rattle.std.proofs.Common.{nat_eq, eq-eqb, eqb-true}
 use Rattle.std.specs.Prelude.{IsTrue}
 use Rattle.std.specs.Int.{is_in_range}
 use Rattle.std.proofs.lemmas.Bool.{or_left, or_right, or_cases}

@@ -1,5 +1,6 @@
 -- The class reader reads the members and sets that the profile's grammar specifies.
-use Rattle.std.proofs.Common.{◌≡◌, ℕ, ◌<◌, ◌≤◌, ◌⊎◌, inl, inr, Bool, true, false, not, ◌&&◌, ◌||◌, List, [], ◌∷◌, ◌++◌, true≢false, ⊎_elim, nat_eq, refl, sym, ap, ap₂, subst, ◌∙◌, arith, append_assoc, append-nil, Some, None}
+use Rattle.std.proofs.Common.{◌≡◌, ℕ, ◌<◌, ◌≤◌, ◌⊎◌, inl, inr, Bool, true, false, not, ◌&&◌, ◌||◌, List, [], ◌∷◌, ◌++◌, true≢false, ⊎_elim, nat_eq, refl, sym, ap, ap₂, subst, ◌∙◌, arith}
+use Rattle.std.proofs.Common.{append_assoc, append-nil, Some, None}
 use Rattle.std.specs.Prelude.{if◌then◌else◌, ◌==◌, nat_le, Option, Result, Ok, Err, IfOk, OnOk, IsErr, IsTrue}
 use Rattle.std.specs.Result.{IsErrAnd}
 use Rattle.std.specs.List.{list_any}
@@ -10,7 +11,8 @@ use Rattle.regex_meaning.specs.Outcomes.{in_intervals}
 use Rattle.regex_meaning.specs.Text.{expand_code_point, is_scalar}
 use Rattle.regex_meaning.specs.ReadingStatesAndDigits.{RemainingCodePoints, ◌∈◌}
 use Rattle.regex_meaning.specs.EscapesNamesQuantifiers.{CharacterEscape}
-use Rattle.regex_meaning.specs.CharacterClasses.{ClassMember, character, range, class, class_escape, closed_under_case_folding, class_member_contains, AreCanonicalIntervals, IsSetOf, ClassAtom, verbatim, no_more, more, CharacterClass, plain, inverted, has_set_operation}
+use Rattle.regex_meaning.specs.CharacterClasses.{ClassMember, character, range, class, class_escape, closed_under_case_folding, class_member_contains, AreCanonicalIntervals, IsSetOf, ClassAtom}
+use Rattle.regex_meaning.specs.CharacterClasses.{verbatim, no_more, more, CharacterClass, plain, inverted, has_set_operation}
 use Rattle.regex_meaning.specs.CharacterClasses.{of_class, backspace, escaped, are_characters, IsRangeDash, ClassMembers, alone, from_to, no_range, ClassRanges}
 use Rattle.regex_meaning.proofs.DisjunctionReadingLemmas.{first, rest_of}
 use Rattle.regex_meaning.proofs.EscapesAndNamesLemmas.{behind}
@@ -18,7 +20,8 @@ use Rattle.regex_meaning.proofs.ClassAndAtomLemmas.{class_letter, one_class_atom
 use Rattle.regex_pattern_front.specs.declared.codepointset.Interval.{Interval}
 use Rattle.regex_parser.specs.declared.parser_error.ParseStopReason.{ParseStopReason}
 use Rattle.regex_parser.specs.CodePointReaderContracts.{is_syntax_error, first_char_if_any, IsEaten, IsCodePointReadIfAny, IsUnescapedRead, IsReadAndErrorMeansUnreadable}
-use Rattle.regex_parser.specs.ClassReaderContracts.{is_in_any_interval, class_escape_of_letter, begins_nested_class_or_operation, IsCaseClosureOfTest, AddsMembers, IsClassMemberRead, AreClassRangesRead}
+use Rattle.regex_parser.specs.ClassReaderContracts.{is_in_any_interval, class_escape_of_letter, begins_nested_class_or_operation, IsCaseClosureOfTest, AddsMembers, IsClassMemberRead}
+use Rattle.regex_parser.specs.ClassReaderContracts.{AreClassRangesRead}
 use Rattle.regex_parser.proofs.ClassMemberListLemmas.{held-append, added-set, added-more, other_in_class}
 use Rattle.regex_parser.proofs.LetterCaseClosureLemmas.{closed-twice}
 use Rattle.regex_parser.proofs.NumberReaderLemmas.{no_sign}

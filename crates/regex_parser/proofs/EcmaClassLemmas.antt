@@ -1,5 +1,6 @@
 -- The ECMAScript class reader reads the members and sets that the grammar specifies.
-use Rattle.std.proofs.Common.{◌≡◌, ◌⊎◌, ℕ, ◌<◌, ◌≤◌, Bool, true, false, ◌&&◌, ◌||◌, List, [], ◌∷◌, ◌++◌, length, true≢false, ⊎_elim, inl, inr, refl, sym, ap, ap₂, subst, ◌∙◌, arith, append_assoc, append-nil, Option, Some, None, is_some, nat_eq, not, codes, eqb-true, eq-eqb}
+use Rattle.std.proofs.Common.{◌≡◌, ◌⊎◌, ℕ, ◌<◌, ◌≤◌, Bool, true, false, ◌&&◌, ◌||◌, List, [], ◌∷◌, ◌++◌, length, true≢false, ⊎_elim, inl, inr, refl, sym, ap, ap₂, subst, ◌∙◌, arith, append_assoc}
+use Rattle.std.proofs.Common.{append-nil, Option, Some, None, is_some, nat_eq, not, codes, eqb-true, eq-eqb}
 use Rattle.std.specs.Prelude.{IsTrue, Result, Ok, Err, if◌then◌else◌}
 use Rattle.std.proofs.lemmas.Bool.{or_cases, or_left}
 use Rattle.std.proofs.Math.Bool.{or-false}
@@ -9,8 +10,10 @@ use Rattle.regex_meaning.specs.Canonical.{canonicalize, canonical_character}
 use Rattle.regex_meaning.specs.ReadingStatesAndDigits.{RemainingCodePoints, ◌∈◌, begins_with_characters}
 use Rattle.regex_meaning.specs.CharacterClasses.{AreCanonicalIntervals, IsRangeDash, digit_class, word_class, space_class}
 use Rattle.regex_meaning.specs.CharacterClasses as Profile
-use Rattle.regex_meaning.specs.EcmaClasses.{ClassMember, character, range, class, class_member_contains, are_characters, IsSetOf, ClassAtom, verbatim, ClassMembers, alone, from_to, no_range, ClassRanges, no_more, more, escaped, backslash, InvertibleSet, is_in_invertible_set}
-use Rattle.regex_meaning.specs.EcmaClasses.{class_escape_set, word_characters, CharacterClassEscape, by_letter, SimpleClassEscape, backspace, dash, class_control_letter, ClassEscape, simple_escape, class_escape, character_escape, grammar_parameters, by_property, CharacterClass, plain, inverted}
+use Rattle.regex_meaning.specs.EcmaClasses.{ClassMember, character, range, class, class_member_contains, are_characters, IsSetOf, ClassAtom, verbatim, ClassMembers, alone, from_to, no_range}
+use Rattle.regex_meaning.specs.EcmaClasses.{ClassRanges, no_more, more, escaped, backslash, InvertibleSet, is_in_invertible_set}
+use Rattle.regex_meaning.specs.EcmaClasses.{class_escape_set, word_characters, CharacterClassEscape, by_letter, SimpleClassEscape, backspace, dash, class_control_letter, ClassEscape, simple_escape}
+use Rattle.regex_meaning.specs.EcmaClasses.{class_escape, character_escape, grammar_parameters, by_property, CharacterClass, plain, inverted}
 use Rattle.regex_meaning.specs.UnicodeProperties.{Property as SpecProperty, has_property}
 use Rattle.regex_meaning.specs.EcmaEscapesAndNames.{CharacterEscape, non_identity_escape, identity_escape, is_identity_escape, PropertyExpression}
 use Rattle.regex_meaning.proofs.DisjunctionReadingLemmas.{first, rest_of}
@@ -21,7 +24,8 @@ use Rattle.regex_meaning.proofs.EcmaEscapesAndNamesLemmas.{proper-kind, escape_k
 use Rattle.regex_meaning.proofs.EcmaClassAndAtomLemmas.{property-from, class_letter as ecma_class_letter, one_class_atom, atom_starts, is_range, atom_from, character_inj, one_member, member_starts}
 use Rattle.regex_parser.specs.ClassReaderContracts.{is_in_any_interval, uninverted_digit_word_or_space_set, class_escape_of_letter}
 use Rattle.regex_parser.specs.CaseVariantContracts.{AddsMatchingCharacters}
-use Rattle.regex_parser.specs.EcmaClassContracts.{AddsEcmaMembers, IsCanonicalClosure, set_of_letter, IsClassControlRead, IsSimpleClassEscapeRead, IsEcmaMemberRead, AreEcmaRangesRead, IsRangeOrCause, member_of_atom}
+use Rattle.regex_parser.specs.EcmaClassContracts.{AddsEcmaMembers, IsCanonicalClosure, set_of_letter, IsClassControlRead, IsSimpleClassEscapeRead, IsEcmaMemberRead, AreEcmaRangesRead, IsRangeOrCause}
+use Rattle.regex_parser.specs.EcmaClassContracts.{member_of_atom}
 use Rattle.regex_parser.specs.declared.ecmascript_classes.AtomValue.{AtomValue}
 use Rattle.regex_parser.specs.declared.ecmascript_classes.AtomValue.TheVariants.{Character, Letter, Property}
 use Rattle.regex_parser.specs.declared.diagnosis.Cause.{Cause}

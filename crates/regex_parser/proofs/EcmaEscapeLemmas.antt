@@ -6,7 +6,8 @@ use Rattle.std.specs.Char.{OutOfScalarRange, is_digit, digit_value, is_ascii_dig
 use Rattle.std.proofs.lemmas.List.Sums.{take_while-cons}
 use Rattle.regex_meaning.specs.ReadingStatesAndDigits.{RemainingCodePoints, leading_digits, ◌∈◌}
 use Rattle.regex_meaning.specs.EscapesNamesQuantifiers.{FixedHexDigits, UnicodeEscape, control_escape_code_point}
-use Rattle.regex_meaning.specs.EcmaEscapesAndNames.{GrammarParameters, next_code_point_passes, is_octal_digit, is_zero_to_three, is_four_to_seven, LegacyOctalEscape, one_digit, two_digits, two_high_digits, three_digits, CharacterEscape, non_identity_escape, identity_escape, is_identity_escape}
+use Rattle.regex_meaning.specs.EcmaEscapesAndNames.{GrammarParameters, next_code_point_passes, is_octal_digit, is_zero_to_three, is_four_to_seven, LegacyOctalEscape, one_digit, two_digits}
+use Rattle.regex_meaning.specs.EcmaEscapesAndNames.{two_high_digits, three_digits, CharacterEscape, non_identity_escape, identity_escape, is_identity_escape}
 use Rattle.regex_meaning.specs.EcmaEscapesAndNames.{NonIdentityEscape, control_escape, control_letter, null, hex_escape, unicode_escape, legacy_octal_escape}
 use Rattle.regex_meaning.proofs.DisjunctionReadingLemmas.{first as first_of, rest_of, unlike}
 use Rattle.regex_meaning.proofs.EscapesAndNamesLemmas.{firsts}

@@ -1,5 +1,6 @@
 -- The ECMAScript reader of group names reads the names that the grammar specifies.
-use Rattle.std.proofs.Common.{◌≡◌, ◌⊎◌, ℕ, ◌+◌, ◌-◌, ◌*◌, ◌<◌, inl, inr, Bool, true, false, ◌&&◌, ◌||◌, List, [], ◌∷◌, ◌++◌, true≢false, refl, sym, ap, ap₂, subst, ◌∙◌, arith, Some, append_assoc, append-nil}
+use Rattle.std.proofs.Common.{◌≡◌, ◌⊎◌, ℕ, ◌+◌, ◌-◌, ◌*◌, ◌<◌, inl, inr, Bool, true, false, ◌&&◌, ◌||◌, List, [], ◌∷◌, ◌++◌, true≢false, refl, sym, ap, ap₂, subst, ◌∙◌, arith, Some, append_assoc}
+use Rattle.std.proofs.Common.{append-nil}
 use Rattle.std.specs.Prelude.{encode_utf8_all, encode_utf8, nat_le, nat_lt, nat_eq, Result, Ok, Err, IsErr}
 use Rattle.std.specs.List.{list_all}
 use Rattle.std.specs.Char.{OutOfScalarRange}

@@ -1,5 +1,6 @@
 -- The ECMAScript term reader reads the terms without groups that the grammar specifies.
-use Rattle.std.proofs.Common.{◌≡◌, ◌⊎◌, ℕ, ◌+◌, ◌-◌, ◌<◌, ◌≤◌, Bool, true, false, not, ◌&&◌, List, [], ◌∷◌, ◌++◌, length, true≢false, ⊎_elim, inl, inr, refl, sym, ap, ap₂, subst, ◌∙◌, arith, Option, Some, None, nat_eq, codes, is_some, Global}
+use Rattle.std.proofs.Common.{◌≡◌, ◌⊎◌, ℕ, ◌+◌, ◌-◌, ◌<◌, ◌≤◌, Bool, true, false, not, ◌&&◌, List, [], ◌∷◌, ◌++◌, length, true≢false, ⊎_elim, inl, inr, refl, sym, ap, ap₂, subst, ◌∙◌, arith, Option}
+use Rattle.std.proofs.Common.{Some, None, nat_eq, codes, is_some, Global}
 use Rattle.std.specs.Prelude.{IsTrue, Result, Ok, Err, IfOk, IfErr, if◌then◌else◌, String, Vec}
 use Rattle.std.specs.BTreeMap.{BTreeMap, get_by_text}
 use Rattle.std.specs.Result.{IsErrAnd}
@@ -17,12 +18,14 @@ use Rattle.regex_meaning.specs.Grammar.{Term, Assertion, Atom, assertion, repeat
 use Rattle.regex_meaning.specs.EcmaEscapesAndNames.{CharacterEscape, NonIdentityEscape, non_identity_escape, identity_escape, is_identity_escape, GroupName, GrammarParameters, PropertyExpression}
 use Rattle.regex_meaning.specs.EcmaClasses.{IsSetOf, class, is_in_invertible_set, CharacterClassEscape, by_letter, by_property, grammar_parameters, CharacterClass}
 use Rattle.regex_meaning.specs.UnicodeProperties.{has_property, Property}
-use Rattle.regex_meaning.specs.EcmaGrammarWithAnnexB.{ecmascript, has_named_groups, grammar_parameters_of, group_number, BeginsGroupNumber, reference_node, AtomEscape, decimal_escape, character_class_escape, property_escape, character_escape, named_reference}
+use Rattle.regex_meaning.specs.EcmaGrammarWithAnnexB.{ecmascript, has_named_groups, grammar_parameters_of, group_number, BeginsGroupNumber, reference_node, AtomEscape, decimal_escape}
+use Rattle.regex_meaning.specs.EcmaGrammarWithAnnexB.{character_class_escape, property_escape, character_escape, named_reference}
 use Rattle.regex_meaning.specs.EcmaGrammarWithAnnexB.{SimpleAtom, pattern_character, extended_pattern_character, any_character, atom_escape, backslash, character_class}
 use Rattle.regex_meaning.proofs.DisjunctionReadingLemmas.{first, rest_of, unlike}
 use Rattle.regex_meaning.proofs.EscapesAndNamesLemmas.{behind, firsts, inside}
 use Rattle.regex_meaning.proofs.BackreferenceNumberLemmas.{number-positive, number_of-bounds}
-use Rattle.regex_meaning.proofs.EcmaClassAndAtomLemmas.{number-kind, letter-kind, property-kind, property-here, property-from, apart-kinds, kind, no-k, no-class, atom-tagged, atom_tag, atom_kind, c-first}
+use Rattle.regex_meaning.proofs.EcmaClassAndAtomLemmas.{number-kind, letter-kind, property-kind, property-here, property-from, apart-kinds, kind, no-k, no-class, atom-tagged, atom_tag, atom_kind}
+use Rattle.regex_meaning.proofs.EcmaClassAndAtomLemmas.{c-first}
 use Rattle.regex_meaning.proofs.EcmaEscapesAndNamesLemmas.{proper-kind, one_name}
 use Rattle.regex_meaning.proofs.FirstDigitOfNumber.{digit_begins}
 use Rattle.regex_meaning.proofs.PatternTreeLemmas.{leaf-reference}
@@ -41,9 +44,11 @@ use Rattle.regex_pattern_front.specs.AstToSpecTree.{spec_node_of, spec_flags_of,
 use Rattle.regex_parser.specs.ClassReaderContracts.{uninverted_digit_word_or_space_set, class_escape_of_letter}
 use Rattle.regex_parser.specs.CodePointReaderContracts.{is_syntax_error, first_char_if_any, IsCodePointReadIfAny}
 use Rattle.regex_parser.specs.EcmaClassContracts.{set_of_letter}
-use Rattle.regex_parser.specs.GrouplessTermContracts.{pattern_context, anchor_sign, boundary_letter, IsNumberUnlessMissingOrZero, is_star_plus_or_question, is_brace_or_closing_bracket, is_paren_or_bar}
+use Rattle.regex_parser.specs.GrouplessTermContracts.{pattern_context, anchor_sign, boundary_letter, IsNumberUnlessMissingOrZero, is_star_plus_or_question, is_brace_or_closing_bracket}
+use Rattle.regex_parser.specs.GrouplessTermContracts.{is_paren_or_bar}
 use Rattle.regex_parser.specs.ParserInvariants.{parse_state}
-use Rattle.regex_parser.specs.EcmaTermContracts.{AreGroupsKnown, NoEcmaTerm, IsEcmaAtomOr, IsEcmaTermRead, IsEcmaCharacterNode, NoAtomEscape, IsAtomEscapeRead, is_nonzero_digit, IsClassEscapeRead, NoGroupNumber, IsGroupNumberRead, IsEcmaNameWithNumber, IsEcmaNameNumberRead, IsEcmaReferenceRead}
+use Rattle.regex_parser.specs.EcmaTermContracts.{AreGroupsKnown, NoEcmaTerm, IsEcmaAtomOr, IsEcmaTermRead, IsEcmaCharacterNode, NoAtomEscape, IsAtomEscapeRead, is_nonzero_digit, IsClassEscapeRead}
+use Rattle.regex_parser.specs.EcmaTermContracts.{NoGroupNumber, IsGroupNumberRead, IsEcmaNameWithNumber, IsEcmaNameNumberRead, IsEcmaReferenceRead}
 use Rattle.regex_parser.proofs.EcmaClassLemmas.{letter-set, no-character, property-begin, control-parts}
 use Rattle.regex_parser.proofs.EcmaEscapeLemmas.{digit-none}
 use Rattle.regex_parser.proofs.NumberReaderLemmas.{no_sign, nonzero_digit_bounds}

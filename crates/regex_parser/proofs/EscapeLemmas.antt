@@ -5,7 +5,8 @@ use Rattle.std.specs.Option.{SomeIff, ok_or}
 use Rattle.std.specs.Char.{IsScalar, OutOfScalarRange, is_ascii_digit, is_ascii_alphanumeric}
 use Rattle.regex_meaning.specs.Text.{is_scalar}
 use Rattle.regex_meaning.specs.ReadingStatesAndDigits.{RemainingCodePoints, Digits, ◌∈◌}
-use Rattle.regex_meaning.specs.EscapesNamesQuantifiers.{FixedHexDigits, SurrogatePair, pair, is_high_surrogate, is_low_surrogate, UnicodeEscape, surrogates, four_digits, code_point, CharacterEscape, control_escape_code_point, control_escape, null, hex_escape, unicode_escape, identity_escape}
+use Rattle.regex_meaning.specs.EscapesNamesQuantifiers.{FixedHexDigits, SurrogatePair, pair, is_high_surrogate, is_low_surrogate, UnicodeEscape, surrogates, four_digits, code_point, CharacterEscape}
+use Rattle.regex_meaning.specs.EscapesNamesQuantifiers.{control_escape_code_point, control_escape, null, hex_escape, unicode_escape, identity_escape}
 use Rattle.regex_meaning.proofs.DisjunctionReadingLemmas.{first, rest_of, unlike}
 use Rattle.regex_meaning.proofs.EscapesAndNamesLemmas.{behind, one_hex, no_brace, no_brace_pair, is_some}
 use Rattle.regex_meaning.proofs.ClassAndAtomLemmas.{may_escape, escape_begins}

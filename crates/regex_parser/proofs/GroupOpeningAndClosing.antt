@@ -2,8 +2,10 @@
 use Rattle.std.proofs.Common.{◌≡◌, ℕ, Bool, true, false, List, [], ◌∷◌, ◌++◌, true≢false, nat_eq, refl, sym, ap, ap₂, subst, ◌∙◌, append-nil, ◌↔◌}
 use Rattle.regex_meaning.specs.Tree.{Node, capture_group}
 use Rattle.regex_meaning.specs.ReadingStatesAndDigits.{RemainingCodePoints, ParseState, PatternContext, number_of_opened_groups, ◌▸◌, with_opened_group, begins_with_characters, arm}
-use Rattle.regex_meaning.specs.Grammar.{PatternDialect, Disjunction, Alternative, Term, Assertion, Atom, no_terms, terms, assertion, repeated_assertion, atom, quantified, start, end, boundary, look, leaf, group, named_group, plain_group}
-use Rattle.regex_parser.specs.ParseStack.{PartialDisjunction, empty_disjunction, push_term, nest_alternatives, CompletesDisjunction, last_arm, further_arms, OpenGroup, OpenGroupKind, captures, plain, looks}
+use Rattle.regex_meaning.specs.Grammar.{PatternDialect, Disjunction, Alternative, Term, Assertion, Atom, no_terms, terms, assertion, repeated_assertion, atom, quantified, start, end, boundary, look}
+use Rattle.regex_meaning.specs.Grammar.{leaf, group, named_group, plain_group}
+use Rattle.regex_parser.specs.ParseStack.{PartialDisjunction, empty_disjunction, push_term, nest_alternatives, CompletesDisjunction, last_arm, further_arms, OpenGroup, OpenGroupKind, captures, plain}
+use Rattle.regex_parser.specs.ParseStack.{looks}
 use Rattle.regex_parser.specs.ParseStack.{IsTerm, once, repeated, ClosesGroup, looked, looked_repeatedly, captured, enclosed, CompletesAllDisjunctions}
 use Rattle.regex_meaning.proofs.DisjunctionReadingLemmas.{IsReadInOneWay, closes, closes_here, ends_here, close_ends, no_close, behind_word, unlike, first, rest_of, leaf_begins}
 use Rattle.regex_parser.proofs.ParseStackLemmas.{begin, no_term, pushed, unpushed}

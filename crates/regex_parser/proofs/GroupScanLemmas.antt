@@ -1,5 +1,6 @@
 -- The scan for groups collects the groups and names that the specified scan finds.
-use Rattle.std.proofs.Common.{◌≡◌, ◌≢◌, ℕ, suc, ◌+◌, ◌-◌, ◌^◌, ◌<◌, inl, inr, min, Bool, true, false, not, ◌&&◌, ◌||◌, List, [], ◌∷◌, ◌++◌, length, true≢false, nat_eq, nat_lt, refl, sym, ap, ap₂, subst, ◌∙◌, arith, append_assoc, append-nil, Some, None}
+use Rattle.std.proofs.Common.{◌≡◌, ◌≢◌, ℕ, suc, ◌+◌, ◌-◌, ◌^◌, ◌<◌, inl, inr, min, Bool, true, false, not, ◌&&◌, ◌||◌, List, [], ◌∷◌, ◌++◌, length, true≢false, nat_eq, nat_lt, refl, sym, ap, ap₂}
+use Rattle.std.proofs.Common.{subst, ◌∙◌, arith, append_assoc, append-nil, Some, None}
 use Rattle.std.specs.Prelude.{if◌then◌else◌, codes, Option, Result, Ok, Err, OnOk, option_map, is_some, String, string_bytes}
 use Rattle.std.specs.List.{starts_with}
 use Rattle.std.specs.Map.{lookup}
@@ -24,7 +25,8 @@ use Rattle.regex_parser.specs.declared.syntax.Syntax.{Syntax}
 use Rattle.regex_parser.specs.declared.syntax.Syntax.TheVariants.{Profile as InProfile, EcmaScript2018}
 use Rattle.regex_parser.specs.declared.group_openings_and_names.GroupAndNameScanState.{GroupAndNameScanState}
 use Rattle.regex_parser.specs.CodePointReaderContracts.{IsEaten, IsUnescapedRead}
-use Rattle.regex_parser.specs.GroupReaderContracts.{IsLookaroundPolaritySignRead, DoesNotBeginWith, text_after_open_parenthesis, group_numbers_adding_absent_name, AreGroupsCollected, OpensScannedGroups, CollectsGroups, RecordsFurtherGroupsInScan, GroupNameScanProcessesCodePoint, IsPatternScanned}
+use Rattle.regex_parser.specs.GroupReaderContracts.{IsLookaroundPolaritySignRead, DoesNotBeginWith, text_after_open_parenthesis, group_numbers_adding_absent_name, AreGroupsCollected}
+use Rattle.regex_parser.specs.GroupReaderContracts.{OpensScannedGroups, CollectsGroups, RecordsFurtherGroupsInScan, GroupNameScanProcessesCodePoint, IsPatternScanned}
 use Rattle.regex_parser.specs.ScannedGroups.{ScansGroups, NoGroupName, scans_nothing, scans_group, scans_named_group, scans_wrong_name, scans_other}
 use Rattle.regex_parser.specs.SyntaxDialects.{spec_syntax_of}
 

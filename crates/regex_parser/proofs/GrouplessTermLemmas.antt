@@ -10,7 +10,8 @@ use Rattle.regex_meaning.specs.Text.{expand_code_point}
 use Rattle.regex_meaning.specs.ReadingStatesAndDigits.{RemainingCodePoints, ParseState, PatternContext, ◌∈◌}
 use Rattle.regex_meaning.specs.EscapesNamesQuantifiers.{BeginsQuantifier}
 use Rattle.regex_meaning.specs.CharacterClasses.{CharacterClass}
-use Rattle.regex_meaning.specs.Grammar.{character_node, SimpleAtom, pattern_character, extended_character, any_character, decimal_escape, named_reference, character_escape, character_class_escape, character_class, profile, Term, assertion, atom, quantified, Assertion, repeated_assertion}
+use Rattle.regex_meaning.specs.Grammar.{character_node, SimpleAtom, pattern_character, extended_character, any_character, decimal_escape, named_reference, character_escape, character_class_escape}
+use Rattle.regex_meaning.specs.Grammar.{character_class, profile, Term, assertion, atom, quantified, Assertion, repeated_assertion}
 use Rattle.regex_meaning.specs.Grammar.{start, end, boundary, look, Atom, leaf, group, named_group, plain_group}
 use Rattle.regex_meaning.proofs.DisjunctionReadingLemmas.{first, rest_of}
 use Rattle.regex_meaning.proofs.EscapesAndNamesLemmas.{inside, firsts, behind}
@@ -29,7 +30,8 @@ use Rattle.regex_pattern_front.specs.declared.ir.Node.TheVariants.{Char, CharSet
 use Rattle.regex_parser.specs.declared.groupless_terms.GrouplessTerm.{GrouplessTerm as TheLeaf}
 use Rattle.regex_pattern_front.specs.declared.types.BracketContents.{BracketContents as TheContents}
 use Rattle.regex_pattern_front.specs.AstToSpecTree.{spec_node_of, spec_flags_of, class_as_spec}
-use Rattle.regex_parser.specs.GrouplessTermContracts.{NoSimpleAtom, NoTerm, pattern_context, TextBetweenIsGrouplessTerm, IsAtomOr, IsTermReadOrNone, IsAtomReadIfPresent, IsGrouplessTermReadIfPresent, TextBetweenOpensNoGroup, is_brace_or_closing_bracket}
+use Rattle.regex_parser.specs.GrouplessTermContracts.{NoSimpleAtom, NoTerm, pattern_context, TextBetweenIsGrouplessTerm, IsAtomOr, IsTermReadOrNone, IsAtomReadIfPresent, IsGrouplessTermReadIfPresent}
+use Rattle.regex_parser.specs.GrouplessTermContracts.{TextBetweenOpensNoGroup, is_brace_or_closing_bracket}
 use Rattle.regex_parser.specs.GrouplessTermContracts.{IsAssertion, anchor_sign, boundary_letter, is_paren_or_bar, is_star_plus_or_question}
 use Rattle.regex_parser.specs.ParserInvariants.{parse_state}
 

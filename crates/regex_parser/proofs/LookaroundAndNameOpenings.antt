@@ -3,8 +3,10 @@ use Rattle.std.specs.Prelude.{IsTrue}
 use Rattle.std.proofs.Common.{◌≡◌, ℕ, Bool, true, false, List, [], ◌∷◌, nat_eq, true≢false, refl, sym, ap, ap₂, subst, ◌∙◌, ◌↔◌}
 use Rattle.regex_meaning.specs.Tree.{Node, lookaround, loop, capture_group}
 use Rattle.regex_meaning.specs.ReadingStatesAndDigits.{RemainingCodePoints, ParseState, PatternContext, number_of_opened_groups, ◌▸◌, state_with_text_left, with_opened_group, ◌∈◌}
-use Rattle.regex_meaning.specs.Grammar.{PatternDialect, Disjunction, Term, Assertion, Atom, lookaround_opener, assertion, repeated_assertion, atom, quantified, start, end, boundary, look, leaf, group, named_group, plain_group}
-use Rattle.regex_parser.specs.ParseStack.{PartialDisjunction, empty_disjunction, OpenGroup, OpenGroupKind, captures, plain, looks, IsTerm, once, repeated, ClosesGroup, looked, looked_repeatedly, captured, enclosed, CompletesAllDisjunctions, lookaround_up_to}
+use Rattle.regex_meaning.specs.Grammar.{PatternDialect, Disjunction, Term, Assertion, Atom, lookaround_opener, assertion, repeated_assertion, atom, quantified, start, end, boundary, look, leaf}
+use Rattle.regex_meaning.specs.Grammar.{group, named_group, plain_group}
+use Rattle.regex_parser.specs.ParseStack.{PartialDisjunction, empty_disjunction, OpenGroup, OpenGroupKind, captures, plain, looks, IsTerm, once, repeated, ClosesGroup, looked, looked_repeatedly}
+use Rattle.regex_parser.specs.ParseStack.{captured, enclosed, CompletesAllDisjunctions, lookaround_up_to}
 use Rattle.regex_meaning.proofs.DisjunctionReadingLemmas.{IsReadInOneWay, ends_here, behind_word, places_differ, unlike, first, third, rest_of, leaf_begins, name_from, of_look, look_word, meant}
 use Rattle.regex_meaning.proofs.EscapesAndNamesLemmas.{no_lazy}
 use Rattle.regex_parser.proofs.ParseStackLemmas.{begin}

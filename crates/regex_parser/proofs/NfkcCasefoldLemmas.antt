@@ -1,5 +1,6 @@
 -- The computed set of Changes_When_NFKC_Casefolded has exactly the specified members.
-use Rattle.std.proofs.Common.{◌≡◌, ◌⊎◌, ℕ, ◌+◌, ◌≤◌, Bool, true, false, not, ◌&&◌, ◌||◌, nat_le, nat_lt, nat_eq, List, [], ◌∷◌, ◌++◌, length, refl, sym, ap, ap₂, subst, ◌∙◌, arith, bytes_eq, eqb-true, encode_utf8_all, append-nil, inl, inr}
+use Rattle.std.proofs.Common.{◌≡◌, ◌⊎◌, ℕ, ◌+◌, ◌≤◌, Bool, true, false, not, ◌&&◌, ◌||◌, nat_le, nat_lt, nat_eq, List, [], ◌∷◌, ◌++◌, length, refl, sym, ap, ap₂, subst, ◌∙◌, arith, bytes_eq}
+use Rattle.std.proofs.Common.{eqb-true, encode_utf8_all, append-nil, inl, inr}
 use Rattle.std.specs.Prelude.{if◌then◌else◌, encode_utf8, flat_map}
 use Rattle.std.specs.Int.{is_in_range}
 use Rattle.std.specs.List.{list_all}

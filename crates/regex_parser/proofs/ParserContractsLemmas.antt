@@ -16,7 +16,8 @@ use Rattle.std.specs.BTreeMap.{BTreeMap, btree_map_len}
 use Rattle.regex_meaning.proofs.DisjunctionReadingLemmas.{ends_here, first}
 use Rattle.regex_meaning.proofs.GroupOpeningScanLemmas.{Ahead}
 use Rattle.regex_parser.proofs.DialectRequirementLemmas.{IsReadable, readable}
-use Rattle.regex_parser.proofs.ParserInvariantsLemmas.{stands-group, stands-named, stands-plain, stands-look, stands-leave, shape, may_have_quantifier, of_term, of_alone, contents_of, wrong-name, group-repeated, not-repeated, stands-begin, still-open, no-opening}
+use Rattle.regex_parser.proofs.ParserInvariantsLemmas.{stands-group, stands-named, stands-plain, stands-look, stands-leave, shape, may_have_quantifier, of_term, of_alone, contents_of, wrong-name}
+use Rattle.regex_parser.proofs.ParserInvariantsLemmas.{group-repeated, not-repeated, stands-begin, still-open, no-opening}
 use Rattle.regex_parser.proofs.QuantifiedTermLemmas.{ahead_term, stands-atom, atom-refused, stands-assertion, assertion-refused}
 use Rattle.regex_parser.specs.declared.parser_error.ParseStopReason.{ParseStopReason}
 use Rattle.regex_parser.specs.declared.group_openings_and_names.GroupKind.{GroupKind}
@@ -32,7 +33,8 @@ use Rattle.regex_parser.specs.GroupReaderContracts.{AreGroupsCollected, IsOpenin
 use Rattle.regex_parser.specs.GrouplessTermContracts.{IsAtomOrIn, NoTermIn, IsReaderOfSame}
 use Rattle.regex_parser.specs.GroupIdInvariant.{OpenDisjunctionsHaveAllGroups, captures_opened_by_group_kind}
 use Rattle.regex_parser.specs.PartialDisjunctionModel.{disjunction_of}
-use Rattle.regex_parser.specs.ParserContracts.{IsTermWithOptionalQuantifierRead, IsOptionalGroupNameRead, is_named_group, grammar_open_groups_from, open_group_of, group_kind_of, KnowsGroups, HasNoTreeFor, group_node_around, HasReadPatternUpTo, AdvancesOrHasNoTree, IsParseResult}
+use Rattle.regex_parser.specs.ParserContracts.{IsTermWithOptionalQuantifierRead, IsOptionalGroupNameRead, is_named_group, grammar_open_groups_from, open_group_of, group_kind_of, KnowsGroups}
+use Rattle.regex_parser.specs.ParserContracts.{HasNoTreeFor, group_node_around, HasReadPatternUpTo, AdvancesOrHasNoTree, IsParseResult}
 use Rattle.regex_parser.specs.CodePointReaderContracts.{IsOptionalQuantifierRead, is_syntax_error}
 use Rattle.regex_pattern_front.specs.AstToSpecTree.{spec_node_of, group_name_bytes, spec_quantifier_of, spec_flags_of}
 

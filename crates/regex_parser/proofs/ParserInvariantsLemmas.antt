@@ -1,5 +1,6 @@
 -- The parser keeps its invariant as it reads, and a pattern that it refuses has no tree.
-use Rattle.std.proofs.Common.{◌≡◌, ℕ, ◌+◌, ◌<◌, ◌≤◌, ◌⊎◌, inl, inr, Bool, true, false, List, [], ◌∷◌, ◌++◌, length, true≢false, ⊎_elim, nat_eq, refl, sym, ap, subst, ◌∙◌, arith, append_assoc, append-nil, length-append, ◌↔◌, Some, None}
+use Rattle.std.proofs.Common.{◌≡◌, ℕ, ◌+◌, ◌<◌, ◌≤◌, ◌⊎◌, inl, inr, Bool, true, false, List, [], ◌∷◌, ◌++◌, length, true≢false, ⊎_elim, nat_eq, refl, sym, ap, subst, ◌∙◌, arith, append_assoc}
+use Rattle.std.proofs.Common.{append-nil, length-append, ◌↔◌, Some, None}
 use Rattle.std.specs.Prelude.{codes, suc, slice_index_or, Option}
 use Rattle.std.specs.Cmp.Lexicographic.{same_text}
 use Rattle.std.proofs.lemmas.Cmp.{nat_list_eq_equiv}
@@ -10,9 +11,11 @@ use lib.Pointwise.{pointwise}
 use Rattle.regex_meaning.specs.Tree.{Node, Tree, Flags, Quantifier, goal, cat, end_of_cat, lookaround, loop, capture_group}
 use Rattle.regex_meaning.specs.ReadingStatesAndDigits.{RemainingCodePoints, ParseState, PatternContext, number_of_opened_groups, state_with_text_left, begins_with_characters, group_number_of, arm}
 use Rattle.regex_meaning.specs.EscapesNamesQuantifiers.{BeginsQuantifier, ValidQuantifier}
-use Rattle.regex_meaning.specs.Grammar.{PatternDialect, Disjunction, Term, Assertion, Atom, assertion, repeated_assertion, atom, quantified, start, end, boundary, look, leaf, group, named_group, plain_group, ParsesBy, pattern_is, AreDistinct, lookaround_opener, no_terms}
+use Rattle.regex_meaning.specs.Grammar.{PatternDialect, Disjunction, Term, Assertion, Atom, assertion, repeated_assertion, atom, quantified, start, end, boundary, look, leaf, group, named_group}
+use Rattle.regex_meaning.specs.Grammar.{plain_group, ParsesBy, pattern_is, AreDistinct, lookaround_opener, no_terms}
 use Rattle.regex_meaning.specs.GroupOpeningScanWithoutParsing.{texts_after_parentheses, no_parenthesis}
-use Rattle.regex_parser.specs.ParseStack.{PartialDisjunction, empty_disjunction, push_term, end_alternative, nest_alternatives, CompletesDisjunction, last_arm, OpenGroup, OpenGroupKind, captures, plain, looks, IsTerm, once, repeated, ClosesGroup, looked, looked_repeatedly, captured, enclosed}
+use Rattle.regex_parser.specs.ParseStack.{PartialDisjunction, empty_disjunction, push_term, end_alternative, nest_alternatives, CompletesDisjunction, last_arm, OpenGroup, OpenGroupKind, captures}
+use Rattle.regex_parser.specs.ParseStack.{plain, looks, IsTerm, once, repeated, ClosesGroup, looked, looked_repeatedly, captured, enclosed}
 use Rattle.regex_parser.specs.ParserInvariants.{HasNoTreeIn, spec_pattern_context, parse_state, FindsGroups, CompletesTo, ParsesTo, AreOpenedNamesNumbered, IsParserInvariant}
 use Rattle.regex_parser.specs.ScannedGroups.{ScansGroups, scans_nothing}
 use Rattle.regex_meaning.proofs.EscapesAndNamesLemmas.{one_quantifier}

@@ -1,5 +1,6 @@
 -- The reader finds a property name exactly if the list of names contains it.
-use Rattle.std.proofs.Common.{◌≡◌, ◌⊎◌, ℕ, suc, ◌+◌, ◌-◌, ◌<◌, ◌≤◌, Bool, true, false, ◌&&◌, ◌||◌, List, [], ◌∷◌, ◌++◌, length, take, drop, get_or, refl, sym, ap, ap₂, ◌∙◌, arith, length-drop, ◌≢◌, true≢false, inl, inr, nat_eq, Option, None, option_map, slice_index, Fits, w8, subst, ⊎_elim}
+use Rattle.std.proofs.Common.{◌≡◌, ◌⊎◌, ℕ, suc, ◌+◌, ◌-◌, ◌<◌, ◌≤◌, Bool, true, false, ◌&&◌, ◌||◌, List, [], ◌∷◌, ◌++◌, length, take, drop, get_or, refl, sym, ap, ap₂, ◌∙◌, arith, length-drop, ◌≢◌}
+use Rattle.std.proofs.Common.{true≢false, inl, inr, nat_eq, Option, None, option_map, slice_index, Fits, w8, subst, ⊎_elim}
 use Rattle.std.specs.Prelude.{if◌then◌else◌}
 use Rattle.std.specs.List.{list_any, list_all, slice_range}
 use Rattle.std.proofs.lemmas.Bool.{or_cases, and_parts, eq-eqb, ne_eqb}

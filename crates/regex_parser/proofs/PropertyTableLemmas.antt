@@ -1,5 +1,6 @@
 -- The tables have exactly the specified property names, each with its set in the database.
-use Rattle.std.proofs.Common.{◌≡◌, ℕ, ◌+◌, ◌*◌, Bool, true, false, not, ◌&&◌, ◌||◌, List, [], ◌∷◌, refl, sym, ap, ap₂, subst, ◌∙◌, true≢false, nat_eq, codes, map, filter, Option, Some, None, option_map, is_some, eq-eqb}
+use Rattle.std.proofs.Common.{◌≡◌, ℕ, ◌+◌, ◌*◌, Bool, true, false, not, ◌&&◌, ◌||◌, List, [], ◌∷◌, refl, sym, ap, ap₂, subst, ◌∙◌, true≢false, nat_eq, codes, map, filter, Option, Some, None}
+use Rattle.std.proofs.Common.{option_map, is_some, eq-eqb}
 use Rattle.std.specs.Prelude.{if◌then◌else◌, bytes_eq}
 use Rattle.std.specs.List.{list_any}
 use Rattle.std.proofs.lemmas.Bool.{and_parts, not-true}
@@ -11,7 +12,8 @@ use Rattle.ucd_sets.specs.Names.{binary_names, category_names, script_names, pro
 use Rattle.ucd_sets.specs.Lookup.{by_name, by_value, value_of, property_named}
 use Rattle.ucd_sets.specs.declared.set.Set.TheVariants as set
 use Rattle.ucd_sets.specs.declared.property.BinaryProperty.{BinaryProperty}
-use Rattle.regex_meaning.specs.UnicodeProperties.{is_word, value_named, binary_property_names, in_database, changes_when_nfkc_casefolded, general_category_named, binary_property_named, property_with_value, Property as SpecProperty}
+use Rattle.regex_meaning.specs.UnicodeProperties.{is_word, value_named, binary_property_names, in_database, changes_when_nfkc_casefolded, general_category_named, binary_property_named}
+use Rattle.regex_meaning.specs.UnicodeProperties.{property_with_value, Property as SpecProperty}
 use Rattle.regex_parser.specs.PropertyReaderContracts.{words_of, listed_value}
 use Rattle.regex_parser.specs.declared.unicode_properties.TheConstants.{CATEGORY_NAMES, BINARY_NAMES, SCRIPT_NAMES}
 use Rattle.regex_parser.proofs.PropertyNameLemmas.{is_name}

@@ -6,7 +6,8 @@ use Rattle.regex_meaning.specs.Tree as tree
 use Rattle.regex_meaning.specs.Text.{expand_code_point}
 use Rattle.regex_meaning.specs.Outcomes.{in_intervals}
 use Rattle.regex_meaning.specs.ReadingStatesAndDigits.{RemainingCodePoints, ◌∈◌}
-use Rattle.regex_meaning.specs.CharacterClasses.{ClassMember, are_characters, character, class, digit_class, word_class, space_class, class_escape, closed_under_case_folding, class_member_contains, has_set_operation}
+use Rattle.regex_meaning.specs.CharacterClasses.{ClassMember, are_characters, character, class, digit_class, word_class, space_class, class_escape, closed_under_case_folding, class_member_contains}
+use Rattle.regex_meaning.specs.CharacterClasses.{has_set_operation}
 use Rattle.regex_meaning.specs.CharacterClasses.{AreCanonicalIntervals, IsSetOf, ClassAtom, ClassMembers, ClassRanges, single_code_point_interval, IsRangeDash}
 use Rattle.regex_parser.specs.declared.character_class_parser.ClassAtomValue.{ClassAtomValue}
 use Rattle.regex_parser.specs.declared.character_class_parser.ClassAtomValue.TheVariants.{Character, Escape}

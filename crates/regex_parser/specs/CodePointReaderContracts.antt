@@ -9,7 +9,8 @@ use Rattle.regex_parser.specs.declared.parser_error.ParseStopReason.TheVariants.
 use Rattle.regex_pattern_front.specs.declared.ir.Quantifier.{Quantifier}
 use Rattle.regex_pattern_front.specs.AstToSpecTree.{spec_quantifier_of}
 use Rattle.regex_meaning.specs.ReadingStatesAndDigits.{RemainingCodePoints, Digits, leading_digits}
-use Rattle.regex_meaning.specs.EscapesNamesQuantifiers.{is_ascii_identifier_start, is_ascii_identifier_part, FixedHexDigits, is_high_surrogate, is_low_surrogate, QuantifierPrefix, BeginsQuantifier, ValidQuantifier}
+use Rattle.regex_meaning.specs.EscapesNamesQuantifiers.{is_ascii_identifier_start, is_ascii_identifier_part, FixedHexDigits, is_high_surrogate, is_low_surrogate, QuantifierPrefix, BeginsQuantifier}
+use Rattle.regex_meaning.specs.EscapesNamesQuantifiers.{ValidQuantifier}
 
 -- The code points of punctuation that readers of patterns name: `\`, `]`, `(`, `)` and `{`.
 abbrev pub backslash : ℕ

@@ -8,7 +8,8 @@ use Rattle.regex_meaning.specs.Canonical.{canonical_character}
 use Rattle.regex_meaning.specs.ReadingStatesAndDigits.{RemainingCodePoints}
 use Rattle.regex_meaning.specs.CharacterClasses.{AreCanonicalIntervals, IsRangeDash, digit_class, space_class}
 use Rattle.regex_meaning.specs.UnicodeProperties.{has_property}
-use Rattle.regex_meaning.specs.EcmaClasses.{ClassMember, character, class, class_member_contains, is_in_invertible_set, word_characters, is_class_control_letter, IsSetOf, SimpleClassEscape, ClassAtom, ClassMembers, ClassRanges}
+use Rattle.regex_meaning.specs.EcmaClasses.{ClassMember, character, class, class_member_contains, is_in_invertible_set, word_characters, is_class_control_letter, IsSetOf, SimpleClassEscape}
+use Rattle.regex_meaning.specs.EcmaClasses.{ClassAtom, ClassMembers, ClassRanges}
 use Rattle.regex_parser.specs.declared.ecmascript_classes.AtomValue.{AtomValue}
 use Rattle.regex_parser.specs.declared.ecmascript_classes.AtomValue.TheVariants.{Character, Letter, Property}
 use Rattle.regex_parser.specs.declared.character_class_parser.CharacterClassType.{CharacterClassType}

@@ -1,6 +1,7 @@
 -- Contracts of the readers of groups and of their names. `here` is the text before what is read,
 -- and `there` the text after it.
-use Rattle.std.specs.Prelude.{◌≡◌, not, ◌&&◌, ◌==◌, if◌then◌else◌, ℕ, ◌-◌, ◌^◌, ◌<◌, nat_lt, min, Bool, true, false, List, [], ◌∷◌, ◌++◌, length, codes, Option, Some, None, is_some, Result, Ok, Err, String, IsTrue}
+use Rattle.std.specs.Prelude.{◌≡◌, not, ◌&&◌, ◌==◌, if◌then◌else◌, ℕ, ◌-◌, ◌^◌, ◌<◌, nat_lt, min, Bool, true, false, List, [], ◌∷◌, ◌++◌, length, codes, Option, Some, None, is_some, Result, Ok, Err}
+use Rattle.std.specs.Prelude.{String, IsTrue}
 use Rattle.std.specs.List.{list_any}
 use Rattle.std.specs.Str.{bytes_eq}
 use Rattle.std.specs.BTreeMap.{BTreeMap, get_by_text, btree_map_len}

@@ -7,8 +7,10 @@ ghost use Rattle.std.specs.List.{list_any};
 ghost use Rattle.regex_pattern_front.specs.Intervals.{interval_of};
 ghost use Rattle.regex_pattern_front.specs.AstToSpecTree.{class_as_spec, spec_flags_of};
 ghost use Rattle.regex_parser.specs.CodePointReaderContracts.{IsReadAndErrorMeansUnreadable, IsReadOrSyntaxError, class_end};
-ghost use Rattle.regex_parser.specs.ClassReaderContracts.{uninverted_digit_word_or_space_set, class_member_of_character_class_escape, class_member_of_atom, class_escape_of_letter, is_in_any_interval, IsCaseClosureOfTest, AddsMembers, IsRangeEndRead};
-ghost use Rattle.regex_parser.specs.ClassReaderContracts.{IsClassMemberRead, AreClassRangesRead, FailsExactlyOnSetOperation, AreRangeEndsIfBothCharacters, begins_nested_class_or_operation, some_case_variant_passes, letter_case_variants_if_any_passes};
+ghost use Rattle.regex_parser.specs.ClassReaderContracts.{uninverted_digit_word_or_space_set, class_member_of_character_class_escape, class_member_of_atom, class_escape_of_letter, is_in_any_interval};
+ghost use Rattle.regex_parser.specs.ClassReaderContracts.{IsCaseClosureOfTest, AddsMembers, IsRangeEndRead};
+ghost use Rattle.regex_parser.specs.ClassReaderContracts.{IsClassMemberRead, AreClassRangesRead, FailsExactlyOnSetOperation, AreRangeEndsIfBothCharacters, begins_nested_class_or_operation};
+ghost use Rattle.regex_parser.specs.ClassReaderContracts.{some_case_variant_passes, letter_case_variants_if_any_passes};
 
 use crate::code_point_reader::PatternReader;
 use crate::diagnosis::Cause;

@@ -4,7 +4,8 @@ ghost use Rattle.std.specs.Prelude.{◌≡◌, ◌<◌, ◌≤◌, ◌∷◌, �
 ghost use Rattle.std.specs.Option.{ForSome};
 ghost use Rattle.regex_meaning.specs.WellFormedTrees.{is_min_at_most_max};
 ghost use Rattle.regex_meaning.specs.EscapesNamesQuantifiers.{BeginsQuantifier};
-ghost use Rattle.regex_parser.specs.CodePointReaderContracts.{IsUnescapedRead, IsCodePointReadIfAny, first_char_if_any, IsEaten, IsDigitRead, IsNumberRead, IsHexRead, open_brace, AreQuantifierCountsRead, IsQuantifierMaximumRead, IsOptionalBracesQuantifierRead, IsOptionalQuantifierPrefixRead};
+ghost use Rattle.regex_parser.specs.CodePointReaderContracts.{IsUnescapedRead, IsCodePointReadIfAny, first_char_if_any, IsEaten, IsDigitRead, IsNumberRead, IsHexRead, open_brace};
+ghost use Rattle.regex_parser.specs.CodePointReaderContracts.{AreQuantifierCountsRead, IsQuantifierMaximumRead, IsOptionalBracesQuantifierRead, IsOptionalQuantifierPrefixRead};
 ghost use Rattle.regex_parser.specs.CodePointReaderContracts.{IsQuantifierRead, is_syntax_error};
 
 use crate::diagnosis::Cause;

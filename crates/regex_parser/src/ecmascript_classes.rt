@@ -6,7 +6,8 @@ ghost use Rattle.regex_meaning.specs.EcmaClasses.{CharacterClass, ClassAtom, Cla
 ghost use Rattle.regex_pattern_front.specs.AstToSpecTree.{class_as_spec, spec_flags_of};
 ghost use Rattle.regex_parser.specs.CodePointReaderContracts.{IsReadOrSyntaxError, class_end};
 ghost use Rattle.regex_parser.specs.ClassReaderContracts.{is_in_any_interval};
-ghost use Rattle.regex_parser.specs.EcmaClassContracts.{member_of_atom, set_of_letter, AreEcmaRangesRead, IsEcmaMemberRead, IsEcmaRangeEndRead, IsClassControlRead, AddsEcmaMembers, IsCanonicalClosure, IsPropertyLetterRead, IsRangeOrCause, IsNoRangeOrUnicodeError, IsSimpleClassEscapeRead};
+ghost use Rattle.regex_parser.specs.EcmaClassContracts.{member_of_atom, set_of_letter, AreEcmaRangesRead, IsEcmaMemberRead, IsEcmaRangeEndRead, IsClassControlRead, AddsEcmaMembers};
+ghost use Rattle.regex_parser.specs.EcmaClassContracts.{IsCanonicalClosure, IsPropertyLetterRead, IsRangeOrCause, IsNoRangeOrUnicodeError, IsSimpleClassEscapeRead};
 ghost use Rattle.regex_meaning.specs.ReadingStatesAndDigits.{begins_with_characters};
 
 use crate::case_variants::add_canonical_variants;

@@ -10,7 +10,8 @@ ghost use Rattle.regex_pattern_front.specs.SubtreeListInvariants.{IsWellFormedGr
 ghost use Rattle.regex_parser.specs.CodePointReaderContracts.{is_syntax_error, backslash};
 ghost use Rattle.regex_parser.specs.PropertyReaderContracts.{spec_property_of};
 ghost use Rattle.regex_parser.specs.GrouplessTermContracts.{pattern_context, is_paren_or_bar, IsReaderOfSame};
-ghost use Rattle.regex_parser.specs.EcmaTermContracts.{AreGroupsKnown, IsEcmaTermRead, IsAtomEscapeRead, IsEcmaCharacterNode, IsClassEscapeRead, IsEcmaReferenceRead, IsGroupNumberRead, IsNoReferenceOrUnicodeError, IsEcmaNameNumberRead, is_nonzero_digit};
+ghost use Rattle.regex_parser.specs.EcmaTermContracts.{AreGroupsKnown, IsEcmaTermRead, IsAtomEscapeRead, IsEcmaCharacterNode, IsClassEscapeRead, IsEcmaReferenceRead, IsGroupNumberRead};
+ghost use Rattle.regex_parser.specs.EcmaTermContracts.{IsNoReferenceOrUnicodeError, IsEcmaNameNumberRead, is_nonzero_digit};
 
 use crate::case_variants::case_variants;
 use crate::character_class_parser::DigitWordOrSpaceEscape;

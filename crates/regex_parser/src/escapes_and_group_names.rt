@@ -1,8 +1,10 @@
 //! Escapes after a backslash, and group names.
 
 ghost use Rattle.std.specs.Prelude.{◌≡◌, ◌≤◌, ◌∷◌, length, string_bytes, Bool, not, ◌&&◌, ◌==◌, IfErr, IfSome, IsTrue, if◌then◌else◌};
-ghost use Rattle.regex_meaning.specs.EscapesNamesQuantifiers.{CharacterEscape, GroupName, control_escape_code_point, is_ascii_identifier_start, is_ascii_identifier_part, FixedHexDigits, UnicodeEscape, is_high_surrogate, is_low_surrogate};
-ghost use Rattle.regex_parser.specs.CodePointReaderContracts.{IsReadOrNothingCanBeRead, IsReadOrSyntaxError, ResultIsGroupNameLetterOrNone, IsOptionalTrailSurrogateEscapeRead, PairsWithTrailSurrogateIfAny, IsCodePointAndClosingBrace, is_syntax_error};
+ghost use Rattle.regex_meaning.specs.EscapesNamesQuantifiers.{CharacterEscape, GroupName, control_escape_code_point, is_ascii_identifier_start, is_ascii_identifier_part, FixedHexDigits};
+ghost use Rattle.regex_meaning.specs.EscapesNamesQuantifiers.{UnicodeEscape, is_high_surrogate, is_low_surrogate};
+ghost use Rattle.regex_parser.specs.CodePointReaderContracts.{IsReadOrNothingCanBeRead, IsReadOrSyntaxError, ResultIsGroupNameLetterOrNone, IsOptionalTrailSurrogateEscapeRead};
+ghost use Rattle.regex_parser.specs.CodePointReaderContracts.{PairsWithTrailSurrogateIfAny, IsCodePointAndClosingBrace, is_syntax_error};
 
 use crate::code_point_reader::PatternReader;
 use crate::diagnosis::Cause;

@@ -7,8 +7,10 @@ ghost use Rattle.regex_meaning.specs.{ReadingStatesAndDigits.{RemainingCodePoint
 ghost use Rattle.regex_pattern_front.specs.AstToSpecTree.{spec_node_of, spec_flags_of, class_as_spec};
 ghost use Rattle.regex_pattern_front.specs.SubtreeListInvariants.{IsWellFormedGrouplessSubtree};
 ghost use Rattle.regex_parser.specs.CodePointReaderContracts.{is_syntax_error, backslash};
-ghost use Rattle.regex_parser.specs.GrouplessTermContracts.{pattern_context, NamesAreNumberedWithinGroupLimit, TextBetweenIsGrouplessTerm, IsGrouplessTermReadIfPresent, IsAtomReadIfPresent, TextBetweenOpensNoGroup, AnchorOrDotReadIfPresent, RefusesCodePointThatIsNoTerm, is_paren_or_bar};
-ghost use Rattle.regex_parser.specs.GrouplessTermContracts.{is_star_plus_or_question, is_brace_or_closing_bracket, begins_backreference, anchor_sign, boundary_letter, IsReferencedGroupNumberRead, IsReferencedNameNumberRead, IsReaderOfSame, IsTermReadIn};
+ghost use Rattle.regex_parser.specs.GrouplessTermContracts.{pattern_context, NamesAreNumberedWithinGroupLimit, TextBetweenIsGrouplessTerm, IsGrouplessTermReadIfPresent, IsAtomReadIfPresent};
+ghost use Rattle.regex_parser.specs.GrouplessTermContracts.{TextBetweenOpensNoGroup, AnchorOrDotReadIfPresent, RefusesCodePointThatIsNoTerm, is_paren_or_bar};
+ghost use Rattle.regex_parser.specs.GrouplessTermContracts.{is_star_plus_or_question, is_brace_or_closing_bracket, begins_backreference, anchor_sign, boundary_letter, IsReferencedGroupNumberRead};
+ghost use Rattle.regex_parser.specs.GrouplessTermContracts.{IsReferencedNameNumberRead, IsReaderOfSame, IsTermReadIn};
 ghost use Rattle.regex_parser.specs.EcmaTermContracts.{IsEcmaAnchorOrDotIfAny, IsEcmaAtomOr};
 ghost use Rattle.regex_parser.specs.SyntaxDialects.{spec_syntax_of, AreGroupsKnownIn};
 ghost use Rattle.regex_parser.specs.GrouplessTermContracts.{IsNumberUnlessMissingOrZero, IsDecimalReadIfItFitsU32};

@@ -2,12 +2,14 @@
 
 ghost use Rattle.regex_parser.specs.CodePointReaderContracts.{open_parenthesis, close_parenthesis};
 ghost use Rattle.std.specs.Prelude.{◌≡◌, ℕ, ◌+◌, ◌≤◌, ◌∷◌, ◌||◌, nat_lt, List, [], false, length, IfOk, IfErr, IfSome, OnOk, IsTrue, None};
-ghost use Rattle.regex_meaning.specs.{CompilationRelation.{tree_contains_byte_nodes}, Tree.{Tree}, WellFormedTrees.{is_well_formed}, Grammar.{Parses, ParsesBy}, ReadingStatesAndDigits.{RemainingCodePoints}};
+ghost use Rattle.regex_meaning.specs.{CompilationRelation.{tree_contains_byte_nodes}, Tree.{Tree}, WellFormedTrees.{is_well_formed}, Grammar.{Parses, ParsesBy}};
+ghost use Rattle.regex_meaning.specs.ReadingStatesAndDigits.{RemainingCodePoints};
 ghost use Rattle.regex_pattern_front.specs.AstToSpecTree.{spec_node_of, tree_of, spec_flags_of, group_name_bytes};
 ghost use Rattle.regex_pattern_front.specs.OptimizedTrees.{has_no_char_loops};
 ghost use Rattle.regex_pattern_front.specs.SubtreeListInvariants.{IsSoundSubtreeWithGroupIds};
 ghost use Rattle.regex_parser.specs.GroupIdInvariant.{OpenDisjunctionsHaveAllGroups, captures_opened_by_group_kind};
-ghost use Rattle.regex_parser.specs.ParserContracts.{HasReadPatternUpTo, IsOptionalGroupNameRead, IsParseResult, IsTermWithOptionalQuantifierRead, AdvancesOrHasNoTree, is_named_group, group_node_around, tree_of_root_and_flags};
+ghost use Rattle.regex_parser.specs.ParserContracts.{HasReadPatternUpTo, IsOptionalGroupNameRead, IsParseResult, IsTermWithOptionalQuantifierRead, AdvancesOrHasNoTree, is_named_group};
+ghost use Rattle.regex_parser.specs.ParserContracts.{group_node_around, tree_of_root_and_flags};
 ghost use Rattle.regex_parser.specs.ParserContracts.{IsTextRefused, IsTextRefusedIn, IsJustifiedRefusal, RefusalPlaceLiesInPattern};
 ghost use Rattle.regex_parser.specs.SyntaxDialects.{spec_syntax_of};
 ghost use Rattle.regex_parser.specs.GrouplessTermContracts.{is_paren_or_bar, IsReaderOfSame};

@@ -2,9 +2,11 @@
 use Rattle.std.proofs.Common.{◌≡◌, Bool, false, List, [], ◌∷◌, ℕ, zero, suc, ◌+◌, ◌-◌, ◌<◌, ap, ◌∙◌, refl, arith, length, get_or, sym, Vec, Global, Box, Option, String}
 use Rattle.regex_meaning.specs.Tree as tree
 use Rattle.regex_pattern_front.specs.AstToSpecTree.{spec_node_of, nodes_of, spec_cat_of_children}
-use Rattle.regex_pattern_front.specs.OptimizedTrees.{reads_one_character, optimized, loop_turned_into_char_loop, rest_of_alternatives, first_alternative_prepended_to_chain, alternatives_with_links_unreversed}
+use Rattle.regex_pattern_front.specs.OptimizedTrees.{reads_one_character, optimized, loop_turned_into_char_loop, rest_of_alternatives, first_alternative_prepended_to_chain}
+use Rattle.regex_pattern_front.specs.OptimizedTrees.{alternatives_with_links_unreversed}
 use Rattle.regex_pattern_front.specs.declared.ir.Node.{Node, Row_of-Node, end_of-Node, more_of-Node, items-the_row-Node, items_hidden-the_row-Node-0, Cat'}
-use Rattle.regex_pattern_front.specs.declared.ir.Node.TheVariants.{Char, CharSet, ByteSet, Cat, Alt, Bracket, MatchAny, MatchAnyExceptLineTerminator, CaptureGroup, LookaroundAssertion, Loop, Loop1CharBody, rolls-Cat, rolls-Alt}
+use Rattle.regex_pattern_front.specs.declared.ir.Node.TheVariants.{Char, CharSet, ByteSet, Cat, Alt, Bracket, MatchAny, MatchAnyExceptLineTerminator, CaptureGroup, LookaroundAssertion, Loop}
+use Rattle.regex_pattern_front.specs.declared.ir.Node.TheVariants.{Loop1CharBody, rolls-Cat, rolls-Alt}
 use Rattle.regex_pattern_front.specs.declared.ir.Node.TheVariants.{rolls-CaptureGroup, rolls-LookaroundAssertion, rolls-Loop, rolls-Loop1CharBody}
 use Rattle.regex_pattern_front.specs.declared.ir.Node.TheOpen.{Node-F}
 use Rattle.regex_pattern_front.specs.declared.ir.Node.TheViews.{roll-Node}

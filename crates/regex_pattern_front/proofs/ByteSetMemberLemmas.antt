@@ -1,5 +1,6 @@
 -- The set of the bytes that pass a test has exactly those members, also after a byte is added.
-use Rattle.std.proofs.Common.{◌≡◌, ℕ, zero, suc, ◌+◌, ◌/◌, ◌%◌, ◌*◌, ◌^◌, ◌<◌, ◌≤◌, Bool, true, false, ◌&&◌, ◌||◌, List, [], ◌∷◌, filter, refl, sym, ap, ◌∙◌, arith, length, get_or, set, inl, inr, get_or-set_same, get_or-set_other, bit_and, bit_or, eqb, not, replicate}
+use Rattle.std.proofs.Common.{◌≡◌, ℕ, zero, suc, ◌+◌, ◌/◌, ◌%◌, ◌*◌, ◌^◌, ◌<◌, ◌≤◌, Bool, true, false, ◌&&◌, ◌||◌, List, [], ◌∷◌, filter, refl, sym, ap, ◌∙◌, arith, length, get_or, set, inl, inr}
+use Rattle.std.proofs.Common.{get_or-set_same, get_or-set_other, bit_and, bit_or, eqb, not, replicate}
 use Rattle.std.specs.Prelude.{if◌then◌else◌, nat_eq, nat_lt, ◌==◌}
 use Rattle.std.specs.Int.{bit_at}
 use mathlib.Core.Logic.{◌⊎◌}

@@ -4,12 +4,14 @@ use mathlib.Core.Path.{fun_ext}
 use Rattle.std.specs.Prelude.{if◌then◌else◌, nat_le, map, ◌==◌}
 use Rattle.std.specs.List.{list_all}
 use Rattle.regex_meaning.specs.NumberListHelpers.{contains, numbers_from}
-use Rattle.regex_meaning.specs.Tree.{Quantifier, Node, char, char_set, byte_set, byte_sequence, cat, alt, bracket, string_set, match_any, match_any_except_line_terminator, capture_group, back_ref, lookaround, loop, loop_1_char_body, group_ids, id_if_capture_group, fold_nodes, every_node_passes}
+use Rattle.regex_meaning.specs.Tree.{Quantifier, Node, char, char_set, byte_set, byte_sequence, cat, alt, bracket, string_set, match_any, match_any_except_line_terminator, capture_group, back_ref}
+use Rattle.regex_meaning.specs.Tree.{lookaround, loop, loop_1_char_body, group_ids, id_if_capture_group, fold_nodes, every_node_passes}
 use Rattle.regex_meaning.specs.MatchGroupsByNumberAndName.{group_name_of_id, capturing_group_ids_and_names, group_names_by_id, id_and_name_if_capture_group}
 use Rattle.regex_meaning.specs.Text.{Text, Direction}
 use Rattle.regex_meaning.specs.Outcomes.{Groups, Outcome, outcomes}
 use Rattle.regex_meaning.specs.CompilationRelation.{tree_contains_byte_nodes, is_byte_node}
-use Rattle.regex_meaning.specs.WellFormedTrees.{number_of_goal_nodes, one_if_goal_node, is_end_of_cat, ends_in_goal, range_is_ids_of_enclosed_groups, has_exact_group_range, refers_to_a_group, has_order_in_quantifier, is_one_character, has_one_character_body, has_text_in_sequence}
+use Rattle.regex_meaning.specs.WellFormedTrees.{number_of_goal_nodes, one_if_goal_node, is_end_of_cat, ends_in_goal, range_is_ids_of_enclosed_groups, has_exact_group_range, refers_to_a_group}
+use Rattle.regex_meaning.specs.WellFormedTrees.{has_order_in_quantifier, is_one_character, has_one_character_body, has_text_in_sequence}
 use Rattle.regex_meaning.specs.WellFormedTrees.{set_sizes_and_characters_fit_instructions}
 use Rattle.regex_meaning.proofs.WellFormedTreesLemmas.{clauses, by_clauses}
 use Rattle.regex_pattern_front.specs.OptimizedTrees.{reads_one_character, optimized, OptimizedIsWellFormed, OptimizedHasSameOutcomes, OptimizedHasSameAnswers}

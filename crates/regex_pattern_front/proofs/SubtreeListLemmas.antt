@@ -9,12 +9,14 @@ use Rattle.std.proofs.lemmas.List.Sums.{sum_by-append}
 use Rattle.std.proofs.lemmas.List.Sorted.{sum_by-IsPermutation, All-permutation}
 use Rattle.std.proofs.lemmas.List.Elements.{All-cons, All-append}
 use Rattle.regex_meaning.specs.Tree as tree
-use Rattle.regex_meaning.specs.Tree.{group_ids, every_node_passes, empty, goal, char, char_set, byte_set, byte_sequence, cat, end_of_cat, alt, bracket, string_set, match_any, match_any_except_line_terminator, anchor, word_boundary, capture_group, back_ref}
+use Rattle.regex_meaning.specs.Tree.{group_ids, every_node_passes, empty, goal, char, char_set, byte_set, byte_sequence, cat, end_of_cat, alt, bracket, string_set, match_any}
+use Rattle.regex_meaning.specs.Tree.{match_any_except_line_terminator, anchor, word_boundary, capture_group, back_ref}
 use Rattle.regex_meaning.specs.Tree.{lookaround, loop, loop_1_char_body, Lookaround, Quantifier}
 use Rattle.regex_meaning.specs.WellFormedTrees.{number_of_goal_nodes, is_min_at_most_max}
 use Rattle.regex_pattern_front.specs.declared.ir.Node.{Node}
 use Rattle.regex_pattern_front.specs.AstToSpecTree.{spec_node_of, spec_cat_of_children}
-use Rattle.regex_pattern_front.specs.SubtreeListInvariants.{is_well_formed_in_pattern, occurrences_of_id, IsSoundSubtreeWithGroupIds, AreSoundSubtrees, CombinesGroupsAndGoalsOfNodes, KeepsSubtreeInvariant}
+use Rattle.regex_pattern_front.specs.SubtreeListInvariants.{is_well_formed_in_pattern, occurrences_of_id, IsSoundSubtreeWithGroupIds, AreSoundSubtrees, CombinesGroupsAndGoalsOfNodes}
+use Rattle.regex_pattern_front.specs.SubtreeListInvariants.{KeepsSubtreeInvariant}
 use Rattle.regex_meaning.proofs.SubtreeInvariantsLemmas.{every-more, within-none, within-join, sum_by-cons, count_by-append}
 pub use Rattle.regex_meaning.proofs.SubtreeInvariantsLemmas.{part-leaf, part-group, part-lookaround, part-loop, whole, whole-plain, whole-reads_none}
 

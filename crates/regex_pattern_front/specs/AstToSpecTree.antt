@@ -8,7 +8,8 @@ use Rattle.regex_pattern_front.specs.declared.ir.Regex.{Regex}
 use Rattle.regex_pattern_front.specs.declared.flags.Flags.{Flags}
 use Rattle.regex_pattern_front.specs.declared.types.BracketContents.{BracketContents}
 use Rattle.regex_pattern_front.specs.declared.ir.Node.{Node, Row_of-Node, end_of-Node, more_of-Node, Cat', Alt', CaptureGroup', LookaroundAssertion', Loop', Loop1CharBody'}
-use Rattle.regex_pattern_front.specs.declared.ir.Node.TheVariants.{Empty, Goal, Char, CharSet, ByteSet, ByteSequence, Bracket, StringSet, MatchAny, MatchAnyExceptLineTerminator, Anchor, WordBoundary, BackRef, CanonicalBackRef}
+use Rattle.regex_pattern_front.specs.declared.ir.Node.TheVariants.{Empty, Goal, Char, CharSet, ByteSet, ByteSequence, Bracket, StringSet, MatchAny, MatchAnyExceptLineTerminator, Anchor, WordBoundary}
+use Rattle.regex_pattern_front.specs.declared.ir.Node.TheVariants.{BackRef, CanonicalBackRef}
 use Rattle.regex_pattern_front.specs.declared.canonical.Sameness.{Sameness}
 use Rattle.regex_pattern_front.specs.declared.canonical.Sameness.TheVariants.{Exact, Folded, Alike}
 

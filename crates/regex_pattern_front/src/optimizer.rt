@@ -3,7 +3,8 @@
 ghost use Rattle.std.specs.Prelude.{◌≡◌};
 ghost use Rattle.regex_pattern_front.specs.AstToSpecTree.{spec_cat_of_children, spec_node_of};
 ghost use Rattle.regex_pattern_front.specs.declared.ir.Node.TheVariants.{Alt};
-ghost use Rattle.regex_pattern_front.specs.OptimizedTrees.{reads_one_character, optimized, loop_turned_into_char_loop, rest_of_alternatives, first_alternative_prepended_to_chain, alternatives_with_links_unreversed, OptimizedIsWellFormed, OptimizedHasSameOutcomes, OptimizedHasSameAnswers};
+ghost use Rattle.regex_pattern_front.specs.OptimizedTrees.{reads_one_character, optimized, loop_turned_into_char_loop, rest_of_alternatives, first_alternative_prepended_to_chain};
+ghost use Rattle.regex_pattern_front.specs.OptimizedTrees.{alternatives_with_links_unreversed, OptimizedIsWellFormed, OptimizedHasSameOutcomes, OptimizedHasSameAnswers};
 ghost use Rattle.regex_pattern_front.specs.OptimizedTrees.{OptimizedHasSameGroups, OptimizedHasSameNames};
 ghost use Rattle.regex_meaning.specs.Tree.{alt};
 

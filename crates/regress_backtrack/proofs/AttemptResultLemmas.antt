@@ -13,7 +13,8 @@ use Rattle.regex_meaning.specs.Outcomes.{Groups}
 use Rattle.regex_meaning.specs.OutcomesWithStepTicks.{items_at, ticks_to_first}
 use Rattle.regex_meaning.specs.CompilationRelation.{Program}
 use Rattle.regress_machine.specs.Machine.{Found, running, search}
-use Rattle.regress_machine.specs.SearchFindsFirstOutcomeAtPlace.{state_before_first_insn, end_and_groups_of_state, first_outcome_among_ticks, end_in_offsets, TreeProgramCanSearchText, sufficient_turns_at}
+use Rattle.regress_machine.specs.SearchFindsFirstOutcomeAtPlace.{state_before_first_insn, end_and_groups_of_state, first_outcome_among_ticks, end_in_offsets, TreeProgramCanSearchText}
+use Rattle.regress_machine.specs.SearchFindsFirstOutcomeAtPlace.{sufficient_turns_at}
 use Rattle.regress_machine.proofs.MachineSearchLemmas.{search_more}
 use Rattle.regress_machine.proofs.TreeCodeOutcomes.{searches-find}
 use Rattle.regress_search.specs.AttemptsAndStarts.{match_end_and_groups_at, end_with_groups, ticks_of_attempt_at}

@@ -5,9 +5,11 @@ use Rattle.std.proofs.lemmas.List.{length-set}
 use Rattle.regex_meaning.specs.Text.{Text, Direction, rightwards, leftwards}
 use Rattle.regex_meaning.specs.CodeUnitOffsets.{place_at}
 use Rattle.regex_meaning.specs.Outcomes.{Groups}
-use Rattle.regex_meaning.specs.CompilationRelation.{Program, LoopFields, Insn, Goal, JustFail, Char, CharSet, ByteSet, ByteSeq, AsciiBracket, Bracket, MatchAny, MatchAnyExceptLineTerminator, StartOfLine, EndOfLine, WordBoundary, WordBoundaryUnicodeICase, Alt, Jump, Lookahead, Lookbehind}
+use Rattle.regex_meaning.specs.CompilationRelation.{Program, LoopFields, Insn, Goal, JustFail, Char, CharSet, ByteSet, ByteSeq, AsciiBracket, Bracket, MatchAny, MatchAnyExceptLineTerminator}
+use Rattle.regex_meaning.specs.CompilationRelation.{StartOfLine, EndOfLine, WordBoundary, WordBoundaryUnicodeICase, Alt, Jump, Lookahead, Lookbehind}
 use Rattle.regex_meaning.specs.CompilationRelation.{EnterLoop, LoopAgain, ResetCaptureGroup, Loop1CharBody, BeginCaptureGroup, EndCaptureGroup, BackRef}
-use Rattle.regress_machine.specs.Machine.{LoopData, State, Thread, waiting, Next, goes, asks, with_some, only_if, go, go_if, range_swapped_if_leftwards, test_of, state_with_ip, state_at_next_ip, first_running_and_others_waiting, choice_in_order_of_greediness, iterate_or_leave_at_loop_head}
+use Rattle.regress_machine.specs.Machine.{LoopData, State, Thread, waiting, Next, goes, asks, with_some, only_if, go, go_if, range_swapped_if_leftwards, test_of, state_with_ip, state_at_next_ip}
+use Rattle.regress_machine.specs.Machine.{first_running_and_others_waiting, choice_in_order_of_greediness, iterate_or_leave_at_loop_head}
 use Rattle.regress_machine.specs.Machine.{effect_at_iteration_end, loop_again_effect, after_lookaround, read_one, stay_if, scan, act_on, act, search}
 use Rattle.regress_memo.specs.ThreadBisimulation.{AlikeThreads, AlikeEnds, AlikeAnswers, AlikeNext, IsBisimulation}
 use Rattle.regress_memo.proofs.LivenessLemmas.{BothThere, both-there}

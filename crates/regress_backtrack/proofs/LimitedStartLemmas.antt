@@ -7,7 +7,8 @@ use Rattle.regex_meaning.specs.NumberListHelpers.{contains, numbers_from}
 use Rattle.regex_meaning.specs.Tree.{Tree}
 use Rattle.regex_meaning.specs.Text.{Text, rightwards, last_place, is_scalar}
 use Rattle.regex_meaning.specs.CodeUnitOffsets.{HasRisingPlaceOffsets, IsBoundary, offset, read, units}
-use Rattle.regex_meaning.specs.StartPredicate.{StartPredicate, start_arbitrary, start_byte_set, start_byte_sequence, start_anchored, start_predicate, may_start, first_byte_is_one_of, utf8_bytes_of_text_from_place}
+use Rattle.regex_meaning.specs.StartPredicate.{StartPredicate, start_arbitrary, start_byte_set, start_byte_sequence, start_anchored, start_predicate, may_start, first_byte_is_one_of}
+use Rattle.regex_meaning.specs.StartPredicate.{utf8_bytes_of_text_from_place}
 use Rattle.regex_meaning.specs.OutcomesWithStepTicks.{tried_places}
 use Rattle.regex_meaning.specs.CodeUnits.{Encoding, utf8, utf16, ucs2, is_character_in_encoding}
 use Rattle.regex_meaning.specs.WellFormedTrees.{is_well_formed}

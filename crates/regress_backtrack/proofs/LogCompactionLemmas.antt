@@ -3,7 +3,8 @@ use Rattle.std.proofs.Common.{◌≡◌, ℕ, zero, suc, ◌+◌, ◌-◌, ◌<�
 use Rattle.std.proofs.Common.{length-set, refl, ap, sym, ◌∙◌, subst, arith}
 use mathlib.Core.Logic.{◌⊎◌, inl, inr}
 use Rattle.std.proofs.lemmas.Bool.{cases_lt, eq-eqb, eqb-true, ltb-true, and_parts}
-use Rattle.std.proofs.lemmas.List.{append-nil, append_assoc, get_or-set_other, drop_more, take_more_set, drop_all, length-drop, length-map, length-take-le, take-append-drop, drop-map, take-take, get_or-take, get_or-drop, drop-drop, length-take}
+use Rattle.std.proofs.lemmas.List.{append-nil, append_assoc, get_or-set_other, drop_more, take_more_set, drop_all, length-drop, length-map, length-take-le, take-append-drop, drop-map, take-take}
+use Rattle.std.proofs.lemmas.List.{get_or-take, get_or-drop, drop-drop, length-take}
 use Rattle.std.specs.List.{take-map}
 use Rattle.std.proofs.lemmas.List.Elements.{All-append, All-set}
 use Rattle.std.proofs.lemmas.List.Folds.{list_all-append}
@@ -165,9 +166,6 @@ module _ (from : ℕ) (slots : List GroupOrLoopState) (log : List UndoEntry) (no
   part-next : Keeps slots (drop from log) from now so.left (c ∷ drop (index + 1) log)
   part-next = subst (λ rest. Keeps slots (drop from log) from now so.left rest) next so.part
 
-  pub compacts-inside : c.slot < length now
-  compacts-inside = keeps-inside slots (drop from log) from now so.left c (drop (index + 1) log) part-next
-
   pub compacts-change : (w d : GroupOrLoopState) → ((begun : ℕ) → logical_slot_value begun w ≡ logical_slot_value begun (slice_index_or now c.slot d)) → w.noted ≤ from → c.old.noted ≤ from
       → Compacts from slots log (slice_set now c.slot w) (kept + 1) (index + 1) (slice_set log' kept c)
   compacts-change w d values now_few old_few =
@@ -246,10 +244,6 @@ few-more m n slots le few k d less = let most = few k d less in omega (arith, mo
 
 all-drop : {X : Type 0} (P : X → Type 0) (n : ℕ) (xs : List X) → All P xs → All P (drop n xs)
 all-drop P n xs all k d less = subst P (sym (get_or-drop n xs k d)) (all (n + k) d (let long = length-drop n xs in omega (arith, less, long)))
-
--- At number `from`, the log numbers are at most `from`.
-pub few-at : (slots : List GroupOrLoopState) (log : List UndoEntry) (from : ℕ) → from ≤ length log → AreLoggedInOrder slots log → All (λ s. s.noted ≤ from) (undone slots (drop from log))
-few-at slots log from le order = order from le
 
 split-undone : (slots : List GroupOrLoopState) (log : List UndoEntry) (n from : ℕ) → n ≤ from → from ≤ length log → undone slots (drop n log) ≡ undone (undone slots (drop from log)) (drop n (take from log))
 split-undone slots log n from le inside = sym (undone-in-two slots log n from le inside)

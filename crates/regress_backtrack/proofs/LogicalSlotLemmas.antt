@@ -1,5 +1,6 @@
 -- A search sees the slots that were set since it began, and logs each slot once after a choice point.
-use Rattle.std.proofs.Common.{◌≡◌, ℕ, zero, suc, ◌+◌, ◌-◌, ◌<◌, ◌≤◌, Bool, false, true, true≢false, List, [], ◌∷◌, ◌++◌, length, length-append, length-set, map, take, drop, replicate, slice_get, slice_set, Some, lt-ltb, refl, ap, ap₂, sym, ◌∙◌, subst, arith}
+use Rattle.std.proofs.Common.{◌≡◌, ℕ, zero, suc, ◌+◌, ◌-◌, ◌<◌, ◌≤◌, Bool, false, true, true≢false, List, [], ◌∷◌, ◌++◌, length, length-append, length-set, map, take, drop, replicate, slice_get}
+use Rattle.std.proofs.Common.{slice_set, Some, lt-ltb, refl, ap, ap₂, sym, ◌∙◌, subst, arith}
 use mathlib.Core.Logic.{◌⊎◌, inl, inr}
 use Rattle.std.proofs.lemmas.Bool.{cases_lt, eq-eqb, eqb-true, ne_eqb}
 use Rattle.std.proofs.lemmas.List.{take_more, take_more_set, length-map, map-append, drop-map, drop_all, drop-append-le, length-take-le, set_comm, get_or-set_other}
@@ -13,7 +14,8 @@ use Rattle.regress_machine.proofs.ForcedIterationLemmas.{set-twice}
 use Rattle.regress_backtrack.specs.declared.state.GroupOrLoopState.{GroupOrLoopState}
 use Rattle.regress_backtrack.specs.declared.state.UndoEntry.{UndoEntry}
 use Rattle.regress_backtrack.specs.declared.state.ChoicePoint.{ChoicePoint}
-use Rattle.regress_backtrack.specs.State.{StateModel, undo_entry_logged_for_slot, undone, slot_placeholder, initial_slot, IsSlotUnsetAndUnlogged, SlotsAreUnsetAndUnlogged, AreSlotsUnset, AreLoggedInOrder, log_len_at_choice_point, logical_slot_value}
+use Rattle.regress_backtrack.specs.State.{StateModel, undo_entry_logged_for_slot, undone, slot_placeholder, initial_slot, IsSlotUnsetAndUnlogged, SlotsAreUnsetAndUnlogged, AreSlotsUnset}
+use Rattle.regress_backtrack.specs.State.{AreLoggedInOrder, log_len_at_choice_point, logical_slot_value}
 use Rattle.regress_backtrack.specs.State.{logical_undo_entry, are_slot_numbers_below, IsStateInvariant, initial_state, SetsSlotUndoably, ChangesFromNumberAreUndone}
 use Rattle.regress_backtrack.specs.UndoLog.{IsLoggedOnce}
 use Rattle.regress_backtrack.specs.UndoLog.IsLoggedOnce.{once, already}

@@ -9,7 +9,8 @@ use Rattle.regress_machine.specs.Machine.{State, Thread, Next, goes, scans, ends
 use Rattle.regress_memo.specs.Liveness.{ReadsAsBytes}
 use Rattle.regress_backtrack.specs.RepeatableLoopBodies.{MayContinue, AllStayInContents, IsClosedForwardBody}
 use Rattle.regress_backtrack.proofs.GroupChangeLists.{Slots, Note}
-use Rattle.regress_backtrack.proofs.LoopBodySteps.{Spot, runs, waits, spot_ip, spot_pos, spot_notes, state_at, thread_at, Quiet, Always, Reached, Turned, sticks, ended, moves, scanned, asked, turned-at}
+use Rattle.regress_backtrack.proofs.LoopBodySteps.{Spot, runs, waits, spot_ip, spot_pos, spot_notes, state_at, thread_at, Quiet, Always, Reached, Turned, sticks, ended, moves, scanned, asked}
+use Rattle.regress_backtrack.proofs.LoopBodySteps.{turned-at}
 
 pub map-joined : (f : Spot → Thread) (S T : List Spot) → map f (S ++ T) ≡ map f S ++ map f T
 map-joined f [] T = refl

@@ -3,10 +3,12 @@ use Rattle.std.proofs.Common.{◌≡◌, ◌≤◌, ◌<◌, ℕ, zero, suc, ◌
 use Rattle.std.specs.Prelude.{if◌then◌else◌}
 use Rattle.std.proofs.lemmas.Option.{slice_get_within}
 use Rattle.regex_meaning.specs.CompilationRelation as layout
-use Rattle.regex_meaning.specs.CompilationRelation.{Program, Insn, CharSet, ByteSet, AsciiBracket, Bracket, MatchAny, MatchAnyExceptLineTerminator, WordBoundary, WordBoundaryUnicodeICase, Lookahead, Lookbehind, BackRef}
+use Rattle.regex_meaning.specs.CompilationRelation.{Program, Insn, CharSet, ByteSet, AsciiBracket, Bracket, MatchAny, MatchAnyExceptLineTerminator, WordBoundary, WordBoundaryUnicodeICase, Lookahead}
+use Rattle.regex_meaning.specs.CompilationRelation.{Lookbehind, BackRef}
 use Rattle.regress_program.specs.LeadingCharLoops.{is_backreference_op}
 use Rattle.regress_program.specs.declared.ops.Op.{Op}
-use Rattle.regress_program.specs.declared.ops.Op.TheVariants.{Goal, Fail, UnitChar, Char, Bytes, One, LineStart, LineEnd, WordEdge, Goto, Either, Enter, LoopEnd, PossessiveCharLoop, GreedyCharLoop, LazyCharLoop, OpenGroup, CloseGroup, ResetGroup, MatchBackref, Look}
+use Rattle.regress_program.specs.declared.ops.Op.TheVariants.{Goal, Fail, UnitChar, Char, Bytes, One, LineStart, LineEnd, WordEdge, Goto, Either, Enter, LoopEnd, PossessiveCharLoop, GreedyCharLoop}
+use Rattle.regress_program.specs.declared.ops.Op.TheVariants.{LazyCharLoop, OpenGroup, CloseGroup, ResetGroup, MatchBackref, Look}
 use Rattle.regress_program.specs.declared.plan.Plan.{Plan}
 use Rattle.regress_program.specs.Plans.{reads_class_char, IsOpOf, IsPlanOf}
 use Rattle.regress_search.proofs.LeadingLoopOperations.{is_backref_insn, op-refers}

@@ -1,5 +1,6 @@
 -- A counted loop needs at most two more required iterations than the number of code units left.
-use Rattle.std.proofs.Common.{◌≡◌, ◌<◌, ◌≤◌, ℕ, zero, suc, ◌+◌, ◌-◌, List, [], ◌∷◌, ◌++◌, map, length, Option, Some, None, Bool, true, false, refl, ap, ◌∙◌, sym, subst, arith, slice_get, slice_set, append_assoc, append-nil}
+use Rattle.std.proofs.Common.{◌≡◌, ◌<◌, ◌≤◌, ℕ, zero, suc, ◌+◌, ◌-◌, List, [], ◌∷◌, ◌++◌, map, length, Option, Some, None, Bool, true, false, refl, ap, ◌∙◌, sym, subst, arith, slice_get, slice_set}
+use Rattle.std.proofs.Common.{append_assoc, append-nil}
 use Rattle.std.specs.Prelude.{◌⊎◌, IsSome}
 use Rattle.std.proofs.lemmas.Bool.{cases_lt}
 use mathlib.Core.Logic.{inl, inr}
@@ -7,7 +8,8 @@ use Rattle.regex_meaning.specs.Laws.{Each}
 use Rattle.regex_meaning.specs.Text.{Text, Direction}
 use Rattle.regex_meaning.specs.CodeUnitOffsets.{HasRisingPlaceOffsets, units}
 use Rattle.regex_meaning.specs.CompilationRelation.{Program, LoopFields, Insn, EnterLoop, LoopAgain, Lookahead, Lookbehind}
-use Rattle.regress_machine.specs.Machine.{LoopData, State, Thread, running, waiting, goes, scans, asks, stuck, Found, result_without_threads, with_steps, with_some, after_lookaround, after_lookaround_search, search_after_effect, act_on, act, search, effect_at_iteration_end, loop_again_effect}
+use Rattle.regress_machine.specs.Machine.{LoopData, State, Thread, running, waiting, goes, scans, asks, stuck, Found, result_without_threads, with_steps, with_some, after_lookaround}
+use Rattle.regress_machine.specs.Machine.{after_lookaround_search, search_after_effect, act_on, act, search, effect_at_iteration_end, loop_again_effect}
 use Rattle.std.proofs.lemmas.List.{length-set}
 use Rattle.regress_machine.proofs.UnchangedGroupsAndLoops.{slice_get-set_same}
 use Rattle.regress_machine.proofs.MachineSearchLemmas.{search_more}
@@ -23,7 +25,8 @@ use Rattle.regress_backtrack.proofs.SearchesOfJoinedThreads.{Parts, ended, passe
 use Rattle.regress_backtrack.proofs.GroupChangeLists.{Slots, Note, applied, AsMany, as-many, applied-twice}
 use Rattle.regress_backtrack.proofs.GroupIndependentSearches.{Differ, unread-alike}
 use Rattle.regress_backtrack.proofs.LoopBodySteps as turn
-use Rattle.regress_backtrack.proofs.LoopBodySteps.{Spot, runs, waits, spot_ip, spot_pos, spot_notes, slots_of, state_at, thread_at, Onward, onward-on, Quiet, Reached, Turned, sticks, moves, scanned, turned-at}
+use Rattle.regress_backtrack.proofs.LoopBodySteps.{Spot, runs, waits, spot_ip, spot_pos, spot_notes, slots_of, state_at, thread_at, Onward, onward-on, Quiet, Reached, Turned, sticks, moves, scanned}
+use Rattle.regress_backtrack.proofs.LoopBodySteps.{turned-at}
 use Rattle.regress_backtrack.proofs.LookaroundsInLoopBodies.{map-joined, Each-joined, Each-on, Answer, spots_after, found_of, answer_of, QuietEnd, Uniform, after-spots, uniform}
 
 -- ---- One step

@@ -18,7 +18,8 @@ use Rattle.regress_memo.specs.MemoSearch.{Key}
 use Rattle.regress_memo.specs.declared.analysis_result.MemoAnalysis.{MemoAnalysis}
 use Rattle.regress_memo.specs.AnalysisAsPotentials.{insn_analysis_of, analysis_as_liveness, insn_direction, memo_bit_index_of_key}
 use Rattle.regress_program.specs.declared.ops.Op.{Op}
-use Rattle.regress_program.specs.declared.ops.Op.TheVariants.{Goal, Fail, UnitChar, Char, Bytes, One, LineStart, LineEnd, WordEdge, Goto, Either, Enter, LoopEnd, OpenGroup, CloseGroup, ResetGroup, MatchBackref, Look}
+use Rattle.regress_program.specs.declared.ops.Op.TheVariants.{Goal, Fail, UnitChar, Char, Bytes, One, LineStart, LineEnd, WordEdge, Goto, Either, Enter, LoopEnd, OpenGroup, CloseGroup, ResetGroup}
+use Rattle.regress_program.specs.declared.ops.Op.TheVariants.{MatchBackref, Look}
 use Rattle.regress_program.specs.declared.plan.Plan.{Plan}
 use Rattle.regress_program.specs.Plans.{reads_class_char, op_as_char_loop, IsOpOf}
 use Rattle.regress_memo.specs.BitSet.{is_set}

@@ -7,7 +7,8 @@ ghost use Rattle.regress_search.specs.SearchEffects.{SpendsNeedOrReachesLimit, c
 ghost use Rattle.regress_program.specs.InsnsAsSpec.{insn_as_spec_insn};
 ghost use Rattle.regress_search.specs.TreePlanAndText.{program_of};
 ghost use Rattle.regress_backtrack.specs.AttemptResults.{HasFirstOutcomeEndAndGroups, CostsStepsAt, AllocFailureCostsStepIfSlots};
-ghost use Rattle.regress_backtrack.specs.{MemoizedExecution.{IsMemoSound, KeepsMemoSound}, Interpreter.{IfResultStored}, FailuresInMemoTable.{IsMemoRight}, TextsReadAsTreeRequires.{TreeCanSearchText}};
+ghost use Rattle.regress_backtrack.specs.{MemoizedExecution.{IsMemoSound, KeepsMemoSound}, Interpreter.{IfResultStored}, FailuresInMemoTable.{IsMemoRight}};
+ghost use Rattle.regress_backtrack.specs.TextsReadAsTreeRequires.{TreeCanSearchText};
 
 use crate::failure_memo::{FailureMemo, StepsAndMemo, StoredOrStopped};
 use crate::failures_in_memo_table::{CounterAndMemoForRetries, enable_memo};

@@ -398,13 +398,17 @@ type AsciiExecutorForAsciiBacktracker = <OverAscii as Executor<'static, 'static>
 /// A law: the `AsAscii` type of the executor for UTF-8 accepts each ASCII text, and reads each byte
 /// as a character.
 pub fn ascii_is_read_in_bytes()
-    ensures takes { CanSearchAllAsciiTexts ⟦<AsciiExecutorForUtf8Backtracker as ProducerFromProgramAndText<'static>>⟧.can_search }
-    ensures reads { ReadsBytesAsAscii ⟦<AsciiExecutorForUtf8Backtracker as ProducerFromProgramAndText<'static>>⟧.text_of }
+    ensures takes { CanSearchAllAsciiTexts
+        ⟦<AsciiExecutorForUtf8Backtracker as ProducerFromProgramAndText<'static>>⟧.can_search }
+    ensures reads { ReadsBytesAsAscii
+        ⟦<AsciiExecutorForUtf8Backtracker as ProducerFromProgramAndText<'static>>⟧.text_of }
 {}
 
 /// A law: the `AsAscii` type of the executor for ASCII accepts each ASCII text, and reads each byte
 /// as a character.
 pub fn ascii_stays_in_bytes()
-    ensures takes { CanSearchAllAsciiTexts ⟦<AsciiExecutorForAsciiBacktracker as ProducerFromProgramAndText<'static>>⟧.can_search }
-    ensures reads { ReadsBytesAsAscii ⟦<AsciiExecutorForAsciiBacktracker as ProducerFromProgramAndText<'static>>⟧.text_of }
+    ensures takes { CanSearchAllAsciiTexts
+        ⟦<AsciiExecutorForAsciiBacktracker as ProducerFromProgramAndText<'static>>⟧.can_search }
+    ensures reads { ReadsBytesAsAscii
+        ⟦<AsciiExecutorForAsciiBacktracker as ProducerFromProgramAndText<'static>>⟧.text_of }
 {}

@@ -1,8 +1,11 @@
 //! The state of a search: slots, an undo log of their former values, and choice points.
 
 ghost use Rattle.std.specs.Prelude.{◌≡◌, ◌≢◌, ◌<◌, ◌≤◌, ◌+◌, ◌-◌, ◌^◌, ◌++◌, ℕ, [], ◌∷◌, length, take, drop, map, slice_get, slice_set, Some, true, false, IsTrue, OnOk, OnErr, IfOk};
-ghost use Rattle.regress_backtrack.specs.State.{StateModel, undone, IsStateInvariant, initial_slot as spec_initial_slot, logical_slot_value, logical_undo_entry, SlotsAreUnsetAndUnlogged, undo_entry_logged_for_slot, are_slot_numbers_below, ChangesFromNumberAreUndone, LogIsCompacted, SetsSlotUndoably, ChangesStateUndoably, with_group_open};
-ghost use Rattle.regress_backtrack.specs.State.{log_len_at_choice_point as spec_log_len_at_choice_point, initial_state, current_thread_state_of, loop_data_in_slot, with_choice_point_list, state_with_group_unset, with_group_range, with_loop_iteration};
+ghost use Rattle.regress_backtrack.specs.State.{StateModel, undone, IsStateInvariant, initial_slot as spec_initial_slot, logical_slot_value, logical_undo_entry, SlotsAreUnsetAndUnlogged};
+ghost use Rattle.regress_backtrack.specs.State.{undo_entry_logged_for_slot, are_slot_numbers_below, ChangesFromNumberAreUndone, LogIsCompacted, SetsSlotUndoably, ChangesStateUndoably};
+ghost use Rattle.regress_backtrack.specs.State.{with_group_open};
+ghost use Rattle.regress_backtrack.specs.State.{log_len_at_choice_point as spec_log_len_at_choice_point, initial_state, current_thread_state_of, loop_data_in_slot, with_choice_point_list};
+ghost use Rattle.regress_backtrack.specs.State.{state_with_group_unset, with_group_range, with_loop_iteration};
 ghost use Rattle.regress_backtrack.specs.UndoLog.{HasLogRoomOrIsLogged, IsLoggedOnce, ChangesAreCompacted};
 ghost use Rattle.std.specs.List.{All};
 

@@ -34,7 +34,8 @@ use Rattle.regress_pikevm.specs.InsnEffects.{end_and_groups}
 use Rattle.regress_pikevm.proofs.ExecutorTurnLemmas.{map-end}
 use Rattle.regress_pikevm.specs.declared.pikevm.states.State.{State}
 use Rattle.regress_bounded.specs.WorkBoundForAllMatches.{AnalysisBoundsProgram, work_per_unit}
-use Rattle.regress_bounded.specs.BoundedState.{AnalysisBoundsSearch, IsSoundMemo, IsMemoRight, BoundedAttempt, BoundedAttemptBegins, AttemptHasState, HasAttemptState, AbortedBecauseWorkIsSpent, AttemptEndsAt, AttemptResultIs, entry_of_current_thread}
+use Rattle.regress_bounded.specs.BoundedState.{AnalysisBoundsSearch, IsSoundMemo, IsMemoRight, BoundedAttempt, BoundedAttemptBegins, AttemptHasState, HasAttemptState, AbortedBecauseWorkIsSpent}
+use Rattle.regress_bounded.specs.BoundedState.{AttemptEndsAt, AttemptResultIs, entry_of_current_thread}
 use Rattle.regress_bounded.specs.CostsOfSearchEvents.{Costs, nothing_yet, then_happens}
 use Rattle.regress_bounded.specs.CostsOfAttempts.{AttemptCosts, EventsOfAttempt, HasFinished, IsListOfFailures, failures_of, is_end, no_entry}
 use Rattle.regress_bounded.specs.declared.pending_stack.StackEntry.{StackEntry}

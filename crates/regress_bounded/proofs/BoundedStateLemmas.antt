@@ -30,7 +30,8 @@ use Rattle.regress_bounded.specs.declared.pending_stack.StackEntry.TheVariants.{
 use Rattle.regress_pikevm.specs.declared.pikevm.states.State.{State}
 use Rattle.std.proofs.Math.Logic.{∥∥₁_map, ∥∥₁_elim}
 use Rattle.std.proofs.Props.{props}
-use Rattle.regress_bounded.specs.BoundedState.{AnalysisBoundsSearch, IsSoundMemo, IsMemoRight, HasAttemptState, BoundedAttempt, IsRecordOf, StackEntryStandsFor, StackStandsFor, IsStackOfEntriesFromTop, AttemptHasState}
+use Rattle.regress_bounded.specs.BoundedState.{AnalysisBoundsSearch, IsSoundMemo, IsMemoRight, HasAttemptState, BoundedAttempt, IsRecordOf, StackEntryStandsFor, StackStandsFor}
+use Rattle.regress_bounded.specs.BoundedState.{IsStackOfEntriesFromTop, AttemptHasState}
 use Rattle.regress_bounded.specs.BoundedState.{TakesOneEvent, NextEventExceedsWorkLeft, MayBeNextSearchEvent, entry_of_current_thread}
 use Rattle.regress_bounded.specs.CostsOfSearchEvents.{Costs, IsSearchEvent, IsKnownToFail, reaches, resumes, then_happens}
 use Rattle.regress_bounded.proofs.SearchEventCostLemmas.{costs-come}

@@ -1,5 +1,6 @@
 -- The laws on work cover each step at a char loop, and the threads that it leaves have keys.
-use Rattle.std.proofs.Common.{◌≡◌, ◌≤◌, ◌<◌, ◌^◌, ℕ, zero, suc, ◌+◌, ◌-◌, Bool, true, false, min, List, [], ◌∷◌, ◌++◌, map, reverse, length, Some, None, refl, sym, ap, ◌∙◌, subst, arith, append_assoc, append-nil, slice_get, sum_by}
+use Rattle.std.proofs.Common.{◌≡◌, ◌≤◌, ◌<◌, ◌^◌, ℕ, zero, suc, ◌+◌, ◌-◌, Bool, true, false, min, List, [], ◌∷◌, ◌++◌, map, reverse, length, Some, None, refl, sym, ap, ◌∙◌, subst, arith}
+use Rattle.std.proofs.Common.{append_assoc, append-nil, slice_get, sum_by}
 use Rattle.std.specs.Prelude.{if◌then◌else◌, ◌≢◌}
 use mathlib.Core.Logic.{inl, inr}
 use Rattle.std.proofs.lemmas.Bool.{cases_lt}
@@ -32,7 +33,8 @@ use Rattle.regress_memo.specs.MemoPlanChecksAndGuarantees.{RecordsNewKey, plan_s
 use Rattle.regress_memo.specs.UnboundedCharLoopMemoKeys.{char_loop_greediness_at, CharLoopRecords, run_key}
 use Rattle.regress_memo.specs.CharLoopExitThreadLists.{passing, pending_loop_threads}
 use Rattle.regress_memo.specs.UnboundedCharLoops.{placed, ExitKeysAreNew, AtCharLoop, GreedyGives, LazyGives}
-use Rattle.regress_memo.specs.MemoSearch.{Key, Entry, one_thread, thread_group, key_record, thread_entries, threads_in, entry_potential, GoesOnward, KeyStandsFor, AreSound, IsMemoStep, ReachesBySteps, gives}
+use Rattle.regress_memo.specs.MemoSearch.{Key, Entry, one_thread, thread_group, key_record, thread_entries, threads_in, entry_potential, GoesOnward, KeyStandsFor, AreSound, IsMemoStep}
+use Rattle.regress_memo.specs.MemoSearch.{ReachesBySteps, gives}
 use Rattle.regress_memo.specs.ThreadPotentials.{each_noted}
 use Rattle.regress_memo.proofs.CappedCharLoopLemmas.{others-paid, scans-give}
 use Rattle.regress_memo.proofs.SharedMemoLookaroundLemmas.{soundness-stays}

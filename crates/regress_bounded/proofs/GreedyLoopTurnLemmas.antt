@@ -14,7 +14,8 @@ use Rattle.regress_bounded.specs.declared.memo_and_work_budget.MemoAndWorkBudget
 use Rattle.regress_bounded.specs.declared.pending_stack.UnboundedCharLoop.{UnboundedCharLoop}
 use Rattle.regress_bounded.specs.declared.pending_stack.StackEntry.{StackEntry}
 use Rattle.regress_pikevm.specs.declared.pikevm.states.State.{State}
-use Rattle.regress_bounded.specs.BoundedState.{BoundedAttempt, IsStateAtUnboundedLoopOverInsn, ScansWithMemo, IsPositionAfterCharsOfClass, AttemptHasState, TakesOneEvent, NextEventExceedsWorkLeft, MayBeNextSearchEvent}
+use Rattle.regress_bounded.specs.BoundedState.{BoundedAttempt, IsStateAtUnboundedLoopOverInsn, ScansWithMemo, IsPositionAfterCharsOfClass, AttemptHasState, TakesOneEvent, NextEventExceedsWorkLeft}
+use Rattle.regress_bounded.specs.BoundedState.{MayBeNextSearchEvent}
 use Rattle.regress_bounded.specs.BudgetSpending.{LowersBudgetByWork, WorkExceedsBudget}
 use Rattle.regress_bounded.specs.WorkOfCharLoopsAndAttempts.{StateIsAtUnboundedCharLoop, key_after_chars, threads_after_chars, exits_with_records}
 use Rattle.regress_bounded.proofs.LazyLoopTurnsAndResumption.{few-passed, PassesOver, unbounded_loop-by}

@@ -29,7 +29,8 @@ use Rattle.regress_bounded.specs.declared.pending_stack.StackEntry.{StackEntry}
 use Rattle.regress_bounded.specs.declared.pending_stack.StackEntry.TheVariants.{PendingLazyLoop as AsRun, Record as AsRecord}
 use Rattle.regress_pikevm.specs.declared.pikevm.states.State.{State}
 use Rattle.regress_bounded.specs.CostsOfSearchEvents.{IsKnownToFail, ThreadsPendAbove, some_wait, takes_nearest, drops_loop, resumes_loop}
-use Rattle.regress_bounded.specs.BoundedState.{BoundedAttempt, IsStackOfEntriesFromTop, IsPendingLazyLoop, AttemptHasState, SomeAttemptHasState, HasAttemptState, TakesOneEvent, NextEventExceedsWorkLeft, IsStateAtUnboundedLoopOverInsn, HasPassedRequiredChars, TakesNearestExit, MayBeNextSearchEvent}
+use Rattle.regress_bounded.specs.BoundedState.{BoundedAttempt, IsStackOfEntriesFromTop, IsPendingLazyLoop, AttemptHasState, SomeAttemptHasState, HasAttemptState, TakesOneEvent}
+use Rattle.regress_bounded.specs.BoundedState.{NextEventExceedsWorkLeft, IsStateAtUnboundedLoopOverInsn, HasPassedRequiredChars, TakesNearestExit, MayBeNextSearchEvent}
 use Rattle.regress_bounded.specs.WorkOfCharLoopsAndAttempts.{StateIsAtUnboundedCharLoop, key_after_chars}
 use Rattle.regress_bounded.specs.BudgetSpending.{LowersBudgetByWork, WorkExceedsBudget}
 use Rattle.regress_pikevm.specs.States.{machine_state_of}

@@ -4,10 +4,12 @@ use Rattle.std.specs.List.{list_any}
 use Rattle.std.proofs.Math.Bool.{or-false}
 use Rattle.std.proofs.lemmas.List.Folds.{list_any-append}
 use Rattle.regex_meaning.specs.NumberListHelpers.{numbers_from}
-use Rattle.regex_meaning.specs.Tree.{Node, AnchorType, Lookaround, empty, goal, char, char_set, byte_set, byte_sequence, cat, end_of_cat, alt, bracket, fold_nodes, string_set, match_any, match_any_except_line_terminator, anchor, word_boundary, capture_group, back_ref}
+use Rattle.regex_meaning.specs.Tree.{Node, AnchorType, Lookaround, empty, goal, char, char_set, byte_set, byte_sequence, cat, end_of_cat, alt, bracket, fold_nodes, string_set, match_any}
+use Rattle.regex_meaning.specs.Tree.{match_any_except_line_terminator, anchor, word_boundary, capture_group, back_ref}
 use Rattle.regex_meaning.specs.Tree.{lookaround, loop, loop_1_char_body, start_of_line, end_of_line}
 use Rattle.regex_meaning.specs.Text.{expand_code_point}
-use Rattle.regex_meaning.specs.CompilationRelation.{Insn, AsciiBracket, Bracket, ByteSeq, EndCaptureGroup, Goal, Jump, LoopAgain, Lookahead, Lookbehind, ResetCaptureGroup, anchor_insn, byte_set_insn, case_variants_insn, char_set_insn, chunks}
+use Rattle.regex_meaning.specs.CompilationRelation.{Insn, AsciiBracket, Bracket, ByteSeq, EndCaptureGroup, Goal, Jump, LoopAgain, Lookahead, Lookbehind, ResetCaptureGroup, anchor_insn, byte_set_insn}
+use Rattle.regex_meaning.specs.CompilationRelation.{case_variants_insn, char_set_insn, chunks}
 use Rattle.regex_meaning.specs.Outcomes.{in_intervals}
 use Rattle.regex_meaning.specs.StartPredicate.{bytes_that_pass}
 use Rattle.regex_meaning.specs.CompilationRelation.{is_uninverted_ascii_class, lookaround_insn, reversed_if_in_lookbehind, word_boundary_insn}

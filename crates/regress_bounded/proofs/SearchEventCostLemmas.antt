@@ -15,7 +15,8 @@ use Rattle.regress_memo.specs.AnalysisChecks.{unlimited}
 use Rattle.regress_memo.specs.MemoContents.{memo_key_at}
 use Rattle.regress_memo.specs.AmortizedMemoSearchSteps.{ReachesEntries, StepsReachEntries}
 use Rattle.regress_memo.proofs.AmortizedMemoSearchLemmas.{searches-are-paid}
-use Rattle.regress_bounded.specs.CostsOfSearchEvents.{IsSearchEvent, Costs, ThreadsPendAbove, none_waits, some_wait, drops, turns, tries_chars, too_few, fails_from, takes_furthest, takes_nearest, drops_loop, resumes_loop, resumes, reaches, nothing_yet, then_happens}
+use Rattle.regress_bounded.specs.CostsOfSearchEvents.{IsSearchEvent, Costs, ThreadsPendAbove, none_waits, some_wait, drops, turns, tries_chars, too_few, fails_from, takes_furthest, takes_nearest}
+use Rattle.regress_bounded.specs.CostsOfSearchEvents.{drops_loop, resumes_loop, resumes, reaches, nothing_yet, then_happens}
 use Rattle.regress_bounded.specs.CostsOfSearchEvents.{IsKeyNewIfAny, entries_with_record_of_state}
 use Rattle.regress_bounded.specs.BoundedState.{AnalysisBoundsSearch}
 use Rattle.regress_bounded.specs.WorkOfCharLoopsAndAttempts.{StateIsAtUnboundedCharLoop}

@@ -5,9 +5,11 @@ use Rattle.regex_meaning.specs.Tree.{Sameness}
 use Rattle.regex_meaning.specs.Text.{Text, Direction, next_character, moved}
 use Rattle.regex_meaning.specs.CodeUnitOffsets.{place_at}
 use Rattle.regex_meaning.specs.Outcomes.{is_some_and}
-use Rattle.regex_meaning.specs.CompilationRelation.{Program, Insn, LoopFields, Goal, JustFail, Char, CharSet, ByteSet, ByteSeq, AsciiBracket, Bracket, MatchAny, MatchAnyExceptLineTerminator, Alt, Jump, EnterLoop, LoopAgain, ResetCaptureGroup, Loop1CharBody}
+use Rattle.regex_meaning.specs.CompilationRelation.{Program, Insn, LoopFields, Goal, JustFail, Char, CharSet, ByteSet, ByteSeq, AsciiBracket, Bracket, MatchAny, MatchAnyExceptLineTerminator, Alt}
+use Rattle.regex_meaning.specs.CompilationRelation.{Jump, EnterLoop, LoopAgain, ResetCaptureGroup, Loop1CharBody}
 use Rattle.regex_meaning.specs.CompilationRelation.{BeginCaptureGroup, EndCaptureGroup, BackRef, Lookahead, Lookbehind}
-use Rattle.regress_machine.specs.Machine.{State, Thread, LoopData, Next, goes, scans, ends, asks, with_some, only_if, go, go_if, iterate_or_leave_at_loop_head, effect_at_iteration_end, loop_again_effect, test_of, next_insn_at_place, read_one, stay_if, backref_read, read_group, scan, act, act_on}
+use Rattle.regress_machine.specs.Machine.{State, Thread, LoopData, Next, goes, scans, ends, asks, with_some, only_if, go, go_if, iterate_or_leave_at_loop_head, effect_at_iteration_end}
+use Rattle.regress_machine.specs.Machine.{loop_again_effect, test_of, next_insn_at_place, read_one, stay_if, backref_read, read_group, scan, act, act_on}
 use Rattle.regress_memo.specs.SkippedLookarounds.{lookaround_at}
 use Rattle.regress_bounded.specs.BoundedState.{is_goal_insn}
 

@@ -11,7 +11,8 @@ use Rattle.regress_bounded.specs.declared.memo_and_work_budget.AttemptAbortReaso
 use Rattle.regress_bounded.specs.declared.pending_stack.StackEntry.{StackEntry}
 use Rattle.regress_bounded.specs.declared.thread_steps_and_backtracking.StepResult.{StepResult}
 use Rattle.regress_bounded.specs.declared.thread_steps_and_backtracking.StepResult.TheVariants.{ContinueWith, End}
-use Rattle.regress_bounded.specs.BoundedState.{BoundedAttempt, AttemptHasState, HasAttemptState, NextEventExceedsWorkLeft, MayAbortAttempt, TakesOneEvent, ContinuesOrStops, AttemptEndsAt, StepResultIs, StepResultInEachAttempt, AttemptResultIs}
+use Rattle.regress_bounded.specs.BoundedState.{BoundedAttempt, AttemptHasState, HasAttemptState, NextEventExceedsWorkLeft, MayAbortAttempt, TakesOneEvent, ContinuesOrStops, AttemptEndsAt}
+use Rattle.regress_bounded.specs.BoundedState.{StepResultIs, StepResultInEachAttempt, AttemptResultIs}
 use Rattle.regress_bounded.proofs.SearchEventCostLemmas.{cost-some}
 
 -- A property of an error holds for the result that hands the error on.

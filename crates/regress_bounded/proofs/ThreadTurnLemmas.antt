@@ -1,5 +1,6 @@
 -- A turn of a thread costs the work of its step and leaves the threads of that step.
-use Rattle.std.proofs.Common.{◌≡◌, ◌≤◌, ◌<◌, ℕ, ◌+◌, ◌-◌, Bool, true, false, min, List, [], ◌∷◌, ◌++◌, map, length, Option, Some, None, refl, sym, ap, ◌∙◌, subst, arith, inl, inr, append_assoc, append-nil, slice_get}
+use Rattle.std.proofs.Common.{◌≡◌, ◌≤◌, ◌<◌, ℕ, ◌+◌, ◌-◌, Bool, true, false, min, List, [], ◌∷◌, ◌++◌, map, length, Option, Some, None, refl, sym, ap, ◌∙◌, subst, arith, inl, inr, append_assoc}
+use Rattle.std.proofs.Common.{append-nil, slice_get}
 use Rattle.std.specs.Prelude.{◌⊎◌, ◌==◌, Result, Ok, Err, IfOk, IfSome, if◌then◌else◌, is_some, option_map, get_or}
 use Rattle.std.proofs.Math.Logic.{∥∥₁_elim}
 use Rattle.std.proofs.Props.{props}
@@ -30,8 +31,10 @@ use Rattle.regress_bounded.specs.declared.pending_stack.StackEntry.TheVariants.{
 use Rattle.regress_pikevm.specs.declared.pikevm.states.State.{State}
 use Rattle.regress_pikevm.specs.declared.pikevm.states.NextStates.{NextStates}
 use Rattle.regress_bounded.specs.CostsOfSearchEvents.{StepLeavesOnlyThreads, IsKeyNewIfAny, work_of_machine_step, threads_after_step, entries_with_record_of_state, drops, turns, tries_chars}
-use Rattle.regress_bounded.specs.BoundedState.{BoundedAttempt, IsUnfailedStateKeyIfAny, IsNotUnboundedCharLoop, char_loop_max, is_goal_insn, HasAttemptState, IsStackOfEntriesFromTop, AttemptHasState, MayBeNextSearchEvent, TakesOneEvent, NextEventExceedsWorkLeft}
-use Rattle.regress_bounded.specs.BoundedState.{TakesPreferredState, TakesPreferredThread, HasPassedRequiredChars, IsStateAtUnboundedLoopOverInsn, entry_of_current_thread, is_known_key, stack_with_record_if_any, min_and_greed_of_loop}
+use Rattle.regress_bounded.specs.BoundedState.{BoundedAttempt, IsUnfailedStateKeyIfAny, IsNotUnboundedCharLoop, char_loop_max, is_goal_insn, HasAttemptState, IsStackOfEntriesFromTop, AttemptHasState}
+use Rattle.regress_bounded.specs.BoundedState.{MayBeNextSearchEvent, TakesOneEvent, NextEventExceedsWorkLeft}
+use Rattle.regress_bounded.specs.BoundedState.{TakesPreferredState, TakesPreferredThread, HasPassedRequiredChars, IsStateAtUnboundedLoopOverInsn, entry_of_current_thread, is_known_key}
+use Rattle.regress_bounded.specs.BoundedState.{stack_with_record_if_any, min_and_greed_of_loop}
 use Rattle.regress_bounded.specs.BudgetSpending.{LowersBudgetByWork, IsWorkOrMoreThanLeft, WorkExceedsBudget}
 use Rattle.regress_pikevm.specs.States.{machine_state_of, effect_of_next_states, states_by_priority, threads_of_stack}
 use Rattle.regress_pikevm.proofs.InsnFetchLemmas.{insn-here}

@@ -8,7 +8,8 @@ ghost use Rattle.regress_machine.specs.Machine.{running};
 ghost use Rattle.regress_memo.specs.MemoContents.{has_failure};
 ghost use Rattle.regress_program.specs.{CompilationOfTreesAsFunction.{compiled}, InsnsAsSpec.{insn_as_spec_insn}};
 ghost use Rattle.regress_search.specs.OffsetsAfterMatchedInsns.{ByteInsnHasByteText, char_test_of_insn};
-ghost use Rattle.regress_bounded.specs.BoundedState.{IsMemoRightForRegex, IsStateAtUnboundedLoopOverInsn, HasAttemptState, ContinuesOrStopsInEachAttempt, ScansWithMemo, HasPassedRequiredChars, IsPositionAfterCharsOfClass, TakesNearestExit};
+ghost use Rattle.regress_bounded.specs.BoundedState.{IsMemoRightForRegex, IsStateAtUnboundedLoopOverInsn, HasAttemptState, ContinuesOrStopsInEachAttempt, ScansWithMemo, HasPassedRequiredChars};
+ghost use Rattle.regress_bounded.specs.BoundedState.{IsPositionAfterCharsOfClass, TakesNearestExit};
 ghost use Rattle.regress_bounded.specs.declared.memo_and_work_budget.AttemptAbortReason.TheVariants.{Work};
 ghost use Rattle.regress_bounded.specs.declared.pending_stack.StackEntry.TheVariants.{PendingLazyLoop as AsRun};
 ghost use Rattle.regress_pikevm.specs.States.{machine_state_of};
@@ -102,7 +103,7 @@ pub(crate) fn unbounded_char_loop_with_memo<Input: InputIndexer>(
         return Ok(next);
     }
     progress.spend(passed as u64 + 2)?;
-    let next = nearest(searched, run.body, at, state, stack)?;
+    let next = take_nearest_exit(searched, run.body, at, state, stack)?;
     Ok(Some(next))
 }
 
@@ -163,7 +164,7 @@ fn scan_greedy_loop_with_memo<Input: InputIndexer>(
 
 // Returns the thread at an exit of a lazy loop. If there is a next exit, pushes the loop at that
 // exit.
-fn nearest<Input: InputIndexer>(
+fn take_nearest_exit<Input: InputIndexer>(
     searched: &ProgramAndInput<'_, Input>,
     body: Insn,
     at: Input::Position,
@@ -221,6 +222,6 @@ pub(crate) fn resume_lazy_char_loop<Input: InputIndexer>(
     }
     progress.spend(2)?;
     push_entry(StackEntry::Record(key), stack)?;
-    let next = nearest(searched, insns[state.ip + 1], at, state, stack)?;
+    let next = take_nearest_exit(searched, insns[state.ip + 1], at, state, stack)?;
     Ok(Some(next))
 }

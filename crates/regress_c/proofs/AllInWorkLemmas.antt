@@ -18,7 +18,8 @@ use Rattle.regress_search.specs.declared.exec.work_matches.WorkError.TheVariants
 use Rattle.regress_match.specs.ProgramTreesAndAnswers.{bytes_as_utf8_text, tree_for_byte_units, utf8_answers}
 use Rattle.regress_match.specs.WorkBounds.{BoundedView, IsHigherOfProgramWorkBounds, YieldsMatchesIfWorkSuffices}
 use Rattle.regress_match.specs.declared.api.regex.Regex.{Regex}
-use Rattle.regress_c.specs.AllMatchesInWork.{Ending, IsEndingWithinWork, IsEndingOfIterator, RefusesAllInWork, RepliesAllInWork, RepliesOutcome, WritesMatchesWithinWork, Written, full, over, failed, ran, refused, short}
+use Rattle.regress_c.specs.AllMatchesInWork.{Ending, IsEndingWithinWork, IsEndingOfIterator, RefusesAllInWork, RepliesAllInWork, RepliesOutcome, WritesMatchesWithinWork, Written, full, over, failed}
+use Rattle.regress_c.specs.AllMatchesInWork.{ran, refused, short}
 use Rattle.regress_c.specs.Codes.{code_of_refusal, done, no_match, refusal_of_work_error}
 use Rattle.regress_c.specs.Replies.{spans_of, with_front_overwritten}
 use Rattle.regress_c.specs.Searching.{IsTextWithValidStart, can_start_utf8}

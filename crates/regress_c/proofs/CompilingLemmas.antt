@@ -11,7 +11,8 @@ use Rattle.regress_c.specs.Codes.{refusal_of_compile_error}
 use Rattle.regress_c.specs.Compiling.{IsCompileResult, GivenPattern, HasValidTextAndFlags, IsPatternWithinBounds, RefusesPattern}
 use Rattle.regress_c.specs.declared.compiling.Bounds.{Bounds}
 use Rattle.regress_c.specs.declared.refusal.Refusal.{Refusal}
-use Rattle.regress_c.specs.declared.refusal.Refusal.TheVariants.{Empty, Full, NotUtf8, NotBoundary, ShortBuffer, Memory, StepLimit, Syntax, TooManyGroups, TooManyLoops, TooManyInstructions, UnknownFlag, TooLong, TooDeep, NoGroup, NotOpen, NotCounted, Unbounded, WorkLimit, UnknownSyntax}
+use Rattle.regress_c.specs.declared.refusal.Refusal.TheVariants.{Empty, Full, NotUtf8, NotBoundary, ShortBuffer, Memory, StepLimit, Syntax, TooManyGroups, TooManyLoops, TooManyInstructions}
+use Rattle.regress_c.specs.declared.refusal.Refusal.TheVariants.{UnknownFlag, TooLong, TooDeep, NoGroup, NotOpen, NotCounted, Unbounded, WorkLimit, UnknownSyntax}
 
 -- A refusal of compiling is an allocation failure or an error in the pattern.
 abbrev pub IsOfCompiling : GivenPattern → Refusal → Type 0

@@ -3,7 +3,8 @@ use Rattle.std.proofs.Common.{◌≡◌, ℕ, ◌<◌, List, Option, Some, None,
 use Rattle.regress_match.specs.ProgramTreesAndAnswers.{units_as_utf16_text, tree_for_16_bit_units}
 use Rattle.regress_match.specs.declared.api.regex.Regex.{Regex}
 use Rattle.regress_c.specs.Codes.{code_of_refusal}
-use Rattle.regress_c.specs.NextMatches.{FillsFrom, FillsInEncoding, IsOutcomeOfHandle, IsOutcomeIfOpen, IsOutcomeInEncoding, HasSameText, RefusesSearch, RepliesNext, CallOutcome, code_of_stop_reason, ran, number_of_ranges, refused, short, tree_for_encoding}
+use Rattle.regress_c.specs.NextMatches.{FillsFrom, FillsInEncoding, IsOutcomeOfHandle, IsOutcomeIfOpen, IsOutcomeInEncoding, HasSameText, RefusesSearch, RepliesNext, CallOutcome, code_of_stop_reason}
+use Rattle.regress_c.specs.NextMatches.{ran, number_of_ranges, refused, short, tree_for_encoding}
 use Rattle.regress_c.specs.Opening.{encoding_of}
 use Rattle.regress_c.specs.Searching.{can_start_utf16}
 use Rattle.regress_c.specs.declared.next_matches.Filled.{Filled}

@@ -1,5 +1,5 @@
 -- The codes of refusals, and the refusal for each error of the crates below.
-use Rattle.std.specs.Prelude.{ℕ}
+use Rattle.std.specs.Prelude.{ℕ, Result, Ok, Err}
 use Rattle.regex_parser.specs.declared.parse.ParseError.TheVariants as parse
 use Rattle.regress_program.specs.declared.emit.EmitError.TheVariants as emit
 use Rattle.regress_search.specs.declared.exec.SearchError.{SearchError}
@@ -11,7 +11,8 @@ use Rattle.regress_bounded.specs.declared.work_bound.Unbounded.TheVariants as ca
 use Rattle.regress_match.specs.declared.api.compile_and_replace_errors.Error.{Error}
 use Rattle.regress_match.specs.declared.api.compile_and_replace_errors.Error.TheVariants as error
 use Rattle.regress_c.specs.declared.refusal.Refusal.{Refusal}
-use Rattle.regress_c.specs.declared.refusal.Refusal.TheVariants.{Empty, Full, NotUtf8, NotBoundary, ShortBuffer, Memory, StepLimit, Syntax, TooManyGroups, TooManyLoops, TooManyInstructions, UnknownFlag, TooLong, TooDeep, NoGroup, NotOpen, NotCounted, Unbounded, WorkLimit, UnknownSyntax}
+use Rattle.regress_c.specs.declared.refusal.Refusal.TheVariants.{Empty, Full, NotUtf8, NotBoundary, ShortBuffer, Memory, StepLimit, Syntax, TooManyGroups, TooManyLoops, TooManyInstructions}
+use Rattle.regress_c.specs.declared.refusal.Refusal.TheVariants.{UnknownFlag, TooLong, TooDeep, NoGroup, NotOpen, NotCounted, Unbounded, WorkLimit, UnknownSyntax}
 
 -- The code of a call that succeeded.
 abbrev pub done : ℕ
@@ -51,6 +52,11 @@ code_of_refusal NotCounted = 18
 code_of_refusal (Unbounded reason) = code_of_unbounded_reason reason
 code_of_refusal WorkLimit = 20
 code_of_refusal UnknownSyntax = 21
+
+-- The code of a result.
+abbrev pub code_of_result : {A : Type 0} → Result A Refusal → ℕ
+code_of_result (Ok value) = done
+code_of_result (Err refusal) = code_of_refusal refusal
 
 -- The refusal for an error of compiling a pattern. All errors that are not listed are reported as
 -- `Memory`.

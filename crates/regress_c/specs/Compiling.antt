@@ -11,7 +11,7 @@ use Rattle.regress_program.specs.declared.emit.EmitError.TheVariants as emit
 use Rattle.regress_match.specs.ProgramTreesAndAnswers.{IsCompiledWithSyntax}
 use Rattle.regress_match.specs.CompileErrors.{ExceedsLimitWithSyntax}
 use Rattle.regress_match.specs.declared.api.regex.Regex.{Regex}
-use Rattle.regress_c.specs.Codes.{code_of_refusal, done}
+use Rattle.regress_c.specs.Codes.{code_of_refusal, code_of_result}
 use Rattle.regress_c.specs.Reading.{AreFlags}
 use Rattle.regress_c.specs.declared.compiling.Bounds.{Bounds}
 use Rattle.regress_c.specs.declared.refusal.Refusal.{Refusal}
@@ -79,11 +79,6 @@ abbrev pub IsCompileResultForHandle : (held : Option Regex) → GivenPattern →
 IsCompileResultForHandle None g bounds made = IsCompileResult g bounds made
 IsCompileResultForHandle (Some re) g bounds made = made ≡ Err Full
 
--- The code of a result.
-abbrev pub code_of_pattern_result : Result Regex Refusal → ℕ
-code_of_pattern_result (Ok re) = done
-code_of_pattern_result (Err refusal) = code_of_refusal refusal
-
 -- The content of a handle after a result. Before, it held `held`.
 abbrev pub handle_content_after_compiling : (held : Option Regex) → Result Regex Refusal → Option Regex
 handle_content_after_compiling held (Ok re) = Some re
@@ -93,7 +88,7 @@ handle_content_after_compiling held (Err refusal) = held
 abbrev pub RepliesCompileResult : (before : Option Regex) → GivenPattern → Bounds → (after : Option Regex) → (code : ℕ)
     → Type 0
 RepliesCompileResult before g bounds after code = (made : Result Regex Refusal)
-    × IsCompileResultForHandle before g bounds made × (code ≡ code_of_pattern_result made)
+    × IsCompileResultForHandle before g bounds made × (code ≡ code_of_result made)
     × (after ≡ handle_content_after_compiling before made)
 
 -- `RepliesCompileResult` for a pattern of the given language. If there is no language, the call is refused
@@ -117,5 +112,5 @@ IsCloneResultForHandle (Some re) None (Err refusal) = refusal ≡ Memory
 -- The code and the final content of the second handle are those of some result of copying.
 abbrev pub RepliesCloned : (held before after : Option Regex) → (code : ℕ) → Type 0
 RepliesCloned held before after code = (made : Result Regex Refusal)
-    × IsCloneResultForHandle held before made × (code ≡ code_of_pattern_result made)
+    × IsCloneResultForHandle held before made × (code ≡ code_of_result made)
     × (after ≡ handle_content_after_compiling before made)

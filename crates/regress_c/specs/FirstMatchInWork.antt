@@ -6,7 +6,7 @@ use Rattle.regress_search.specs.declared.exec.Match.{Match}
 use Rattle.regress_match.specs.ProgramTreesAndAnswers.{bytes_as_utf8_text, utf8_answers}
 use Rattle.regress_match.specs.WorkBounds.{IsHigherOfProgramWorkBounds, IsPatternUnboundedBy, enough_work_for_text}
 use Rattle.regress_match.specs.declared.api.regex.Regex.{Regex}
-use Rattle.regress_c.specs.Codes.{code_of_refusal, done}
+use Rattle.regress_c.specs.Codes.{code_of_result}
 use Rattle.regress_c.specs.Replies.{buffer_after_search, reply_to}
 use Rattle.regress_c.specs.Searching.{can_start_utf8}
 use Rattle.regress_c.specs.declared.refusal.Refusal.{Refusal}
@@ -62,11 +62,6 @@ IsWorkBoundResult (Some re) (Ok per_unit) = IsHigherOfProgramWorkBounds re per_u
 IsWorkBoundResult (Some re) (Err (Unbounded reason)) = IsPatternUnboundedBy re reason
 IsWorkBoundResult (Some re) (Err _) = ⊥
 
--- The code of a result.
-abbrev pub code_of_work_bound : Result ℕ Refusal → ℕ
-code_of_work_bound (Ok per_unit) = done
-code_of_work_bound (Err refusal) = code_of_refusal refusal
-
 -- The caller's variable after a result. It held `before`.
 abbrev pub number_after_work_bound : Result ℕ Refusal → (before : ℕ) → ℕ
 number_after_work_bound (Ok per_unit) before = per_unit
@@ -75,5 +70,5 @@ number_after_work_bound (Err refusal) before = before
 -- The code and the caller's final variable are those of some result.
 abbrev pub RepliesWorkBound : (held : Option Regex) → (before after : ℕ) → (code : ℕ) → Type 0
 RepliesWorkBound held before after code = (work_bound_or_refusal : Result ℕ Refusal)
-    × IsWorkBoundResult held work_bound_or_refusal × (code ≡ code_of_work_bound work_bound_or_refusal)
+    × IsWorkBoundResult held work_bound_or_refusal × (code ≡ code_of_result work_bound_or_refusal)
     × (after ≡ number_after_work_bound work_bound_or_refusal before)

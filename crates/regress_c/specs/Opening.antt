@@ -1,6 +1,6 @@
 -- Opening a search.
 use Rattle.std.specs.Prelude.{◌≡◌, ℕ, List, Option, Some, None, Result, Ok, Err, IsUtf8, ◌==◌, if◌then◌else◌}
-use Rattle.regress_c.specs.Codes.{code_of_refusal, done}
+use Rattle.regress_c.specs.Codes.{code_of_result}
 use Rattle.regress_c.specs.Searching.{can_start_utf8, can_start_utf16}
 use Rattle.regress_c.specs.declared.refusal.Refusal.{Refusal}
 use Rattle.regress_c.specs.declared.refusal.Refusal.TheVariants.{NotUtf8, NotBoundary}
@@ -42,11 +42,6 @@ abbrev pub OpensUcs2 : (units : List ℕ) → (start : ℕ) → Result Search Re
 OpensUcs2 units start (Ok s) = SearchesUcs2 units start s
 OpensUcs2 units start (Err _) = ⊥
 
--- The code of a result.
-abbrev pub code_of_open_result : Result Search Refusal → ℕ
-code_of_open_result (Ok s) = done
-code_of_open_result (Err refusal) = code_of_refusal refusal
-
 -- The caller's search after a result.
 abbrev pub search_after_opening : (before : Search) → Result Search Refusal → Search
 search_after_opening before (Ok s) = s
@@ -55,4 +50,4 @@ search_after_opening before (Err refusal) = before
 -- The code and the caller's final search are those of some result.
 abbrev pub RepliesOpened : (Result Search Refusal → Type 0) → (before after : Search) → (code : ℕ) → Type 0
 RepliesOpened Opens before after code = (opened : Result Search Refusal)
-    × Opens opened × (code ≡ code_of_open_result opened) × (after ≡ search_after_opening before opened)
+    × Opens opened × (code ≡ code_of_result opened) × (after ≡ search_after_opening before opened)

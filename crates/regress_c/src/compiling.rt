@@ -2,7 +2,8 @@
 
 ghost use Rattle.std.specs.Prelude.{◌≡◌, None};
 ghost use Rattle.std.specs.Result.{result_map_both};
-ghost use Rattle.regress_c.specs.Compiling.{IsCompileResult, RepliesCompileResult, RepliesCompileResultWithSyntax, code_of_pattern_result, given_with_syntax, handle_content_after_compiling};
+ghost use Rattle.regress_c.specs.Codes.{code_of_result};
+ghost use Rattle.regress_c.specs.Compiling.{IsCompileResult, RepliesCompileResult, RepliesCompileResultWithSyntax, given_with_syntax, handle_content_after_compiling};
 ghost use Rattle.regress_c.specs.Reading.{syntax_of_number};
 
 use crate::flags::flags_from;
@@ -75,7 +76,7 @@ pub(crate) fn compile<S: Source>(
 // Puts a compiled pattern into a handle, which must be empty, and returns the code.
 fn fill(pattern: &mut Pattern, made: Result<Box<Regex>, Refusal>) -> u32
     requires { pattern.old.held ≡ None }
-    ensures code { result ≡ code_of_pattern_result (result_map_both (λ b. b.value) (λ e. e) made) }
+    ensures code { result ≡ code_of_result (result_map_both (λ b. b.value) (λ e. e) made) }
     ensures held { pattern.new.held ≡ handle_content_after_compiling None
         (result_map_both (λ b. b.value) (λ e. e) made) }
 {

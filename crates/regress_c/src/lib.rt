@@ -11,11 +11,13 @@ ghost use Rattle.std.specs.Char.{len_utf8};
 ghost use Rattle.regex_meaning.specs.Text.{utf16_characters, utf16_width};
 ghost use Rattle.regress_c.specs.Compiling.{RepliesCloned, RepliesCompileResult, RepliesCompileResultWithSyntax, given, given_with_syntax, unbounded};
 ghost use Rattle.regress_c.specs.NextMatches.{RepliesNext};
-ghost use Rattle.regress_c.specs.{FirstMatchInWork.{RepliesInWork, RepliesWorkBound}, Opening.{OpensUcs2, OpensUtf8, OpensUtf16, RepliesOpened}, AllMatchesInWork.{RepliesAllInWork}, Codes.{done}, GroupNumbers.{group_number_reply_of_handle}};
+ghost use Rattle.regress_c.specs.{FirstMatchInWork.{RepliesInWork, RepliesWorkBound}, Opening.{OpensUcs2, OpensUtf8, OpensUtf16, RepliesOpened}, AllMatchesInWork.{RepliesAllInWork}, Codes.{done}};
+ghost use Rattle.regress_c.specs.GroupNumbers.{group_number_reply_of_handle};
 ghost use Rattle.regress_c.specs.Reading.{syntax_of_number};
 ghost use Rattle.regress_c.specs.Searching.{Replies, can_start_utf8, can_start_utf16, ucs2_matches_to_come, utf8_matches_to_come, utf16_matches_to_come};
 ghost use Rattle.regress_c.specs.{MatchesAt.{ucs2_match_to_come_at, utf16_match_to_come_at, utf8_match_to_come_at}, Messages.{message_of_code}};
-ghost use Rattle.regress_c.specs.Texts.{IsEscapeResult, IsGroupNameResultOfHandle, IsReplaceResultOfHandle, RepliesText, RepliesDiagnosis, RepliesDiagnosisWithSyntax, range_count_reply_of_handle, buffer_after_text, text_reply};
+ghost use Rattle.regress_c.specs.Texts.{IsEscapeResult, IsGroupNameResultOfHandle, IsReplaceResultOfHandle, RepliesText, RepliesDiagnosis, RepliesDiagnosisWithSyntax, range_count_reply_of_handle};
+ghost use Rattle.regress_c.specs.Texts.{buffer_after_text, text_reply};
 ghost use Rattle.regress_c.specs.declared.text_replies.ReplacedMatches.TheVariants.{First, All};
 
 mod all_in_work;

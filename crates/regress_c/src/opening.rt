@@ -1,7 +1,7 @@
 //! Opening a search, and the offsets at which it may start.
 
 ghost use Rattle.std.specs.Prelude.{◌≡◌, true, false};
-ghost use Rattle.regress_c.specs.{Opening.{code_of_open_result, search_after_opening}, Searching.{can_start_utf8, can_start_utf16}};
+ghost use Rattle.regress_c.specs.{Codes.{code_of_result}, Opening.{search_after_opening}, Searching.{can_start_utf8, can_start_utf16}};
 
 use crate::refusal::{DONE, Refusal};
 use crate::search::Search;
@@ -10,7 +10,7 @@ use regress_match::is_unit_boundary;
 /// Stores an opened search in `search`, and returns the code. If opening was refused, `search` is
 /// unchanged.
 pub(crate) fn open<'t>(search: &mut Search<'t>, opened: Result<Search<'t>, Refusal>) -> u32
-    ensures code { result ≡ code_of_open_result opened.entry }
+    ensures code { result ≡ code_of_result opened.entry }
     ensures after { search.new ≡ search_after_opening search.old opened.entry }
 {
     match opened {

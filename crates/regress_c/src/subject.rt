@@ -1,7 +1,8 @@
 //! Texts to be searched, in each encoding.
 
 ghost use Rattle.std.specs.Prelude.{◌≡◌, ◌<◌, ◌↔◌, ◌⊎◌, ℕ, IsTrue, IsUtf8, length};
-ghost use Rattle.regress_c.specs.Searching.{MatchesToCome, Finds, IsFirstOfRemainingMatches, IsTextWithValidStart, can_start_utf16, can_start_utf8, ucs2_matches_to_come, utf16_matches_to_come, utf8_matches_to_come};
+ghost use Rattle.regress_c.specs.Searching.{MatchesToCome, Finds, IsFirstOfRemainingMatches, IsTextWithValidStart, can_start_utf16, can_start_utf8, ucs2_matches_to_come, utf16_matches_to_come};
+ghost use Rattle.regress_c.specs.Searching.{utf8_matches_to_come};
 ghost use Rattle.regress_match.specs.declared.api.regex.Regex.{Regex as Compiled};
 
 use crate::refusal::Refusal;

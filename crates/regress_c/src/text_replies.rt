@@ -5,7 +5,8 @@ ghost use Rattle.std.specs.List.{sum_by};
 ghost use Rattle.std.specs.Result.{result_map_both};
 ghost use Rattle.regress_c.specs.Compiling.{given_with_syntax};
 ghost use Rattle.regress_c.specs.Reading.{syntax_of_number};
-ghost use Rattle.regress_c.specs.Texts.{IsDiagnosisResult, IsEscapeResult, IsGroupNameResult, IsReplaceResult, IsReplaceResultOfHandle, RepliesText, RepliesDiagnosis, RepliesDiagnosisWithSyntax, range_count_reply_of_handle, buffer_after_produced_text, buffer_after_text, reply_for_produced_text};
+ghost use Rattle.regress_c.specs.Texts.{IsDiagnosisResult, IsEscapeResult, IsGroupNameResult, IsReplaceResult, IsReplaceResultOfHandle, RepliesText, RepliesDiagnosis, RepliesDiagnosisWithSyntax};
+ghost use Rattle.regress_c.specs.Texts.{range_count_reply_of_handle, buffer_after_produced_text, buffer_after_text, reply_for_produced_text};
 ghost use Rattle.regress_c.specs.Texts.{text_reply};
 ghost use Rattle.regress_c.specs.{Codes.{done}, GroupNumbers.{index_of_first_name, group_number_reply_of_handle}, Messages.{message_of_code as spec_message_of_code}};
 

@@ -1,5 +1,6 @@
 -- A test of bytes passes exactly if the test of the character that they encode passes.
-use Rattle.std.proofs.Common.{◌≡◌, ℕ, zero, suc, ◌+◌, ◌-◌, ◌<◌, ◌≤◌, ◌⊎◌, inl, inr, ⊎_elim, List, [], ◌∷◌, ◌++◌, ◌&&◌, ◌||◌, length, get_or, take, drop, flat_map, slice_range, Bool, true, false, if◌then◌else◌, nat_eq, All, chars, encode_utf8, Some, None}
+use Rattle.std.proofs.Common.{◌≡◌, ℕ, zero, suc, ◌+◌, ◌-◌, ◌<◌, ◌≤◌, ◌⊎◌, inl, inr, ⊎_elim, List, [], ◌∷◌, ◌++◌, ◌&&◌, ◌||◌, length, get_or, take, drop, flat_map, slice_range, Bool, true, false}
+use Rattle.std.proofs.Common.{if◌then◌else◌, nat_eq, All, chars, encode_utf8, Some, None}
 use Rattle.std.proofs.Common.{option_and_then, refl, sym, ◌∙◌, ap, ap₂, subst, arith, ne_eqb, eqb-true, eq-eqb, take_at}
 use Rattle.std.proofs.lemmas.List.{append-nil}
 use Rattle.std.proofs.Math.Bool.{and-true}

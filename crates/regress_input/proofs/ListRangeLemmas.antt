@@ -1,5 +1,6 @@
 -- A range of a list grows by one element at its front or its back.
-use Rattle.std.proofs.Common.{◌≡◌, ℕ, zero, suc, ◌+◌, ◌-◌, ◌≤◌, List, [], ◌∷◌, ◌++◌, length, take, drop, slice_get, slice_range, Some, Bool, true, false, not, ◌&&◌, ◌≢◌, nat_eq, refl, sym, ◌∙◌, ap, arith, eq-eqb, eqb-true}
+use Rattle.std.proofs.Common.{◌≡◌, ℕ, zero, suc, ◌+◌, ◌-◌, ◌≤◌, List, [], ◌∷◌, ◌++◌, length, take, drop, slice_get, slice_range, Some, Bool, true, false, not, ◌&&◌, ◌≢◌, nat_eq, refl, sym, ◌∙◌, ap}
+use Rattle.std.proofs.Common.{arith, eq-eqb, eqb-true}
 use lib.Pointwise.{pointwise}
 
 pub get-cons : (xs : List ℕ) (a c : ℕ) → slice_get xs a ≡ Some c → drop a xs ≡ c ∷ drop (suc a) xs

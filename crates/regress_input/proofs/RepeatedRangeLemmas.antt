@@ -1,5 +1,6 @@
 -- Comparing characters one by one decides whether a range of the text occurs again at an offset.
-use Rattle.std.proofs.Common.{◌≡◌, ℕ, zero, suc, ◌+◌, ◌-◌, ◌<◌, ◌≤◌, ◌≢◌, ◌⊎◌, inl, inr, List, [], ◌∷◌, ◌&&◌, length, take, drop, slice_get, slice_range, Bool, true, false, cond, if◌then◌else◌, nat_le, Option, Some, None, option_map, refl, sym, ◌∙◌, ap, ap₂}
+use Rattle.std.proofs.Common.{◌≡◌, ℕ, zero, suc, ◌+◌, ◌-◌, ◌<◌, ◌≤◌, ◌≢◌, ◌⊎◌, inl, inr, List, [], ◌∷◌, ◌&&◌, length, take, drop, slice_get, slice_range, Bool, true, false, cond, if◌then◌else◌}
+use Rattle.std.proofs.Common.{nat_le, Option, Some, None, option_map, refl, sym, ◌∙◌, ap, ap₂}
 use Rattle.std.proofs.Common.{subst, arith, le-leb, leb-true, add-one, length-take, length-drop}
 use Rattle.std.proofs.Math.Bool.{and-false}
 use Rattle.std.proofs.lemmas.Bool.{lt-leb}

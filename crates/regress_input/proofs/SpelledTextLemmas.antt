@@ -1,5 +1,6 @@
 -- A boundary of a text splits its code units into those of the characters before and after it.
-use Rattle.std.proofs.Common.{◌≡◌, ℕ, zero, suc, ◌+◌, ◌-◌, ◌<◌, ◌≤◌, List, [], ◌∷◌, ◌++◌, length, get_or, take, drop, map, flat_map, slice_get, Bool, Option, Some, None, option_map, refl, sym, ◌∙◌, ap, arith, length-append, take-append-drop, take_at, drop_at, take_all}
+use Rattle.std.proofs.Common.{◌≡◌, ℕ, zero, suc, ◌+◌, ◌-◌, ◌<◌, ◌≤◌, List, [], ◌∷◌, ◌++◌, length, get_or, take, drop, map, flat_map, slice_get, Bool, Option, Some, None, option_map, refl, sym, ◌∙◌}
+use Rattle.std.proofs.Common.{ap, arith, length-append, take-append-drop, take_at, drop_at, take_all}
 use Rattle.std.proofs.Common.{length-take, length-drop, add-one}
 use Rattle.std.proofs.lemmas.List.Concat.{flat_map-append}
 use Rattle.regex_meaning.specs.Text.{Text, rightwards, leftwards, offsets_from}

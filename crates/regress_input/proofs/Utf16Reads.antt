@@ -1,9 +1,11 @@
 -- Reading at a boundary of a UTF-16 text yields the character that its code units encode.
-use Rattle.std.proofs.Common.{◌≡◌, ◌≢◌, ℕ, zero, suc, ◌+◌, ◌-◌, ◌/◌, ◌%◌, ◌<◌, ◌≤◌, ◌⊎◌, inl, inr, Bool, true, false, cond, if◌then◌else◌, not, ◌&&◌, List, [], ◌∷◌, ◌++◌, length, get_or, take, drop, flat_map, slice_get, slice_index, nat_le, nat_eq, Some, None, refl}
+use Rattle.std.proofs.Common.{◌≡◌, ◌≢◌, ℕ, zero, suc, ◌+◌, ◌-◌, ◌/◌, ◌%◌, ◌<◌, ◌≤◌, ◌⊎◌, inl, inr, Bool, true, false, cond, if◌then◌else◌, not, ◌&&◌, List, [], ◌∷◌, ◌++◌, length, get_or, take, drop}
+use Rattle.std.proofs.Common.{flat_map, slice_get, slice_index, nat_le, nat_eq, Some, None, refl}
 use Rattle.std.proofs.Common.{sym, ◌∙◌, ap, ap₂, subst, arith, add-one, eq-eqb, ne_eqb, le-leb, leb-true, lt-ltb, le-ltb, get_or-drop}
 use Rattle.std.proofs.Math.Bool.{and-true, and-false}
 use Rattle.std.proofs.lemmas.Bool.{and_parts, lt-leb, and_from, false_from_ne_true, cases_lt}
-use Rattle.regex_meaning.specs.Text.{Text, rightwards, leftwards, is_high_surrogate, is_low_surrogate, decode_surrogate_pair, utf16_width, utf16_characters, utf16_text, is_unit_boundary, fold_code_point}
+use Rattle.regex_meaning.specs.Text.{Text, rightwards, leftwards, is_high_surrogate, is_low_surrogate, decode_surrogate_pair, utf16_width, utf16_characters, utf16_text, is_unit_boundary}
+use Rattle.regex_meaning.specs.Text.{fold_code_point}
 use Rattle.regex_meaning.specs.CodeUnitOffsets.{IsBoundary, units, read}
 use Rattle.regex_meaning.specs.CodeUnits.{utf16, code_units_of_character, AreU16Units}
 use Rattle.regex_meaning.specs.Laws.{is_within_pair}

@@ -1,5 +1,6 @@
 -- Reading at a boundary of a UTF-8 text yields the character that its bytes encode.
-use Rattle.std.proofs.Common.{◌≡◌, ℕ, zero, suc, ◌+◌, ◌-◌, ◌*◌, ◌<◌, ◌≤◌, ◌≢◌, ◌/◌, ◌⊎◌, inl, inr, ⊎_elim, ltb, lt-ltb, le-ltb, List, [], ◌∷◌, ◌++◌, ◌&&◌, Some, None, length, get_or, flat_map, slice_get, Bool, true, false, IsUtf8, chars, refl, sym, ◌∙◌, ap, ap₂}
+use Rattle.std.proofs.Common.{◌≡◌, ℕ, zero, suc, ◌+◌, ◌-◌, ◌*◌, ◌<◌, ◌≤◌, ◌≢◌, ◌/◌, ◌⊎◌, inl, inr, ⊎_elim, ltb, lt-ltb, le-ltb, List, [], ◌∷◌, ◌++◌, ◌&&◌, Some, None, length, get_or, flat_map}
+use Rattle.std.proofs.Common.{slice_get, Bool, true, false, IsUtf8, chars, refl, sym, ◌∙◌, ap, ap₂}
 use Rattle.std.proofs.Common.{subst, arith, length-append, length-drop, get_or-drop}
 use Rattle.std.proofs.lemmas.Bool.{cases_lt}
 use Rattle.std.specs.Char.{IsScalar, len_utf8}

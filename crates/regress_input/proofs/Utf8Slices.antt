@@ -1,7 +1,9 @@
 -- The boundaries of a UTF-8 text are those of its bytes, and a range between two is the text of its bytes.
-use Rattle.std.proofs.Common.{◌≡◌, ℕ, zero, suc, ◌≤◌, List, [], ◌∷◌, ◌++◌, ◌&&◌, length, take, drop, flat_map, slice_range, Bool, true, chars, IsUtf8, IsCharBoundary, nat_eq, refl, sym, ◌∙◌, ap, subst, arith, length-take, take-append-drop}
+use Rattle.std.proofs.Common.{◌≡◌, ℕ, zero, suc, ◌≤◌, List, [], ◌∷◌, ◌++◌, ◌&&◌, length, take, drop, flat_map, slice_range, Bool, true, chars, IsUtf8, IsCharBoundary, nat_eq, refl, sym, ◌∙◌, ap}
+use Rattle.std.proofs.Common.{subst, arith, length-take, take-append-drop}
 use Rattle.std.specs.Char.{len_utf8}
-use Rattle.std.proofs.lemmas.Str.{encodes-chars, chars-encodes, scalars-chars, encodes-append, encodes_same, IsUtf8-append, IsUtf8-drop, IsUtf8-take, IsUtf8-had, IsCharBoundary-from_take, IsCharBoundary-from_drop, length-encode}
+use Rattle.std.proofs.lemmas.Str.{encodes-chars, chars-encodes, scalars-chars, encodes-append, encodes_same, IsUtf8-append, IsUtf8-drop, IsUtf8-take, IsUtf8-had, IsCharBoundary-from_take}
+use Rattle.std.proofs.lemmas.Str.{IsCharBoundary-from_drop, length-encode}
 use Rattle.std.proofs.lemmas.List.Folds.{drop_split}
 use lib.Utf8.{scalars, encode, encodes}
 use Rattle.regex_meaning.specs.Text.{Text, Direction, rightwards, leftwards, utf8_text, fold_char}

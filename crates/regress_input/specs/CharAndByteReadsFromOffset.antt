@@ -1,5 +1,6 @@
 -- What is read from a text at an offset.
-use Rattle.std.specs.Prelude.{◌≡◌, ℕ, zero, suc, ◌+◌, ◌-◌, Bool, true, false, ◌&&◌, ◌||◌, List, length, map, Option, Some, None, option_map, option_and_then, unwrap_or, if◌then◌else◌, nat_le, nat_eq, ◌==◌, slice_get, slice_range, encode_utf8_all, drop, IsTrue, IsUtf8}
+use Rattle.std.specs.Prelude.{◌≡◌, ℕ, zero, suc, ◌+◌, ◌-◌, Bool, true, false, ◌&&◌, ◌||◌, List, length, map, Option, Some, None, option_map, option_and_then, unwrap_or, if◌then◌else◌, nat_le, nat_eq}
+use Rattle.std.specs.Prelude.{◌==◌, slice_get, slice_range, encode_utf8_all, drop, IsTrue, IsUtf8}
 use Rattle.std.proofs.Common.{sym, true≢false}
 use lib.Pointwise.{pointwise}
 use Rattle.std.specs.Char.{len_utf8}

@@ -2,7 +2,8 @@
 
 ghost use Rattle.std.specs.Prelude.{◌≡◌, ◌≤◌, ℕ, true, length, drop, option_map, slice_range};
 ghost use Rattle.regex_meaning.specs.Text.{rightwards, leftwards};
-ghost use Rattle.regress_input.specs.CharAndByteReadsFromOffset.{direction_of_forward_flag, end_if_matched, adjacent_byte, moved_by_units, past_units_if_next as spec_past_units_if_next, IsFirstOccurrenceFrom};
+ghost use Rattle.regress_input.specs.CharAndByteReadsFromOffset.{direction_of_forward_flag, end_if_matched, adjacent_byte, moved_by_units, past_units_if_next as spec_past_units_if_next};
+ghost use Rattle.regress_input.specs.CharAndByteReadsFromOffset.{IsFirstOccurrenceFrom};
 
 use crate::front::ByteSearcher;
 use crate::position::PositionType;

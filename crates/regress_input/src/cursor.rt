@@ -2,7 +2,8 @@
 
 ghost use Rattle.std.specs.Prelude.{◌≡◌, ◌≤◌, ℕ, IfSome, IfNone, option_map};
 ghost use Rattle.regex_meaning.specs.CodeUnitOffsets.{IsBoundary, units, read};
-ghost use Rattle.regress_input.specs.CharAndByteReadsFromOffset.{direction_of_forward_flag, end_if_matched, bytes_of, adjacent_byte, past_numbers_if_next, read_if_units_are_bytes, offset_after_one_unit};
+ghost use Rattle.regress_input.specs.CharAndByteReadsFromOffset.{direction_of_forward_flag, end_if_matched, bytes_of, adjacent_byte, past_numbers_if_next, read_if_units_are_bytes};
+ghost use Rattle.regress_input.specs.CharAndByteReadsFromOffset.{offset_after_one_unit};
 
 use crate::indexing::InputIndexer;
 pub use crate::position::{Backward, Direction, Forward};

@@ -4,7 +4,8 @@ ghost use Rattle.std.specs.Prelude.{◌≡◌, ◌<◌, ◌≤◌, ◌^◌, map,
 ghost use Rattle.std.specs.List.{list_all};
 ghost use Rattle.regex_meaning.specs.{Text.{Text, rightwards, leftwards}, CodeUnitOffsets.{HasRisingPlaceOffsets, IsBoundary, units, read}};
 ghost use Rattle.regex_meaning.specs.CodeUnits.{text_units_in_encoding, HasOffsetsInEncoding, is_character_in_encoding};
-ghost use Rattle.regress_input.specs.CharAndByteReadsFromOffset.{direction_of_forward_flag, end_if_matched, same_fold, character, past as spec_past, past_repeated_range_if_next, part, ReadsAreInverse, moved_by_units};
+ghost use Rattle.regress_input.specs.CharAndByteReadsFromOffset.{direction_of_forward_flag, end_if_matched, same_fold, character, past as spec_past, past_repeated_range_if_next, part};
+ghost use Rattle.regress_input.specs.CharAndByteReadsFromOffset.{ReadsAreInverse, moved_by_units};
 ghost use Rattle.regress_input.specs.TextCodeUnits.{UnitsOccurWhereCharactersDo};
 ghost use Rattle.regress_input.specs.CharAndByteReadsFromOffset.{bytes_of, bytes_if_byte_units, IsEncodedInUtf8, adjacent_byte, past_numbers_if_next, read_if_units_are_bytes, IsFirstOccurrenceFrom};
 

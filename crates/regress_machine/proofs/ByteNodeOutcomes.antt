@@ -1,5 +1,6 @@
 -- The code of a byte sequence or a byte set finds the outcomes of that node.
-use Rattle.std.proofs.Common.{◌≡◌, ℕ, zero, suc, ◌+◌, ◌-◌, ◌<◌, ◌≤◌, List, [], ◌∷◌, ◌++◌, length, map, take, drop, Some, Bool, true, false, refl, ap, ap₂, ◌∙◌, sym, subst, arith, slice_get, reverse, length-drop}
+use Rattle.std.proofs.Common.{◌≡◌, ℕ, zero, suc, ◌+◌, ◌-◌, ◌<◌, ◌≤◌, List, [], ◌∷◌, ◌++◌, length, map, take, drop, Some, Bool, true, false, refl, ap, ap₂, ◌∙◌, sym, subst, arith, slice_get, reverse}
+use Rattle.std.proofs.Common.{length-drop}
 use Rattle.std.specs.Prelude.{if◌then◌else◌, ◌&&◌, nat_le, nat_lt, nat_eq, encode_utf8_all, chars}
 use Rattle.std.specs.Str.{is_utf8}
 use lib.Pointwise.{pointwise}

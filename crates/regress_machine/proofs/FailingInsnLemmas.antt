@@ -1,5 +1,6 @@
 -- A state finds nothing if a closed set excludes its instruction at its offset.
-use Rattle.std.proofs.Common.{◌≡◌, ℕ, zero, suc, ◌+◌, ◌-◌, min, map, reverse, List, [], ◌∷◌, Option, Some, None, Bool, true, false, ◌&&◌, ◌||◌, refl, ap, ◌∙◌, sym, subst, arith, slice_get, slice_set, length, cond}
+use Rattle.std.proofs.Common.{◌≡◌, ℕ, zero, suc, ◌+◌, ◌-◌, min, map, reverse, List, [], ◌∷◌, Option, Some, None, Bool, true, false, ◌&&◌, ◌||◌, refl, ap, ◌∙◌, sym, subst, arith, slice_get, slice_set}
+use Rattle.std.proofs.Common.{length, cond}
 use Rattle.std.specs.Prelude.{if◌then◌else◌, nat_lt, ◌==◌, encode_utf8_all}
 use Rattle.std.specs.List.{prefix_len}
 use Rattle.std.proofs.lemmas.Bool.{ltb-false, leb-true, eq-eqb}
@@ -8,15 +9,18 @@ use Rattle.regex_meaning.specs.Text.{Text, rightwards, next_character, moved}
 use Rattle.regex_meaning.specs.CodeUnitOffsets.{HasRisingPlaceOffsets, offset, place_at}
 use Rattle.regex_meaning.specs.Outcomes.{is_some_and}
 use Rattle.regex_meaning.specs.OutcomesWithStepTicks.{nearest_first}
-use Rattle.regex_meaning.specs.CompilationRelation.{Program, Insn, Goal, JustFail, Char, CharSet, ByteSet, ByteSeq, AsciiBracket, Bracket, MatchAny, MatchAnyExceptLineTerminator, Alt, Jump, EnterLoop, LoopAgain, ResetCaptureGroup, Loop1CharBody}
+use Rattle.regex_meaning.specs.CompilationRelation.{Program, Insn, Goal, JustFail, Char, CharSet, ByteSet, ByteSeq, AsciiBracket, Bracket, MatchAny, MatchAnyExceptLineTerminator, Alt, Jump}
+use Rattle.regex_meaning.specs.CompilationRelation.{EnterLoop, LoopAgain, ResetCaptureGroup, Loop1CharBody}
 use Rattle.regex_meaning.specs.CompilationRelation.{BeginCaptureGroup, EndCaptureGroup, BackRef, Lookahead, Lookbehind}
 use Rattle.regex_meaning.proofs.CodeUnitOffsetsLemmas.{offset-place_at}
-use Rattle.regress_machine.specs.Machine.{LoopData, State, running, waiting, Next, goes, asks, state_with_ip, state_at_next_ip, with_some, go, go_if, iterate_or_leave_at_loop_head, char_loop_states, scan, act_on, act, after_lookaround, range_swapped_if_leftwards}
+use Rattle.regress_machine.specs.Machine.{LoopData, State, running, waiting, Next, goes, asks, state_with_ip, state_at_next_ip, with_some, go, go_if, iterate_or_leave_at_loop_head, char_loop_states}
+use Rattle.regress_machine.specs.Machine.{scan, act_on, act, after_lookaround, range_swapped_if_leftwards}
 use Rattle.regress_machine.specs.Machine.{effect_at_iteration_end, loop_again_effect, test_of, occurs_beside_offset, next_insn_at_place, read_one, read_bytes, stay_if}
 use Rattle.regress_machine.proofs.NearestCharacterLemmas.{Beside, nothing_left, one_more, beside, moved-zero}
 use Rattle.regress_machine.specs.ThreadSimulation.{FindsNothing}
 use Rattle.regress_machine.specs.FailingInsnsAtOffset.{holds_there, accepts_char_at_offset, may_repeat, insn_may_find, IsClosedSetOfInsnsThatMayFind}
-use Rattle.regress_machine.proofs.FailureByStepInduction.{NothingBelow, Drops, DropAll, NothingNext, EachNothing, turn-nothing, nothing-here, nothing-more, nothing-one, nothing-waits, nothing-ends, nothing-goes, nothing-only, nothing-some, nothing-go}
+use Rattle.regress_machine.proofs.FailureByStepInduction.{NothingBelow, Drops, DropAll, NothingNext, EachNothing, turn-nothing, nothing-here, nothing-more, nothing-one, nothing-waits, nothing-ends}
+use Rattle.regress_machine.proofs.FailureByStepInduction.{nothing-goes, nothing-only, nothing-some, nothing-go}
 use Rattle.regress_machine.proofs.FailureByStepInduction.{nothing-in_turn, nothing-loop, nothing-below-none, finds-nothing}
 use Rattle.regex_meaning.proofs.BoolLemmas.{or-false-left, or-false-right}
 

@@ -6,9 +6,11 @@ use Rattle.std.proofs.lemmas.Bool.{cases_lt, eqb-true}
 use mathlib.Core.Logic.{inl, inr}
 use Rattle.regex_meaning.specs.Laws.{Each}
 use Rattle.regex_meaning.specs.CodeUnits.{Encoding, utf8, utf16, ucs2}
-use Rattle.regex_meaning.specs.CompilationRelation.{Program, Insn, Goal, JustFail, Char, CharSet, ByteSet, ByteSeq, AsciiBracket, Bracket, MatchAny, MatchAnyExceptLineTerminator, EndOfLine, Alt, EnterLoop, LoopAgain, Loop1CharBody, BackRef, Lookahead}
+use Rattle.regex_meaning.specs.CompilationRelation.{Program, Insn, Goal, JustFail, Char, CharSet, ByteSet, ByteSeq, AsciiBracket, Bracket, MatchAny, MatchAnyExceptLineTerminator, EndOfLine, Alt}
+use Rattle.regex_meaning.specs.CompilationRelation.{EnterLoop, LoopAgain, Loop1CharBody, BackRef, Lookahead}
 use Rattle.regress_machine.specs.Machine.{test_of}
-use Rattle.regress_machine.specs.FirstSetTables.{AllowedNextKeys, table_allows_key_or_end, unit_table_of, TableAllowsAll, IsSubtable, AllowsWhatBothAllow, first_unit_key, AllowsAcceptedChars, AllowsFirstByteOf, AllowsLineEnds, AllowsLoopRepeat, IsCovered}
+use Rattle.regress_machine.specs.FirstSetTables.{AllowedNextKeys, table_allows_key_or_end, unit_table_of, TableAllowsAll, IsSubtable, AllowsWhatBothAllow, first_unit_key, AllowsAcceptedChars}
+use Rattle.regress_machine.specs.FirstSetTables.{AllowsFirstByteOf, AllowsLineEnds, AllowsLoopRepeat, IsCovered}
 
 -- ---- Bits
 

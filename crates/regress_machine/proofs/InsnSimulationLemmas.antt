@@ -6,7 +6,8 @@ use Rattle.regex_meaning.specs.Text.{Text, Direction}
 use Rattle.regex_meaning.specs.CodeUnitOffsets.{place_at}
 use Rattle.regex_meaning.specs.OutcomesWithStepTicks.{nearest_first}
 use Rattle.regex_meaning.specs.CompilationRelation.{Program, LoopFields, JustFail, Jump, Alt, EnterLoop, LoopAgain, ResetCaptureGroup, Loop1CharBody, BeginCaptureGroup, EndCaptureGroup}
-use Rattle.regress_machine.specs.Machine.{LoopData, State, Thread, running, waiting, goes, scans, state_with_ip, state_at_next_ip, go_if, with_some, only_if, first_running_and_others_waiting, iterate_or_leave_at_loop_head, effect_at_iteration_end, loop_again_effect, test_of, scan, act_on, act}
+use Rattle.regress_machine.specs.Machine.{LoopData, State, Thread, running, waiting, goes, scans, state_with_ip, state_at_next_ip, go_if, with_some, only_if, first_running_and_others_waiting}
+use Rattle.regress_machine.specs.Machine.{iterate_or_leave_at_loop_head, effect_at_iteration_end, loop_again_effect, test_of, scan, act_on, act}
 use Rattle.regress_machine.specs.Machine.{range_swapped_if_leftwards, go}
 use Rattle.regress_machine.specs.ThreadSimulation.{Simulates, FindsNothing}
 use Rattle.regress_machine.specs.CharLoopExitStatesByPreference.{most_first, fewest_first}

@@ -4,7 +4,8 @@ use Rattle.std.specs.Prelude.{◌&&◌, ◌==◌, if◌then◌else◌, nat_lt, n
 use Rattle.std.proofs.lemmas.Bool.{le-ltb, lt-ltb, le-leb, leb-true, eq-eqb, eqb-true}
 use Rattle.regex_meaning.specs.Text.{Text, Direction}
 use Rattle.regex_meaning.specs.CompilationRelation.{Program, LoopFields, EnterLoop, LoopAgain}
-use Rattle.regress_machine.specs.Machine.{LoopData, State, Thread, running, Next, goes, stuck, state_with_ip, with_some, only_if, first_running_and_others_waiting, choice_in_order_of_greediness, iterate_or_leave_at_loop_head, effect_at_iteration_end, loop_again_effect, act_on, act}
+use Rattle.regress_machine.specs.Machine.{LoopData, State, Thread, running, Next, goes, stuck, state_with_ip, with_some, only_if, first_running_and_others_waiting, choice_in_order_of_greediness}
+use Rattle.regress_machine.specs.Machine.{iterate_or_leave_at_loop_head, effect_at_iteration_end, loop_again_effect, act_on, act}
 use Rattle.regress_machine.proofs.MachineSearchLemmas.{never_stuck}
 use Rattle.regress_machine.specs.ThreadSimulation.{Simulates}
 

@@ -1,5 +1,6 @@
 -- The code of a loop finds the outcomes of that node, iteration by iteration.
-use Rattle.std.proofs.Common.{◌≡◌, ℕ, zero, suc, ◌+◌, ◌-◌, ◌<◌, ◌≤◌, List, [], ◌∷◌, ◌++◌, length, map, Option, Some, None, Bool, true, false, refl, ap, ◌∙◌, sym, subst, arith, append-nil, slice_get, slice_set, length-set, lt-ltb, nat_eq, nat_lt, nat_le, eq-eqb, ne_eqb, eqb-true, nltb→le}
+use Rattle.std.proofs.Common.{◌≡◌, ℕ, zero, suc, ◌+◌, ◌-◌, ◌<◌, ◌≤◌, List, [], ◌∷◌, ◌++◌, length, map, Option, Some, None, Bool, true, false, refl, ap, ◌∙◌, sym, subst, arith, append-nil, slice_get}
+use Rattle.std.proofs.Common.{slice_set, length-set, lt-ltb, nat_eq, nat_lt, nat_le, eq-eqb, ne_eqb, eqb-true, nltb→le}
 use Rattle.std.proofs.lemmas.List.{length-map}
 use Rattle.std.proofs.lemmas.Bool.{eqb-false}
 use Rattle.std.specs.Prelude.{option_map, not, if◌then◌else◌, ◌&&◌, ◌==◌}
@@ -12,10 +13,12 @@ use Rattle.regex_meaning.specs.Outcomes.{Groups, Outcome, with_groups_cleared, m
 use Rattle.regex_meaning.specs.OutcomesWithStepTicks.{TickOrOutcome, tick, pair, ticks, outcomes_replaced_by_lists, ticked_preferred, ticked_bounded_repeat, ticked}
 use Rattle.regex_meaning.specs.CompilationRelation.{Program, LoopFields, Insn, Counters, counters_after_insn, HasInsnsBetween, IsCode, ResetCaptureGroup, EnterLoop, LoopAgain}
 use Rattle.regex_meaning.proofs.CodeUnitOffsetsLemmas.{offset-injective}
-use Rattle.regress_machine.specs.Machine.{LoopData, State, Thread, running, waiting, goes, go, with_some, only_if, first_running_and_others_waiting, choice_in_order_of_greediness, iterate_or_leave_at_loop_head, effect_at_iteration_end, loop_again_effect, act}
+use Rattle.regress_machine.specs.Machine.{LoopData, State, Thread, running, waiting, goes, go, with_some, only_if, first_running_and_others_waiting, choice_in_order_of_greediness}
+use Rattle.regress_machine.specs.Machine.{iterate_or_leave_at_loop_head, effect_at_iteration_end, loop_again_effect, act}
 use Rattle.regress_machine.proofs.ThreadYieldLemmas.{Ending, Yields, yields_none, yields_append, yields_same, yields_turn, yields_wait}
 use Rattle.regress_machine.proofs.UnchangedGroupsAndLoops.{Kept, kept_itself, kept_more, kept_both, inside_itself, slice_get-set_same, slice_get-set_other}
-use Rattle.regress_machine.proofs.NodeCodeOutcomes.{over, state_at, RangeFits, Fit, Reached, GoesOn, Enters, here, reached_both, act_at, Finds, at_mark, Rising, and_then-append, and_then-and_then, and_then-ticks}
+use Rattle.regress_machine.proofs.NodeCodeOutcomes.{over, state_at, RangeFits, Fit, Reached, GoesOn, Enters, here, reached_both, act_at, Finds, at_mark, Rising, and_then-append, and_then-and_then}
+use Rattle.regress_machine.proofs.NodeCodeOutcomes.{and_then-ticks}
 use Rattle.regress_machine.proofs.GroupAndAssertionOutcomes.{map-set}
 use Rattle.regex_meaning.proofs.EachElementLemmas.{Each-set}
 

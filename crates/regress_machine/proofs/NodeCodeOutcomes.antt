@@ -1,5 +1,6 @@
 -- The code of a node finds the node's outcomes, each followed by what the code after it finds.
-use Rattle.std.proofs.Common.{◌≡◌, ℕ, zero, suc, ◌+◌, ◌≤◌, List, [], ◌∷◌, ◌++◌, length, map, Option, Some, None, Bool, true, false, refl, ap, ◌∙◌, sym, subst, arith, append_assoc, append-nil, slice_get, le_refl}
+use Rattle.std.proofs.Common.{◌≡◌, ℕ, zero, suc, ◌+◌, ◌≤◌, List, [], ◌∷◌, ◌++◌, length, map, Option, Some, None, Bool, true, false, refl, ap, ◌∙◌, sym, subst, arith, append_assoc, append-nil}
+use Rattle.std.proofs.Common.{slice_get, le_refl}
 use Rattle.std.specs.Prelude.{option_map, if◌then◌else◌}
 use Rattle.regex_meaning.specs.Laws.{Each, IsAtOrAheadInDirection}
 use Rattle.regex_meaning.specs.Tree.{Node, cat, alt, group_ids}

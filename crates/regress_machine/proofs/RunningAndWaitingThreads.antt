@@ -6,7 +6,8 @@ use Rattle.regex_meaning.specs.Text.{Text, Direction}
 use Rattle.regex_meaning.specs.CompilationRelation.{Program}
 use Rattle.regress_machine.specs.Machine.{State, Thread, running, waiting, first_running_and_others_waiting, goes, scans, act}
 use Rattle.regress_machine.specs.ThreadSimulation.{Simulates, FindsNothing}
-use Rattle.regress_machine.proofs.ThreadSimulationLemmas.{simulates-same, simulates-then, simulates-before, simulates-fewer, simulates-goes, simulates-scans, simulates-waits, drops-prefix, nothing-one, nothing-waits}
+use Rattle.regress_machine.proofs.ThreadSimulationLemmas.{simulates-same, simulates-then, simulates-before, simulates-fewer, simulates-goes, simulates-scans, simulates-waits, drops-prefix}
+use Rattle.regress_machine.proofs.ThreadSimulationLemmas.{nothing-one, nothing-waits}
 use Rattle.regress_machine.proofs.ExecutorLoopLemmas.{drops-waiting, drops-waiting-behind}
 
 module _ (program : Program) (text : Text) (d : Direction) where

@@ -11,7 +11,8 @@ use Rattle.regex_meaning.specs.CodeUnitOffsets.{HasRisingPlaceOffsets}
 use Rattle.regex_meaning.specs.Outcomes.{Groups, Outcome, accepts, exclusive_or, in_intervals, is_some_and, one_character, outcomes}
 use Rattle.regex_meaning.specs.StartPredicate.{bytes_that_pass}
 use Rattle.regex_meaning.specs.OutcomesWithStepTicks.{TickOrOutcome, tick, pair, outcomes_replaced_by_lists, ticked}
-use Rattle.regex_meaning.specs.CompilationRelation.{Program, Insn, Counters, counters_after_insn, HasInsnsBetween, IsCode, JustFail, Char, CharSet, ByteSet, AsciiBracket, Bracket, MatchAny, MatchAnyExceptLineTerminator, padded, char_set_insn, byte_set_insn, is_uninverted_ascii_class}
+use Rattle.regex_meaning.specs.CompilationRelation.{Program, Insn, Counters, counters_after_insn, HasInsnsBetween, IsCode, JustFail, Char, CharSet, ByteSet, AsciiBracket, Bracket, MatchAny}
+use Rattle.regex_meaning.specs.CompilationRelation.{MatchAnyExceptLineTerminator, padded, char_set_insn, byte_set_insn, is_uninverted_ascii_class}
 use Rattle.regex_meaning.proofs.FirstByteOfCharacter.{true-in_range, contains-bytes_where}
 use Rattle.regress_machine.specs.Machine.{LoopData, State, running, with_some, read_one, act_on}
 use Rattle.regress_machine.proofs.ThreadYieldLemmas.{Ending, Yields, yields_none, yields_same, yields_turn}

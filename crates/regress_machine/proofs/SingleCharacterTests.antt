@@ -1,5 +1,6 @@
 -- The instruction of a node of one character tests exactly what the node accepts.
-use Rattle.std.proofs.Common.{◌≡◌, ℕ, zero, suc, ◌+◌, ◌<◌, ◌≤◌, List, [], ◌∷◌, ◌++◌, length, map, drop, Some, Bool, true, false, ◌&&◌, ◌||◌, refl, ap, ◌∙◌, sym, subst, arith, append-nil, slice_get, drop_of_length-le}
+use Rattle.std.proofs.Common.{◌≡◌, ℕ, zero, suc, ◌+◌, ◌<◌, ◌≤◌, List, [], ◌∷◌, ◌++◌, length, map, drop, Some, Bool, true, false, ◌&&◌, ◌||◌, refl, ap, ◌∙◌, sym, subst, arith, append-nil, slice_get}
+use Rattle.std.proofs.Common.{drop_of_length-le}
 use Rattle.std.specs.Prelude.{nat_le, nat_lt, nat_eq, ◌==◌, encode_utf8_all, chars, option_and_then, MatchBool}
 use Rattle.std.specs.List.{list_all}
 use Rattle.std.specs.Char.{encode_utf8 as encode, len_utf8}
@@ -17,7 +18,8 @@ use Rattle.regex_meaning.specs.Text.{Text, is_scalar}
 use Rattle.regex_meaning.specs.Outcomes.{accepts, exclusive_or, in_intervals}
 use Rattle.regex_meaning.specs.StartPredicate.{bytes_that_pass}
 use Rattle.regex_meaning.specs.WellFormedTrees.{is_one_character, has_text_in_sequence, set_sizes_and_characters_fit_instructions}
-use Rattle.regex_meaning.specs.CompilationRelation.{Program, Insn, Counters, HasInsnsBetween, IsCode, JustFail, Char, CharSet, ByteSet, ByteSeq, AsciiBracket, Bracket, MatchAny, MatchAnyExceptLineTerminator, padded, reversed_if_in_lookbehind, is_uninverted_ascii_class, chunks, first_chunks_of_bytes}
+use Rattle.regex_meaning.specs.CompilationRelation.{Program, Insn, Counters, HasInsnsBetween, IsCode, JustFail, Char, CharSet, ByteSet, ByteSeq, AsciiBracket, Bracket, MatchAny}
+use Rattle.regex_meaning.specs.CompilationRelation.{MatchAnyExceptLineTerminator, padded, reversed_if_in_lookbehind, is_uninverted_ascii_class, chunks, first_chunks_of_bytes}
 use Rattle.regex_meaning.proofs.FirstByteOfCharacter.{true-in_range, encode-1}
 use Rattle.regress_machine.specs.Machine.{test_of}
 use Rattle.regress_machine.specs.TextsForBytePrograms.{HasUtf8CharactersAndOffsets, tree_contains_byte_nodes}

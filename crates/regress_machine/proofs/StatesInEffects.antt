@@ -3,7 +3,8 @@ use Rattle.std.proofs.Common.{◌≡◌, ℕ, ◌+◌, List, [], ◌∷◌, map,
 use Rattle.std.specs.Prelude.{if◌then◌else◌, nat_lt, nat_le, ◌==◌}
 use Rattle.regex_meaning.specs.CompilationRelation.{Insn, LoopFields, EnterLoop}
 use Rattle.regex_meaning.proofs.EachElementLemmas.{Each, Each-append}
-use Rattle.regress_machine.specs.Machine.{State, Thread, running, waiting, Next, goes, scans, ends, asks, stuck, with_some, only_if, go_if, first_running_and_others_waiting, choice_in_order_of_greediness, iterate_or_leave_at_loop_head, effect_at_iteration_end, loop_again_effect, state_with_ip}
+use Rattle.regress_machine.specs.Machine.{State, Thread, running, waiting, Next, goes, scans, ends, asks, stuck, with_some, only_if, go_if, first_running_and_others_waiting}
+use Rattle.regress_machine.specs.Machine.{choice_in_order_of_greediness, iterate_or_leave_at_loop_head, effect_at_iteration_end, loop_again_effect, state_with_ip}
 
 module _ (Good : State → Type 0) where
   abbrev pub IsOfThread : Thread → Type 0

@@ -7,8 +7,10 @@ use Rattle.regex_meaning.specs.Tree.{string_set}
 use Rattle.regex_meaning.specs.Text.{Text, Direction, rightwards, leftwards, last_place, next_character, moved, characters_ahead, expand_code_point}
 use Rattle.regex_meaning.specs.CodeUnitOffsets.{HasRisingPlaceOffsets}
 use Rattle.regex_meaning.specs.Outcomes.{Groups, Outcome, is_some_and, is_case_variant, spelled}
-use Rattle.regex_meaning.specs.OutcomesWithStepTicks.{TickOrOutcome, tick, pair, ticks, number_of_compared_elements, outcomes_replaced_by_lists, ticks_before_outcomes, nearest_first, compared_code_point_count, ticked_string, ticked_strings, ticked}
-use Rattle.regex_meaning.specs.CompilationRelation.{Program, Insn, Counters, counters_after_insn, HasInsnAt, HasInsnsBetween, IsCode, IsStringCode, AreStringsCode, JustFail, Char, CharSet, Alt, Jump, padded, reversed_if_in_lookbehind, case_variants_insn}
+use Rattle.regex_meaning.specs.OutcomesWithStepTicks.{TickOrOutcome, tick, pair, ticks, number_of_compared_elements, outcomes_replaced_by_lists, ticks_before_outcomes, nearest_first}
+use Rattle.regex_meaning.specs.OutcomesWithStepTicks.{compared_code_point_count, ticked_string, ticked_strings, ticked}
+use Rattle.regex_meaning.specs.CompilationRelation.{Program, Insn, Counters, counters_after_insn, HasInsnAt, HasInsnsBetween, IsCode, IsStringCode, AreStringsCode, JustFail, Char, CharSet, Alt, Jump}
+use Rattle.regex_meaning.specs.CompilationRelation.{padded, reversed_if_in_lookbehind, case_variants_insn}
 use Rattle.regex_meaning.proofs.CodeUnitOffsetsLemmas.{place_at-offset}
 use Rattle.regress_machine.specs.Machine.{LoopData, State, running, waiting, with_some, go_if, next_insn_at_place, read_one, act_on, act}
 use Rattle.regress_machine.proofs.ThreadYieldLemmas.{Ending, Yields, yields_none, yields_append, yields_same, yields_turn, yields_wait}

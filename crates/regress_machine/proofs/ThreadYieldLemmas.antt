@@ -4,7 +4,8 @@ use Rattle.regex_meaning.specs.Text.{Text, Direction}
 use Rattle.regex_meaning.specs.Outcomes.{Outcome}
 use Rattle.regex_meaning.specs.OutcomesWithStepTicks.{TickOrOutcome, tick, pair, ticks, ticks_to_first}
 use Rattle.regex_meaning.specs.CompilationRelation.{Program}
-use Rattle.regress_machine.specs.Machine.{State, Thread, running, waiting, goes, scans, ends, asks, Found, result_without_threads, found_at, with_steps, after_lookaround, after_lookaround_search, search_after_effect, act, search}
+use Rattle.regress_machine.specs.Machine.{State, Thread, running, waiting, goes, scans, ends, asks, Found, result_without_threads, found_at, with_steps, after_lookaround, after_lookaround_search}
+use Rattle.regress_machine.specs.Machine.{search_after_effect, act, search}
 pub use Rattle.regress_machine.specs.SearchFindsFirstOutcomeAtPlace.{first_outcome_among_ticks}
 use Rattle.regress_machine.proofs.MachineSearchLemmas.{search_more}
 

@@ -2,7 +2,8 @@
 use Rattle.std.proofs.Common.{◌≡◌, ℕ, ◌-◌, ◌<◌, ◌≤◌, List, [], ◌∷◌, length, replicate, Option, Some, None, Bool, true, false, refl, ap, ◌∙◌, sym, subst, arith, eqb-true}
 use Rattle.std.proofs.lemmas.List.{length-replicate}
 use Rattle.std.specs.Prelude.{option_map, if◌then◌else◌, ◌==◌}
-use Rattle.regex_meaning.specs.Tree.{Node, empty, goal, char, char_set, byte_set, byte_sequence, cat, end_of_cat, alt, bracket, string_set, match_any, match_any_except_line_terminator, anchor, word_boundary, capture_group, back_ref, lookaround, loop, loop_1_char_body, group_ids, Flags, Tree}
+use Rattle.regex_meaning.specs.Tree.{Node, empty, goal, char, char_set, byte_set, byte_sequence, cat, end_of_cat, alt, bracket, string_set, match_any, match_any_except_line_terminator, anchor}
+use Rattle.regex_meaning.specs.Tree.{word_boundary, capture_group, back_ref, lookaround, loop, loop_1_char_body, group_ids, Flags, Tree}
 use Rattle.regex_meaning.specs.Text.{Text, Direction, rightwards, last_place}
 use Rattle.regex_meaning.specs.CodeUnitOffsets.{HasRisingPlaceOffsets, offset}
 use Rattle.regex_meaning.specs.Outcomes.{Groups, Outcome, direction_of, outcomes}
@@ -11,11 +12,13 @@ use Rattle.regex_meaning.specs.OutcomesWithStepTicks.{TickOrOutcome, tick, pair,
 use Rattle.regex_meaning.specs.WellFormedTrees.{number_of_goal_nodes, is_end_of_cat, ends_in_goal}
 use Rattle.regex_meaning.specs.CompilationRelation.{Program, Counters, counters_after_insn, counters_at_start, IsCode, Goal, anchor_insn, word_boundary_insn, BackRef}
 use Rattle.regress_machine.specs.Machine.{LoopData, State, running, result_without_threads, search}
-use Rattle.regress_machine.specs.SearchFindsFirstOutcomeAtPlace.{state_before_first_insn, end_in_offsets, end_and_groups_of_state, first_outcome_among_ticks, TreeProgramCanSearchText, sufficient_turns_at, FindsFirstOutcome}
+use Rattle.regress_machine.specs.SearchFindsFirstOutcomeAtPlace.{state_before_first_insn, end_in_offsets, end_and_groups_of_state, first_outcome_among_ticks, TreeProgramCanSearchText}
+use Rattle.regress_machine.specs.SearchFindsFirstOutcomeAtPlace.{sufficient_turns_at, FindsFirstOutcome}
 use Rattle.regress_machine.proofs.MachineSearchLemmas.{search_enough}
 use Rattle.regress_machine.proofs.ThreadYieldLemmas.{Ending, EndIs, found_first, Yields, yields_same, yields_end}
 use Rattle.regress_machine.proofs.NodeCodeOutcomes.{direction_at, state_at, RangeFits, Enters, act_at, Finds, Rising, nothing_finds, cat_finds, alt_finds}
-use Rattle.regress_machine.proofs.SingleCharacterOutcomes.{char_finds, char_set_finds, match_any_finds, match_any_except_line_terminator_finds, bracket_finds, insns_rising, char_rising, char_set_rising, byte_set_rising, match_any_rising, match_any_except_line_terminator_rising, bracket_rising}
+use Rattle.regress_machine.proofs.SingleCharacterOutcomes.{char_finds, char_set_finds, match_any_finds, match_any_except_line_terminator_finds, bracket_finds, insns_rising, char_rising}
+use Rattle.regress_machine.proofs.SingleCharacterOutcomes.{char_set_rising, byte_set_rising, match_any_rising, match_any_except_line_terminator_rising, bracket_rising}
 use Rattle.regress_machine.proofs.GroupAndAssertionOutcomes.{anchor_finds, word_boundary_finds, back_ref_finds, capture_group_finds}
 use Rattle.regress_machine.proofs.LookaroundOutcomes.{lookaround_finds}
 use Rattle.regress_machine.proofs.LoopOutcomes.{loop_finds, loop_rising}

@@ -5,7 +5,8 @@ use Rattle.regex_meaning.specs.Tree.{start_of_line, end_of_line}
 use Rattle.regex_meaning.specs.Text.{Text, rightwards, next_character}
 use Rattle.regex_meaning.specs.CodeUnitOffsets.{HasRisingPlaceOffsets, place_at}
 use Rattle.regex_meaning.specs.Outcomes.{is_some_and, exclusive_or, anchor_holds, is_at_word_boundary}
-use Rattle.regex_meaning.specs.CompilationRelation.{Program, Insn, Goal, Char, CharSet, ByteSet, ByteSeq, AsciiBracket, Bracket, MatchAny, MatchAnyExceptLineTerminator, StartOfLine, EndOfLine, WordBoundary, WordBoundaryUnicodeICase, Alt, Jump, Lookahead, Lookbehind}
+use Rattle.regex_meaning.specs.CompilationRelation.{Program, Insn, Goal, Char, CharSet, ByteSet, ByteSeq, AsciiBracket, Bracket, MatchAny, MatchAnyExceptLineTerminator, StartOfLine, EndOfLine}
+use Rattle.regex_meaning.specs.CompilationRelation.{WordBoundary, WordBoundaryUnicodeICase, Alt, Jump, Lookahead, Lookbehind}
 use Rattle.regex_meaning.specs.CompilationRelation.{EnterLoop, LoopAgain, ResetCaptureGroup, Loop1CharBody, BeginCaptureGroup, EndCaptureGroup, BackRef}
 use Rattle.regress_machine.specs.Machine.{State, running, test_of, occurs_beside_offset}
 use Rattle.regress_machine.specs.ThreadSimulation.{FindsNothing}

@@ -1,5 +1,6 @@
 -- Reading a replacement part by part writes its expansion for a match.
-use Rattle.std.proofs.Common.{◌≡◌, ℕ, zero, suc, ◌+◌, ◌*◌, ◌≤◌, ◌<◌, Bool, true, false, ◌&&◌, List, [], ◌∷◌, ◌++◌, length, map, drop, take, refl, sym, ap, ◌∙◌, arith, append_assoc, nat_le, not, cond, ◌-◌, ◌||◌, IsUtf8, IsCharBoundary, length-drop, append-nil, lit<}
+use Rattle.std.proofs.Common.{◌≡◌, ℕ, zero, suc, ◌+◌, ◌*◌, ◌≤◌, ◌<◌, Bool, true, false, ◌&&◌, List, [], ◌∷◌, ◌++◌, length, map, drop, take, refl, sym, ap, ◌∙◌, arith, append_assoc, nat_le, not, cond}
+use Rattle.std.proofs.Common.{◌-◌, ◌||◌, IsUtf8, IsCharBoundary, length-drop, append-nil, lit<}
 use Rattle.std.specs.Prelude.{if◌then◌else◌, ◌==◌, Option, Some, None, IfSome, slice_get, Result, Ok, Err, is_ok, IfOk}
 use Rattle.std.specs.List.{before_first, after_first, position_or_len, list_any}
 use Rattle.std.specs.Option.{option_or}
@@ -9,7 +10,8 @@ use Rattle.std.proofs.lemmas.Str.{IsCharBoundary-after_ascii, encode_ascii}
 use Rattle.regex_meaning.specs.Laws.{Each}
 use Rattle.regex_meaning.specs.Outcomes.{group_range}
 use Rattle.regex_meaning.specs.MatchGroupsByNumberAndName.{Answer, group, named_group, first_range, ids_named}
-use Rattle.regex_meaning.specs.Replace.{ReplacementPart, literal, group_part, named_part, ParsedPart, parsed_part_from_single_replacement_part, parse_digits_of_group_number, parse_braced_name, parse_after_dollar, parse_replacement, text_of, text_of_part, text_of_parts, expansion, max_capture_groups}
+use Rattle.regex_meaning.specs.Replace.{ReplacementPart, literal, group_part, named_part, ParsedPart, parsed_part_from_single_replacement_part, parse_digits_of_group_number, parse_braced_name}
+use Rattle.regex_meaning.specs.Replace.{parse_after_dollar, parse_replacement, text_of, text_of_part, text_of_parts, expansion, max_capture_groups}
 use Rattle.regress_match.specs.ExpansionsAndMatchRanges.{IsCharBoundaryRange, MatchFitsText}
 
 -- ---- The rest of a replacement

@@ -26,7 +26,8 @@ use Rattle.regress_bounded.specs.Unboundedness.{HasNoLookaroundOrBackreference, 
 use Rattle.regress_bounded.specs.declared.work_bound.Unbounded.{Unbounded}
 use Rattle.regress_bounded.specs.WorkBoundForAllMatches.{TreeHasWorkBound, IsWorkBoundOfTree, most_memo_codes_per_insn, program_size}
 use Rattle.regress_bounded.specs.declared.work_bound.WorkBound.{WorkBound}
-use Rattle.regress_match.specs.WorkBounds.{WorkLimitedNextResult, ResultsAreMatchesWithinWork, BoundedView, NextCallsYieldWithinWork, SearchesReturnMatchesWithinWork, WorkPerUnitLimitSuffices, NextCallsYieldAtTotalCost, IsNoAllocationFailure, NextCallsYieldAtCost, CallCostsAreWorkSpent}
+use Rattle.regress_match.specs.WorkBounds.{WorkLimitedNextResult, ResultsAreMatchesWithinWork, BoundedView, NextCallsYieldWithinWork, SearchesReturnMatchesWithinWork, WorkPerUnitLimitSuffices}
+use Rattle.regress_match.specs.WorkBounds.{NextCallsYieldAtTotalCost, IsNoAllocationFailure, NextCallsYieldAtCost, CallCostsAreWorkSpent}
 use Rattle.regress_match.specs.WorkBounds.{IsPatternUnboundedBy, YieldsMatchesIfWorkSuffices, enough_work_for_text, max_of_two, work_per_unit_limit}
 use Rattle.regress_match.specs.ProgramTreesAndAnswers.{tree_for_byte_units, tree_for_16_bit_units}
 use Rattle.regress_match.specs.declared.api.regex.Regex.{Regex}

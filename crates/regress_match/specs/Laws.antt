@@ -6,7 +6,8 @@ use Rattle.regex_meaning.specs.MatchGroupsByNumberAndName.{answers_from}
 use Rattle.regex_meaning.specs.Replace.{replaced}
 use Rattle.regex_meaning.specs.Grammar.{PatternDialect, ParsesBy, profile}
 use Rattle.regress_search.specs.RemainingAnswers.{RemainingView}
-use Rattle.regress_match.specs.ProgramTreesAndAnswers.{IsCompiledWithSyntax, utf8_answers, ascii_answers, utf16_answers, ucs2_answers, tree_for_byte_units, tree_for_16_bit_units, bytes_as_utf8_text, bytes_as_ascii_text, units_as_utf16_text, units_as_ucs2_text}
+use Rattle.regress_match.specs.ProgramTreesAndAnswers.{IsCompiledWithSyntax, utf8_answers, ascii_answers, utf16_answers, ucs2_answers, tree_for_byte_units, tree_for_16_bit_units, bytes_as_utf8_text}
+use Rattle.regress_match.specs.ProgramTreesAndAnswers.{bytes_as_ascii_text, units_as_utf16_text, units_as_ucs2_text}
 use Rattle.regress_match.specs.SearchResults.{YieldsMatches, NextCallsYield, NextResult, ResultsAreMatchesInOrder}
 use Rattle.regress_match.specs.ExpansionsAndMatchRanges.{MatchesFitTextInOrderFrom, matches_with_expansions}
 use Rattle.regress_match.specs.declared.api.regex.Regex.{Regex}

@@ -1,5 +1,6 @@
 -- The threads that a char loop without a maximum leaves from a position on have a key.
-use Rattle.std.proofs.Common.{◌≡◌, ◌≤◌, ◌<◌, ℕ, suc, ◌+◌, ◌-◌, ◌*◌, ◌/◌, ◌%◌, List, [], ◌∷◌, ◌++◌, map, Option, Some, None, Bool, true, false, not, refl, ap, ap₂, ◌∙◌, sym, subst, arith, slice_get, add-one}
+use Rattle.std.proofs.Common.{◌≡◌, ◌≤◌, ◌<◌, ℕ, suc, ◌+◌, ◌-◌, ◌*◌, ◌/◌, ◌%◌, List, [], ◌∷◌, ◌++◌, map, Option, Some, None, Bool, true, false, not, refl, ap, ap₂, ◌∙◌, sym, subst, arith, slice_get}
+use Rattle.std.proofs.Common.{add-one}
 use Rattle.std.specs.Prelude.{if◌then◌else◌, ◌==◌, option_map, unwrap_or}
 use mathlib.Core.Logic.{inl, inr}
 use Rattle.std.proofs.lemmas.Bool.{eqb-true, eqb-false, lt-ltb, le-leb, and_from}
@@ -21,9 +22,11 @@ use Rattle.regress_memo.specs.MemoKeys.{IsSoundState}
 use Rattle.regress_memo.specs.DistinctLists.{IsIn}
 use Rattle.regress_memo.specs.MemoSearch.{Key, Keys, AreSound}
 use Rattle.regress_memo.specs.ThreadPotentials.{Shape, stands_there, has_shape}
-use Rattle.regress_memo.specs.LoopDataKeyCodes.{Question, is_empty, how_many, number_of_possible_answers, bool_as_digit, answer_to_loop_question, code_of, codes_of, plan_code, plan_codes, HasSlotsOfProgram}
+use Rattle.regress_memo.specs.LoopDataKeyCodes.{Question, is_empty, how_many, number_of_possible_answers, bool_as_digit, answer_to_loop_question, code_of, codes_of, plan_code, plan_codes}
+use Rattle.regress_memo.specs.LoopDataKeyCodes.{HasSlotsOfProgram}
 use Rattle.regress_memo.specs.CharLoopExitThreadLists.{passing, greedy_loop_threads, pending_loop_threads}
-use Rattle.regress_memo.specs.UnboundedCharLoopMemoKeys.{answer_after_read_char, code_after_read_char, first_runs, shape_on, run_row, char_loop_greediness_at, insn_before, row_by, plan_rows, CharLoopRecords, run_key, plan_keys, IsOfPlan, RunHasKeys, CharLoopsHaveKeys}
+use Rattle.regress_memo.specs.UnboundedCharLoopMemoKeys.{answer_after_read_char, code_after_read_char, first_runs, shape_on, run_row, char_loop_greediness_at, insn_before, row_by, plan_rows}
+use Rattle.regress_memo.specs.UnboundedCharLoopMemoKeys.{CharLoopRecords, run_key, plan_keys, IsOfPlan, RunHasKeys, CharLoopsHaveKeys}
 use Rattle.regress_memo.proofs.LivenessLemmas.{moves-on, not-here}
 use Rattle.regress_memo.proofs.MemoKeyLemmas.{sound-state}
 use Rattle.regress_memo.proofs.CharLoopExitLemmas.{passing-left}

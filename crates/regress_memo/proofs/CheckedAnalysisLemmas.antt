@@ -1,6 +1,7 @@
 -- An analysis that passes the checks of each instruction is correct, and is a memo plan in each
 -- text.
-use Rattle.std.proofs.Common.{◌≡◌, ◌<◌, ◌≤◌, ℕ, zero, suc, ◌+◌, Bool, true, false, ◌&&◌, ◌||◌, List, [], ◌∷◌, ◌⊎◌, Option, Some, None, refl, ap, ◌∙◌, sym, subst, arith, length, map, slice_get, if◌then◌else◌, take}
+use Rattle.std.proofs.Common.{◌≡◌, ◌<◌, ◌≤◌, ℕ, zero, suc, ◌+◌, Bool, true, false, ◌&&◌, ◌||◌, List, [], ◌∷◌, ◌⊎◌, Option, Some, None, refl, ap, ◌∙◌, sym, subst, arith, length, map, slice_get}
+use Rattle.std.proofs.Common.{if◌then◌else◌, take}
 use Rattle.std.specs.Prelude.{◌==◌, nat_le, nat_lt, unwrap_or}
 use mathlib.Core.Logic.{inl, inr}
 use Rattle.std.proofs.lemmas.Bool.{cases_lt, eq-eqb, eqb-true, lt-ltb, and_parts}
@@ -19,7 +20,8 @@ use Rattle.regress_memo.specs.declared.analysis_result.EnclosingLoop.{EnclosingL
 use Rattle.regress_memo.specs.declared.analysis_result.InsnAnalysis.{InsnAnalysis}
 use Rattle.regress_memo.specs.declared.analysis_result.MemoAnalysis.{MemoAnalysis}
 use Rattle.regress_memo.specs.declared.analysis_result.LoopProgressFact.TheVariants.{Inside, Empty}
-use Rattle.regress_memo.specs.AnalysisAsPotentials.{no_insn_analysis, insn_analysis_of, rows_in, enclosing_loops_of, states_loop_fact, count_bound_of, analysis_as_liveness, with_count_question, questions_on, key_code_questions_of, recorded_from, recorded, insn_direction}
+use Rattle.regress_memo.specs.AnalysisAsPotentials.{no_insn_analysis, insn_analysis_of, rows_in, enclosing_loops_of, states_loop_fact, count_bound_of, analysis_as_liveness, with_count_question}
+use Rattle.regress_memo.specs.AnalysisAsPotentials.{questions_on, key_code_questions_of, recorded_from, recorded, insn_direction}
 use Rattle.regress_memo.specs.Successors.{DeclaredInsnsEqualProgramInsns, successors_of_insn_if_any}
 use Rattle.regress_memo.specs.AnalysisChecks.{IsConsistentAt, IsCoveredAt, IsInsnCostCovered, IsInsnChecked}
 use Rattle.regress_memo.specs.CheckedAnalysis.{IsAnalysisOf, FirstInsnForwardOutsideLoops, AnalysesAreMemoPlans}

@@ -1,5 +1,6 @@
 -- The code of a key is computed digit by digit, one enclosing loop after another.
-use Rattle.std.proofs.Common.{◌≡◌, ◌<◌, ◌≤◌, ℕ, suc, ◌+◌, ◌*◌, min, Bool, true, false, List, [], ◌∷◌, Option, Some, None, refl, ap, ◌∙◌, sym, subst, arith, length, get_or, drop, slice_get, if◌then◌else◌, add-one, drop-cons, drop_of_length-le}
+use Rattle.std.proofs.Common.{◌≡◌, ◌<◌, ◌≤◌, ℕ, suc, ◌+◌, ◌*◌, min, Bool, true, false, List, [], ◌∷◌, Option, Some, None, refl, ap, ◌∙◌, sym, subst, arith, length, get_or, drop, slice_get}
+use Rattle.std.proofs.Common.{if◌then◌else◌, add-one, drop-cons, drop_of_length-le}
 use Rattle.std.specs.Prelude.{◌==◌, nat_lt, option_map, unwrap_or}
 use Rattle.std.proofs.Math.Nat.{mul_assoc, mul-le-mul_left}
 use Rattle.std.proofs.lemmas.Bool.{ltb-false}

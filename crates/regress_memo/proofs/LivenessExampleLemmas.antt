@@ -14,7 +14,8 @@ use Rattle.regress_machine.specs.TextsForBytePrograms.{HasUtf8CharactersAndOffse
 use Rattle.regress_machine.specs.InsnEffects.{is_byte_sequence_insn}
 use Rattle.regress_memo.specs.Liveness.{IsConsistentEdge, IsConsistentPlainEdge, none, by_minimum, IsSoundLivenessAt, ReadsAsBytes}
 use Rattle.regress_memo.specs.LoopDataKeyCodes.{Question, is_empty, how_many, AsksAll}
-use Rattle.regress_memo.specs.LivenessExamples.{ab_loop_example_program, ab_loop_example_liveness, in_loop, two_required_program, twice_account, twice_questions, twice_at, twice_left, twice_weights, TwiceIsRight, LivenessExamplesAreRight}
+use Rattle.regress_memo.specs.LivenessExamples.{ab_loop_example_program, ab_loop_example_liveness, in_loop, two_required_program, twice_account, twice_questions, twice_at, twice_left, twice_weights}
+use Rattle.regress_memo.specs.LivenessExamples.{TwiceIsRight, LivenessExamplesAreRight}
 use Rattle.regress_memo.specs.ThreadPotentials.{CoversInsn, is_one_of}
 use Rattle.regress_memo.specs.DistinctLists.{IsIn}
 

@@ -1,5 +1,6 @@
 -- States that agree in everything live keep agreeing in each step, and their searches end alike.
-use Rattle.std.proofs.Common.{◌≡◌, ℕ, zero, suc, ◌+◌, ◌-◌, ◌≤◌, ◌<◌, min, map, reverse, List, [], ◌∷◌, ◌++◌, Option, Some, None, Bool, true, false, not, ◌&&◌, ◌||◌, refl, ap, ◌∙◌, sym, subst, arith, slice_get, slice_set, length, take, drop, length-take}
+use Rattle.std.proofs.Common.{◌≡◌, ℕ, zero, suc, ◌+◌, ◌-◌, ◌≤◌, ◌<◌, min, map, reverse, List, [], ◌∷◌, ◌++◌, Option, Some, None, Bool, true, false, not, ◌&&◌, ◌||◌, refl, ap, ◌∙◌, sym, subst, arith}
+use Rattle.std.proofs.Common.{slice_get, slice_set, length, take, drop, length-take}
 use Rattle.std.specs.Prelude.{◌⊎◌, if◌then◌else◌, nat_lt, nat_le, nat_eq, ◌==◌, encode_utf8_all}
 use Rattle.std.specs.List.{prefix_len}
 use Rattle.std.proofs.lemmas.Bool.{cases_lt, eq-eqb, eqb-true, eqb-false, ne_eqb, leb-true, ltb-true, lt-ltb, le-leb, ltb-false, or_left, or_right}
@@ -12,13 +13,16 @@ use Rattle.regex_meaning.specs.Text.{Text, Direction, rightwards, leftwards, nex
 use Rattle.regex_meaning.specs.CodeUnitOffsets.{HasRisingPlaceOffsets, units, offset, place_at}
 use Rattle.regex_meaning.specs.Outcomes.{is_some_and, Groups}
 use Rattle.regex_meaning.specs.OutcomesWithStepTicks.{nearest_first}
-use Rattle.regex_meaning.specs.CompilationRelation.{Program, LoopFields, Insn, Goal, JustFail, Char, CharSet, ByteSet, ByteSeq, AsciiBracket, Bracket, MatchAny, MatchAnyExceptLineTerminator, Alt, Jump, EnterLoop, LoopAgain, ResetCaptureGroup, Loop1CharBody}
+use Rattle.regex_meaning.specs.CompilationRelation.{Program, LoopFields, Insn, Goal, JustFail, Char, CharSet, ByteSet, ByteSeq, AsciiBracket, Bracket, MatchAny, MatchAnyExceptLineTerminator, Alt}
+use Rattle.regex_meaning.specs.CompilationRelation.{Jump, EnterLoop, LoopAgain, ResetCaptureGroup, Loop1CharBody}
 use Rattle.regex_meaning.specs.CompilationRelation.{BeginCaptureGroup, EndCaptureGroup, BackRef, Lookahead, Lookbehind}
 use Rattle.regex_meaning.proofs.BoolLemmas.{and-left, and-right, same-truth}
 use Rattle.regex_meaning.proofs.EachElementLemmas.{Each, Each-map, Each-reverse}
 use Rattle.regex_meaning.proofs.CodeUnitOffsetsLemmas.{offset-place_at, offset-less}
-use Rattle.regress_machine.specs.Machine.{LoopData, State, Thread, running, waiting, Next, goes, state_with_ip, state_at_next_ip, with_some, only_if, go_if, first_running_and_others_waiting, occurs_beside_offset, offset_moved_in_direction, read_one, stay_if}
-use Rattle.regress_machine.specs.Machine.{choice_in_order_of_greediness, range_swapped_if_leftwards, iterate_or_leave_at_loop_head, effect_at_iteration_end, loop_again_effect, test_of, read_bytes, backref_read, read_group, char_loop_states, scan, act_on, act, after_lookaround, search}
+use Rattle.regress_machine.specs.Machine.{LoopData, State, Thread, running, waiting, Next, goes, state_with_ip, state_at_next_ip, with_some, only_if, go_if, first_running_and_others_waiting}
+use Rattle.regress_machine.specs.Machine.{occurs_beside_offset, offset_moved_in_direction, read_one, stay_if}
+use Rattle.regress_machine.specs.Machine.{choice_in_order_of_greediness, range_swapped_if_leftwards, iterate_or_leave_at_loop_head, effect_at_iteration_end, loop_again_effect, test_of, read_bytes}
+use Rattle.regress_machine.specs.Machine.{backref_read, read_group, char_loop_states, scan, act_on, act, after_lookaround, search}
 use Rattle.regress_machine.proofs.NearestCharacterLemmas.{Beside, nothing_left, one_more, beside, length-nearest}
 use Rattle.regress_machine.proofs.UnchangedGroupsAndLoops.{slice_get-set_same, slice_get-set_other}
 use Rattle.regress_machine.proofs.OffsetsInsideText.{act-inside, offset-inside, NextIn}
@@ -26,8 +30,10 @@ use Rattle.regress_machine.proofs.CharLoopRepetitions.{numbers_between}
 use Rattle.regress_machine.proofs.AdjacentCharacterLemmas.{stands-length}
 use Rattle.regress_machine.proofs.AdjacentCharacterBytes.{starts-stands}
 use Rattle.regress_memo.specs.ThreadBisimulation.{AlikeThreads, AlikeEnds, AlikeAnswers, AreAlikeLookaroundSearches, AlikeNext, IsBisimulation}
-use Rattle.regress_memo.specs.Liveness.{Liveness, IsConsistentEdge, IsConsistentPlainEdge, none, IsUnlimited, LoopCountDecidesExit, by_count, by_minimum, never_empty, IsConsistentIterationStart, IsConsistentIterationEnd, outermost, IsKeptIn}
-use Rattle.regress_memo.specs.Liveness.{IsRepeated, IsConsistentLookaround, IsSoundLivenessAt, IsNotAheadInDirection, units_left_in_direction, IsSound, Similar, SimilarAt, World, Agree, IsLivenessFor, LiveDataDecideSearchResult, LiveDataDecideThreadLists}
+use Rattle.regress_memo.specs.Liveness.{Liveness, IsConsistentEdge, IsConsistentPlainEdge, none, IsUnlimited, LoopCountDecidesExit, by_count, by_minimum, never_empty, IsConsistentIterationStart}
+use Rattle.regress_memo.specs.Liveness.{IsConsistentIterationEnd, outermost, IsKeptIn}
+use Rattle.regress_memo.specs.Liveness.{IsRepeated, IsConsistentLookaround, IsSoundLivenessAt, IsNotAheadInDirection, units_left_in_direction, IsSound, Similar, SimilarAt, World, Agree}
+use Rattle.regress_memo.specs.Liveness.{IsLivenessFor, LiveDataDecideSearchResult, LiveDataDecideThreadLists}
 use Rattle.regress_memo.proofs.ThreadBisimulationLemmas.{end-alike}
 
 -- ---- Disjunctions of tests

@@ -13,7 +13,8 @@ use Rattle.regress_memo.specs.MemoKeys.{SamePlace}
 use Rattle.regress_memo.specs.DistinctLists.{IsIn}
 use Rattle.regress_memo.specs.MemoSearch.{Key}
 use Rattle.regress_memo.specs.ThreadPotentials.{Shape, is_same_direction, stands_there, has_shape}
-use Rattle.regress_memo.specs.LoopDataKeyCodes.{Question, is_empty, how_many, number_of_possible_answers, bool_as_digit, answer_to_loop_question, code_of, codes_of, plan_code, plan_codes, AsksAll, HasSlotsOfProgram, key_of, shape_of_only_thread_of_key, ThreadHasKey, KeyCodesDistinguishLoopData}
+use Rattle.regress_memo.specs.LoopDataKeyCodes.{Question, is_empty, how_many, number_of_possible_answers, bool_as_digit, answer_to_loop_question, code_of, codes_of, plan_code, plan_codes, AsksAll}
+use Rattle.regress_memo.specs.LoopDataKeyCodes.{HasSlotsOfProgram, key_of, shape_of_only_thread_of_key, ThreadHasKey, KeyCodesDistinguishLoopData}
 use Rattle.regress_memo.proofs.MemoKeyLemmas.{unasked-count}
 
 -- ---- Digits of equal codes

@@ -10,8 +10,10 @@ use Rattle.regress_machine.specs.ThreadSimulation.{Within, Simulates, AllFindNot
 use Rattle.regress_machine.proofs.ThreadSimulationLemmas.{within-start, within-simulates, simulates-fewer, simulates-then, simulates-before}
 use Rattle.regress_memo.specs.Liveness.{Liveness, IsLivenessFor}
 use Rattle.regress_memo.specs.DistinctLists.{IsIn, IsNew, AreDistinct, AreIn}
-use Rattle.regress_memo.specs.MemoSearch.{Key, Keys, Entry, one_thread, thread_group, key_record, IsBare, thread_entries, threads_in, keys_in, offset_of_thread, AreOnward, GoesOnward, HoldsInvariant, InvariantKeepingSteps, StepsKeepInvariant}
-use Rattle.regress_memo.specs.MemoSearch.{entry_potential, Answers, KeyStandsFor, AreKeys, Fails, IsKnown, known_to_fail, IsMemory, AreRightKeyRecords, AreAnswered, IsOpened, AreOpened, IsMemoStep, ReachesBySteps, at_first, gives, reaches, learns, PendingRecordsStayRight}
+use Rattle.regress_memo.specs.MemoSearch.{Key, Keys, Entry, one_thread, thread_group, key_record, IsBare, thread_entries, threads_in, keys_in, offset_of_thread, AreOnward, GoesOnward, HoldsInvariant}
+use Rattle.regress_memo.specs.MemoSearch.{InvariantKeepingSteps, StepsKeepInvariant}
+use Rattle.regress_memo.specs.MemoSearch.{entry_potential, Answers, KeyStandsFor, AreKeys, Fails, IsKnown, known_to_fail, IsMemory, AreRightKeyRecords, AreAnswered, IsOpened, AreOpened, IsMemoStep}
+use Rattle.regress_memo.specs.MemoSearch.{ReachesBySteps, at_first, gives, reaches, learns, PendingRecordsStayRight}
 use Rattle.regress_memo.specs.MemoSearch.{RightwardSearchesNeverMoveLeft, KeepsResultWithinPotential, WorkIsBounded}
 use Rattle.regress_memo.specs.StepSoundness.{IsSoundStep}
 use Rattle.regress_memo.specs.SuccessOfThreadLists.{KeyFailsWhenRecordReached}

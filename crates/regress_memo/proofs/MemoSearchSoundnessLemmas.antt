@@ -8,7 +8,8 @@ use Rattle.regress_machine.specs.Machine.{Thread, Found, search}
 use Rattle.regress_machine.specs.ThreadSimulation.{Within, Simulates}
 use Rattle.regress_machine.proofs.ThreadSimulationLemmas.{within-start, within-simulates, simulates-fewer, simulates-same}
 use Rattle.regress_memo.specs.Liveness.{Liveness, IsLivenessFor}
-use Rattle.regress_memo.specs.MemoSearch.{Key, Keys, Entry, one_thread, thread_group, key_record, thread_entries, threads_in, keys_in, IsBare, KeyStandsFor, AreKeys, Fails, Succeeds, FindEnd, AreRightKeyRecords, AreAnswered, AreOpened}
+use Rattle.regress_memo.specs.MemoSearch.{Key, Keys, Entry, one_thread, thread_group, key_record, thread_entries, threads_in, keys_in, IsBare, KeyStandsFor, AreKeys, Fails, Succeeds, FindEnd}
+use Rattle.regress_memo.specs.MemoSearch.{AreRightKeyRecords, AreAnswered, AreOpened}
 use Rattle.regress_memo.specs.MemoSearchSoundness.{RemainsSound, AreComing, ReplacesSoundly, SearchesStaySound}
 use Rattle.regress_memo.proofs.MemoSearchLemmas.{threads-tries, threads-joined, noted-stay, noted-below, noted-none, answered-joined, answered-below, answered-none, answers-first, fails-all}
 use Rattle.regress_memo.proofs.SharedMemoLookaroundLemmas.{begins-found, found-shared}

@@ -15,7 +15,8 @@ use Rattle.regress_machine.proofs.NearestCharacterLemmas.{moved-zero}
 use Rattle.regress_machine.specs.CharLoopExitStatesByPreference.{behind}
 use Rattle.regress_memo.specs.Liveness.{Agree, outermost}
 use Rattle.regress_memo.specs.DistinctLists.{IsIn, IsNew, AreDistinct}
-use Rattle.regress_memo.specs.LoopDataKeyCodes.{Question, is_empty, how_many, number_of_possible_answers, bool_as_digit, answer_to_loop_question, code_of, plan_code, plan_codes, key_of, shape_of_only_thread_of_key, HasSlotsOfProgram}
+use Rattle.regress_memo.specs.LoopDataKeyCodes.{Question, is_empty, how_many, number_of_possible_answers, bool_as_digit, answer_to_loop_question, code_of, plan_code, plan_codes, key_of}
+use Rattle.regress_memo.specs.LoopDataKeyCodes.{shape_of_only_thread_of_key, HasSlotsOfProgram}
 use Rattle.regress_memo.specs.UnboundedCharLoopMemoKeys.{row_by, plan_rows, char_loop_greediness_at, insn_before, CharLoopRecords, run_key}
 use Rattle.regress_memo.specs.MemoPlanChecksAndGuarantees.{plan_steps_below_record}
 use Rattle.regress_memo.specs.MemoSearch.{Key, KeyStandsFor, IsKnown, known_to_fail, known_to_reach}

@@ -12,11 +12,13 @@ use Rattle.regex_meaning.specs.Text.{Text, rightwards, next_character, moved, ch
 use Rattle.regex_meaning.specs.CodeUnitOffsets.{HasRisingPlaceOffsets, offset, place_at}
 use Rattle.regex_meaning.specs.Outcomes.{is_some_and}
 use Rattle.regex_meaning.specs.OutcomesWithStepTicks.{nearest_first}
-use Rattle.regex_meaning.specs.CompilationRelation.{Program, Insn, Goal, JustFail, Char, CharSet, ByteSet, ByteSeq, AsciiBracket, Bracket, MatchAny, MatchAnyExceptLineTerminator, Alt, Jump, EnterLoop, LoopAgain, ResetCaptureGroup, Loop1CharBody}
+use Rattle.regex_meaning.specs.CompilationRelation.{Program, Insn, Goal, JustFail, Char, CharSet, ByteSet, ByteSeq, AsciiBracket, Bracket, MatchAny, MatchAnyExceptLineTerminator, Alt, Jump}
+use Rattle.regex_meaning.specs.CompilationRelation.{EnterLoop, LoopAgain, ResetCaptureGroup, Loop1CharBody}
 use Rattle.regex_meaning.specs.CompilationRelation.{BeginCaptureGroup, EndCaptureGroup, BackRef, Lookahead, Lookbehind}
 use Rattle.regex_meaning.proofs.BoolLemmas.{and-left}
 use Rattle.regex_meaning.proofs.CodeUnitOffsetsLemmas.{offset-place_at}
-use Rattle.regress_machine.specs.Machine.{State, Thread, running, waiting, Next, with_some, go, test_of, next_insn_at_place, occurs_beside_offset, read_one, stay_if, read_group, char_loop_states, scan, act_on}
+use Rattle.regress_machine.specs.Machine.{State, Thread, running, waiting, Next, with_some, go, test_of, next_insn_at_place, occurs_beside_offset, read_one, stay_if, read_group, char_loop_states}
+use Rattle.regress_machine.specs.Machine.{scan, act_on}
 use Rattle.regress_machine.proofs.NearestCharacterLemmas.{length-nearest}
 use Rattle.regress_machine.proofs.CharLoopRepetitions.{numbers_between}
 use Rattle.regress_machine.proofs.StatesInEffects.{IsOfThread, IsOfNext, of-in_turn, of-with_some, of-only_if, of-go_if, of-map, of-loop_turn, of-again_at}

@@ -6,7 +6,8 @@ use Rattle.regex_meaning.specs.Text.{Text, Direction, rightwards, leftwards}
 use Rattle.regex_meaning.specs.CodeUnitOffsets.{units}
 use Rattle.regex_meaning.specs.CompilationRelation.{Program, Insn, Lookahead, Lookbehind}
 use Rattle.regex_meaning.proofs.OptionLemmas.{some-same}
-use Rattle.regress_machine.specs.Machine.{LoopData, State, Thread, running, waiting, asks, Found, after_lookaround, state_with_ip, state_at_next_ip, act_on, act, search, Next, goes, scans, ends, stuck}
+use Rattle.regress_machine.specs.Machine.{LoopData, State, Thread, running, waiting, asks, Found, after_lookaround, state_with_ip, state_at_next_ip, act_on, act, search, Next, goes, scans, ends}
+use Rattle.regress_machine.specs.Machine.{stuck}
 use Rattle.regress_machine.proofs.MachineSearchLemmas.{asked-inner}
 use Rattle.regress_machine.specs.ThreadSimulation.{Simulates}
 use Rattle.regress_machine.proofs.ThreadSimulationLemmas.{simulates-asks, simulates-fewer}

@@ -14,7 +14,8 @@ use Rattle.regress_memo.specs.ThreadPotentials.{Potentials, potential_of}
 use Rattle.regress_memo.specs.LoopDataKeyCodes.{Question, key_of}
 use Rattle.regress_memo.specs.CharLoopExitThreadLists.{passing, greedy_loop_threads, pending_loop_threads}
 use Rattle.regress_memo.specs.UnboundedCharLoops.{key_behind}
-use Rattle.regress_memo.specs.AmortizedStepCosts.{potential_by, IsCostCovered, AreCostsCovered, GreedyLoopIsCovered, LazyLoopIsCovered, ThreadIsPaid, places_from, key_on, RunTurnsArePaid, StepCostsAreCovered}
+use Rattle.regress_memo.specs.AmortizedStepCosts.{potential_by, IsCostCovered, AreCostsCovered, GreedyLoopIsCovered, LazyLoopIsCovered, ThreadIsPaid, places_from, key_on, RunTurnsArePaid}
+use Rattle.regress_memo.specs.AmortizedStepCosts.{StepCostsAreCovered}
 use Rattle.regress_memo.proofs.MemoSearchLemmas.{keys-bare, keys-tries}
 use Rattle.regress_memo.proofs.MemoPlanLemmas.{bare-tries}
 use Rattle.regress_memo.proofs.ThreadPotentialLemmas.{turns-weighed, runs-pay}

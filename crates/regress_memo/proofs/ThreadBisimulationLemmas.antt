@@ -2,7 +2,8 @@
 use Rattle.std.proofs.Common.{◌≡◌, ℕ, zero, suc, ◌+◌, List, [], ◌∷◌, ◌++◌, Option, Some, None, Bool, refl, ap, subst, arith}
 use Rattle.regex_meaning.specs.Text.{Text, Direction}
 use Rattle.regex_meaning.specs.CompilationRelation.{Program}
-use Rattle.regress_machine.specs.Machine.{State, Thread, running, waiting, Next, goes, scans, ends, asks, stuck, Found, with_steps, after_lookaround, after_lookaround_search, search_after_effect, act, search}
+use Rattle.regress_machine.specs.Machine.{State, Thread, running, waiting, Next, goes, scans, ends, asks, stuck, Found, with_steps, after_lookaround, after_lookaround_search, search_after_effect}
+use Rattle.regress_machine.specs.Machine.{act, search}
 use Rattle.regress_memo.specs.ThreadBisimulation.{Relation, AlikeThreads, AlikeAnswers, AreAlikeLookaroundSearches, AlikeNext, IsBisimulation, AlikeThreadsEndAlike}
 
 module _ (R : Relation) where

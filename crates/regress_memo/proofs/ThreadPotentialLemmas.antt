@@ -1,5 +1,6 @@
 -- The steps of an executor are memo steps, and potentials cover the threads that they leave.
-use Rattle.std.proofs.Common.{flat_map, ◌≡◌, ℕ, zero, suc, ◌+◌, ◌*◌, ◌≤◌, ◌<◌, List, [], ◌∷◌, ◌++◌, map, length, Option, Some, None, Bool, true, false, not, ◌&&◌, ◌||◌, refl, ap, ◌∙◌, sym, subst, arith, append_assoc, append-nil, sum_by, slice_get, slice_set}
+use Rattle.std.proofs.Common.{flat_map, ◌≡◌, ℕ, zero, suc, ◌+◌, ◌*◌, ◌≤◌, ◌<◌, List, [], ◌∷◌, ◌++◌, map, length, Option, Some, None, Bool, true, false, not, ◌&&◌, ◌||◌, refl, ap, ◌∙◌, sym, subst}
+use Rattle.std.proofs.Common.{arith, append_assoc, append-nil, sum_by, slice_get, slice_set}
 use Rattle.std.specs.Prelude.{if◌then◌else◌, nat_lt, nat_le, ◌==◌}
 use mathlib.Core.Logic.{inl, inr}
 use Rattle.std.proofs.lemmas.Bool.{cases_lt, eqb-true, leb-true, ltb-true}
@@ -8,10 +9,12 @@ use Rattle.regex_meaning.specs.Tree.{Sameness}
 use Rattle.regex_meaning.specs.NumberListHelpers.{numbers_from}
 use Rattle.regex_meaning.specs.Text.{Text, Direction, rightwards, leftwards}
 use Rattle.regex_meaning.specs.CodeUnitOffsets.{units, place_at}
-use Rattle.regex_meaning.specs.CompilationRelation.{Program, LoopFields, Insn, Goal, JustFail, ByteSeq, StartOfLine, EndOfLine, WordBoundary, WordBoundaryUnicodeICase, Alt, Jump, EnterLoop, LoopAgain, ResetCaptureGroup, Loop1CharBody}
+use Rattle.regex_meaning.specs.CompilationRelation.{Program, LoopFields, Insn, Goal, JustFail, ByteSeq, StartOfLine, EndOfLine, WordBoundary, WordBoundaryUnicodeICase, Alt, Jump, EnterLoop}
+use Rattle.regex_meaning.specs.CompilationRelation.{LoopAgain, ResetCaptureGroup, Loop1CharBody}
 use Rattle.regex_meaning.specs.CompilationRelation.{BeginCaptureGroup, EndCaptureGroup, BackRef, Lookahead, Lookbehind}
 use Rattle.regex_meaning.proofs.BoolLemmas.{and-left, and-right}
-use Rattle.regress_machine.specs.Machine.{State, Thread, running, waiting, Next, goes, state_with_ip, with_some, only_if, go, go_if, first_running_and_others_waiting, choice_in_order_of_greediness, stay_if, read_group, scan, act_on, act}
+use Rattle.regress_machine.specs.Machine.{State, Thread, running, waiting, Next, goes, state_with_ip, with_some, only_if, go, go_if, first_running_and_others_waiting, choice_in_order_of_greediness}
+use Rattle.regress_machine.specs.Machine.{stay_if, read_group, scan, act_on, act}
 use Rattle.regress_machine.specs.Machine.{iterate_or_leave_at_loop_head, effect_at_iteration_end, loop_again_effect, test_of, range_swapped_if_leftwards, next_insn_at_place, read_one}
 use Rattle.regress_machine.specs.ThreadSimulation.{Simulates, AllFindNothing}
 use Rattle.regress_machine.proofs.ThreadSimulationLemmas.{simulates-same, simulates-fewer, simulates-then, simulates-before}
@@ -19,9 +22,11 @@ use Rattle.regress_memo.specs.ThreadBisimulation.{AlikeThreads}
 use Rattle.regress_memo.specs.Liveness.{Liveness, Agree, outermost}
 use Rattle.regress_memo.specs.MemoKeys.{NoGroupsAreLive}
 use Rattle.regress_memo.specs.DistinctLists.{IsIn, IsNew, AreDistinct}
-use Rattle.regress_memo.specs.MemoSearch.{Key, Keys, Entry, one_thread, thread_group, key_record, IsBare, entry_potential, threads_in, keys_in, GoesOnward, KeyStandsFor, AreKeys, AreRightKeyRecords, AreOpened, IsMemoStep}
+use Rattle.regress_memo.specs.MemoSearch.{Key, Keys, Entry, one_thread, thread_group, key_record, IsBare, entry_potential, threads_in, keys_in, GoesOnward, KeyStandsFor, AreKeys, AreRightKeyRecords}
+use Rattle.regress_memo.specs.MemoSearch.{AreOpened, IsMemoStep}
 use Rattle.regress_memo.specs.StepSoundness.{IsSoundStep, StepsAreSound}
-use Rattle.regress_memo.specs.ThreadPotentials.{Potentials, potential_of, CoversOne, CoversRepeat, CoversInsn, AreCovering, is_same_direction, is_one_of, keys_of_insns_at_offsets, Shape, Distinguishes, KeysCoverRecordedExits, OffsetsAndCodesAreKeys}
+use Rattle.regress_memo.specs.ThreadPotentials.{Potentials, potential_of, CoversOne, CoversRepeat, CoversInsn, AreCovering, is_same_direction, is_one_of, keys_of_insns_at_offsets, Shape}
+use Rattle.regress_memo.specs.ThreadPotentials.{Distinguishes, KeysCoverRecordedExits, OffsetsAndCodesAreKeys}
 use Rattle.regress_memo.specs.ThreadPotentials.{stands_there, has_shape, place_keys, each_noted, AreOfEach, StepsAreMemoSteps, ThreadsLeftFitInsnPotentials}
 use Rattle.regress_memo.proofs.MemoKeyLemmas.{keys-agree, sound-state, unasked-count}
 use Rattle.regress_memo.proofs.MemoSearchLemmas.{threads-joined, keys-bare, given, turn-left}

@@ -5,7 +5,8 @@ use Rattle.std.specs.Prelude.{IsSome}
 use Rattle.regex_meaning.specs.Text.{Text, Direction}
 use Rattle.regex_meaning.specs.CompilationRelation.{Program}
 use Rattle.regex_meaning.specs.CodeUnitOffsets.{units}
-use Rattle.regress_machine.specs.Machine.{State, Thread, running, waiting, Next, goes, scans, ends, asks, stuck, Found, result_without_threads, with_steps, after_lookaround, after_lookaround_search, search_after_effect, act, search}
+use Rattle.regress_machine.specs.Machine.{State, Thread, running, waiting, Next, goes, scans, ends, asks, stuck, Found, result_without_threads, with_steps, after_lookaround, after_lookaround_search}
+use Rattle.regress_machine.specs.Machine.{search_after_effect, act, search}
 use Rattle.regress_machine.proofs.MachineSearchLemmas.{search_more}
 use Rattle.regress_machine.specs.ThreadSimulation.{FindsNothing}
 use Rattle.regress_machine.proofs.ThreadSimulationLemmas.{nothing-ends}

@@ -1,5 +1,6 @@
 -- The potentials and key costs of an analysis bound the work of all searches of a text.
-use Rattle.std.proofs.Common.{◌≡◌, ◌≤◌, ◌<◌, ℕ, zero, suc, ◌+◌, ◌*◌, List, [], ◌∷◌, Bool, true, false, if◌then◌else◌, length, map, slice_get, take, Option, Some, None, refl, ap, sym, subst, ◌∙◌, arith, sum_by}
+use Rattle.std.proofs.Common.{◌≡◌, ◌≤◌, ◌<◌, ℕ, zero, suc, ◌+◌, ◌*◌, List, [], ◌∷◌, Bool, true, false, if◌then◌else◌, length, map, slice_get, take, Option, Some, None, refl, ap, sym, subst, ◌∙◌}
+use Rattle.std.proofs.Common.{arith, sum_by}
 use mathlib.Core.Logic.{inl, inr}
 use Rattle.std.proofs.lemmas.Bool.{cases_lt}
 use Rattle.std.proofs.lemmas.List.{length-map}
@@ -22,11 +23,13 @@ use Rattle.regress_memo.proofs.WorkBudgetLemmas.{budgets-enough}
 use Rattle.regress_memo.proofs.StepCostLemmas.{one-weighs}
 use Rattle.regress_memo.specs.declared.analysis_result.MemoAnalysis.{MemoAnalysis}
 use Rattle.regress_memo.specs.declared.analysis_result.InsnAnalysis.{InsnAnalysis}
-use Rattle.regress_memo.specs.AnalysisAsPotentials.{no_insn_analysis, insn_analysis_of, analysis_as_liveness, key_code_questions_of, recorded_from, recorded, potentials_of, key_cost_of, insn_direction}
+use Rattle.regress_memo.specs.AnalysisAsPotentials.{no_insn_analysis, insn_analysis_of, analysis_as_liveness, key_code_questions_of, recorded_from, recorded, potentials_of, key_cost_of}
+use Rattle.regress_memo.specs.AnalysisAsPotentials.{insn_direction}
 use Rattle.regress_memo.specs.CheckedAnalysis.{HasDisjointCodes}
 use Rattle.regress_memo.specs.AnalysisChecks.{unlimited}
 use Rattle.regress_memo.specs.Successors.{DeclaredInsnsEqualProgramInsns, successors_of_insn_if_any}
-use Rattle.regress_memo.specs.WorkBound.{LookIsBounded, InsnIsBounded, IsStepWorkBounded, insn_keys_cost_per_position, all_keys_cost_per_position, work_per_position, initial_threads, AnalysesBoundTotalWork}
+use Rattle.regress_memo.specs.WorkBound.{LookIsBounded, InsnIsBounded, IsStepWorkBounded, insn_keys_cost_per_position, all_keys_cost_per_position, work_per_position, initial_threads}
+use Rattle.regress_memo.specs.WorkBound.{AnalysesBoundTotalWork}
 use Rattle.regress_memo.proofs.CheckedAnalysisLemmas.{ledgers-serve}
 
 -- The costs of instructions that record add up to the prices of their lines.

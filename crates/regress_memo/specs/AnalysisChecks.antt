@@ -15,7 +15,8 @@ use Rattle.regress_memo.specs.declared.successors.Successors.{Successors}
 use Rattle.regress_memo.specs.declared.successors.Successors.TheVariants.{Ends, One, Two, Enter, Again, Run, LookaroundSuccessor, Same}
 use Rattle.regress_memo.specs.declared.successors.LookaroundSuccessor as look
 use Rattle.regress_memo.specs.declared.successors.CharLoopMinMaxAndGreed as bounds
-use Rattle.regress_memo.specs.AnalysisAsPotentials.{insn_analysis_of, enclosing_loops_of, states_loop_fact, knows_iteration_reads, count_bound_of, analysis_as_liveness, key_code_questions_of, recorded, potentials_of, key_cost_of, insn_direction}
+use Rattle.regress_memo.specs.AnalysisAsPotentials.{insn_analysis_of, enclosing_loops_of, states_loop_fact, knows_iteration_reads, count_bound_of, analysis_as_liveness, key_code_questions_of}
+use Rattle.regress_memo.specs.AnalysisAsPotentials.{recorded, potentials_of, key_cost_of, insn_direction}
 use Rattle.regress_memo.specs.AnalysisAsPotentials.{groups_stay_unchanged_from, memo_codes_before_insn, number_of_memo_codes_at_insn}
 
 -- Whether `l` is the loop that is entered.

@@ -15,7 +15,8 @@ use Rattle.regress_memo.specs.MemoSearch.{Key}
 use Rattle.regress_memo.specs.declared.analysis_result.MemoAnalysis.{MemoAnalysis}
 use Rattle.regress_memo.specs.declared.loop_data_key_codes.LoopCountAndIterationStart.{LoopCountAndIterationStart}
 use Rattle.regress_memo.specs.declared.analysis_result.EnclosingLoop.{EnclosingLoop}
-use Rattle.regress_memo.specs.AnalysisAsPotentials.{insn_analysis_of, enclosing_loops_of, analysis_as_liveness, key_code_questions_of, recorded, potentials_of, key_cost_of, insn_direction, groups_stay_unchanged_from, memo_codes_before_insn, number_of_memo_codes_at_insn, memo_bit_index_of_key}
+use Rattle.regress_memo.specs.AnalysisAsPotentials.{insn_analysis_of, enclosing_loops_of, analysis_as_liveness, key_code_questions_of, recorded, potentials_of, key_cost_of, insn_direction}
+use Rattle.regress_memo.specs.AnalysisAsPotentials.{groups_stay_unchanged_from, memo_codes_before_insn, number_of_memo_codes_at_insn, memo_bit_index_of_key}
 use Rattle.regress_memo.specs.AnalysisChecks.{IsCharLoopChecked, IsConsistentAt, max_codes_per_insn}
 use Rattle.regress_memo.specs.Successors.{successors_of_insn_if_any}
 

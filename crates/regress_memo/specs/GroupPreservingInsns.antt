@@ -2,7 +2,8 @@
 -- contents of a lookaround without groups.
 use Rattle.std.specs.Prelude.{◌≡◌, ℕ, ◌+◌, Bool, true, [], ◌∷◌, length, Option, Some, None, slice_get}
 use Rattle.regex_meaning.specs.Text.{Text, Direction}
-use Rattle.regex_meaning.specs.CompilationRelation.{Program, Insn, Goal, JustFail, Alt, Jump, EnterLoop, LoopAgain, ResetCaptureGroup, Loop1CharBody, BeginCaptureGroup, EndCaptureGroup, Lookahead, Lookbehind}
+use Rattle.regex_meaning.specs.CompilationRelation.{Program, Insn, Goal, JustFail, Alt, Jump, EnterLoop, LoopAgain, ResetCaptureGroup, Loop1CharBody, BeginCaptureGroup, EndCaptureGroup, Lookahead}
+use Rattle.regex_meaning.specs.CompilationRelation.{Lookbehind}
 use Rattle.regress_machine.specs.Machine.{State, running, Found, search}
 
 module _ (silent : ℕ → Bool) where

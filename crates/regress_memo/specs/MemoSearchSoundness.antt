@@ -7,7 +7,8 @@ use Rattle.regex_meaning.specs.CompilationRelation.{Program}
 use Rattle.regress_machine.specs.Machine.{Thread, Found, search}
 use Rattle.regress_machine.specs.ThreadSimulation.{Within, Simulates}
 use Rattle.regress_memo.specs.Liveness.{Liveness, IsLivenessFor}
-use Rattle.regress_memo.specs.MemoSearch.{Key, Keys, Entry, one_thread, thread_group, key_record, thread_entries, threads_in, keys_in, IsBare, KeyStandsFor, AreKeys, Fails, Succeeds, FindEnd, AreRightKeyRecords, AreAnswered, IsMemoStep}
+use Rattle.regress_memo.specs.MemoSearch.{Key, Keys, Entry, one_thread, thread_group, key_record, thread_entries, threads_in, keys_in, IsBare, KeyStandsFor, AreKeys, Fails, Succeeds, FindEnd}
+use Rattle.regress_memo.specs.MemoSearch.{AreRightKeyRecords, AreAnswered, IsMemoStep}
 
 module _ (program : Program) (text : Text) (a : Liveness) (keys : Keys) (d : Direction) where
   -- The entries find the result `f`, and their records are right.

@@ -12,7 +12,8 @@ use Rattle.regress_machine.specs.ThreadSimulation.{Simulates, AllFindNothing}
 use Rattle.regress_memo.specs.Liveness.{Liveness, IsLivenessFor}
 use Rattle.regress_memo.specs.MemoKeys.{IsSoundState, SamePlace, SameKey, NoGroupsAreLive, OnlyPositionsAreLive}
 use Rattle.regress_memo.specs.DistinctLists.{IsNew, AreDistinct}
-use Rattle.regress_memo.specs.MemoSearch.{Key, Keys, Entry, one_thread, key_record, thread_entries, threads_in, keys_in, IsBare, entry_potential, AreOnward, GoesOnward, KeyStandsFor, AreKeys, IsMemoStep}
+use Rattle.regress_memo.specs.MemoSearch.{Key, Keys, Entry, one_thread, key_record, thread_entries, threads_in, keys_in, IsBare, entry_potential, AreOnward, GoesOnward, KeyStandsFor, AreKeys}
+use Rattle.regress_memo.specs.MemoSearch.{IsMemoStep}
 
 -- ---- Potentials
 

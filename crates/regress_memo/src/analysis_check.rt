@@ -6,7 +6,8 @@ ghost use Rattle.regress_program.specs.InsnsAsSpec.{insn_as_spec_insn, loop_fiel
 ghost use Rattle.regress_memo.specs.ThreadPotentials.{CoversOne, CoversTwo};
 ghost use Rattle.regress_memo.specs.AnalysisAsPotentials.{enclosing_loops_of, insn_analysis_of, groups_stay_unchanged_from, potentials_of, states_loop_fact, knows_iteration_reads};
 ghost use Rattle.regress_memo.specs.Successors.{DeclaredInsnsEqualProgramInsns, successors_of_insn_if_any};
-ghost use Rattle.regress_memo.specs.AnalysisChecks.{is_entered, LoopFactsFlow, AllLoopFactsFlow, IsConsistentFlow, MayBeginIteration, MayRepeatLoop, MayEndIteration, MayRepeatLoopAt, CountDecides, LoopsAreBefore, IsolatesLookaround, IsConsistentAt, IsCoveredAt, IsInsnCostCovered};
+ghost use Rattle.regress_memo.specs.AnalysisChecks.{is_entered, LoopFactsFlow, AllLoopFactsFlow, IsConsistentFlow, MayBeginIteration, MayRepeatLoop, MayEndIteration, MayRepeatLoopAt, CountDecides};
+ghost use Rattle.regress_memo.specs.AnalysisChecks.{LoopsAreBefore, IsolatesLookaround, IsConsistentAt, IsCoveredAt, IsInsnCostCovered};
 ghost use Rattle.regress_memo.specs.AnalysisChecks.{IsCharLoopChecked, IsInsnChecked};
 ghost use Rattle.regress_memo.specs.CheckedAnalysis.{IsAnalysisOf, HasDisjointCodes, FirstInsnForwardOutsideLoops};
 

@@ -1,7 +1,8 @@
 //! The memo analysis of a program: what it states about each instruction and each loop.
 
 ghost use Rattle.std.specs.Prelude.{◌≡◌, true};
-ghost use Rattle.regress_memo.specs.AnalysisAsPotentials.{no_insn_analysis, insn_analysis_of, enclosing_loops_of, undistinguished_count_bound, count_bound_of, enclosing_loop_has_fact, states_loop_fact};
+ghost use Rattle.regress_memo.specs.AnalysisAsPotentials.{no_insn_analysis, insn_analysis_of, enclosing_loops_of, undistinguished_count_bound, count_bound_of, enclosing_loop_has_fact};
+ghost use Rattle.regress_memo.specs.AnalysisAsPotentials.{states_loop_fact};
 
 use regex_pattern_front::types::LoopID;
 

@@ -15,7 +15,8 @@ use Rattle.regress_machine.proofs.GroupAndAssertionOutcomes.{map-set}
 use Rattle.regress_machine.proofs.InsnsNotStuck.{by-some, can-then, can-only, by-only}
 use Rattle.regress_pikevm.specs.declared.pikevm.states.State.{State}
 use Rattle.regress_pikevm.specs.States.{offset_range_of_group, groups_as_offset_ranges, loop_data_in_offsets, machine_state_of, states_by_priority}
-use Rattle.regress_machine.specs.InsnEffects.{state_after_char_loop_to_offset, IsReached, IsNotStuck, begin_capture_group_effect, end_capture_group_effect, reset_capture_group_effect, body_entered_with_iteration_count}
+use Rattle.regress_machine.specs.InsnEffects.{state_after_char_loop_to_offset, IsReached, IsNotStuck, begin_capture_group_effect, end_capture_group_effect, reset_capture_group_effect}
+use Rattle.regress_machine.specs.InsnEffects.{body_entered_with_iteration_count}
 
 -- ---- Groups and loops
 

@@ -290,13 +290,17 @@ type AsciiExecutorForAsciiPikeVM = <OverAscii as Executor<'static, 'static>>::As
 /// A law: the `AsAscii` of the executor for UTF-8 can search each ASCII text, and reads each byte
 /// as a character.
 pub fn ascii_is_read_in_bytes()
-    ensures takes { CanSearchAllAsciiTexts ⟦<AsciiExecutorForUtf8PikeVM as ProducerFromProgramAndText<'static>>⟧.can_search }
-    ensures reads { ReadsBytesAsAscii ⟦<AsciiExecutorForUtf8PikeVM as ProducerFromProgramAndText<'static>>⟧.text_of }
+    ensures takes { CanSearchAllAsciiTexts
+        ⟦<AsciiExecutorForUtf8PikeVM as ProducerFromProgramAndText<'static>>⟧.can_search }
+    ensures reads { ReadsBytesAsAscii
+        ⟦<AsciiExecutorForUtf8PikeVM as ProducerFromProgramAndText<'static>>⟧.text_of }
 {}
 
 /// A law: the `AsAscii` of the executor for ASCII can search each ASCII text, and reads each byte
 /// as a character.
 pub fn ascii_stays_in_bytes()
-    ensures takes { CanSearchAllAsciiTexts ⟦<AsciiExecutorForAsciiPikeVM as ProducerFromProgramAndText<'static>>⟧.can_search }
-    ensures reads { ReadsBytesAsAscii ⟦<AsciiExecutorForAsciiPikeVM as ProducerFromProgramAndText<'static>>⟧.text_of }
+    ensures takes { CanSearchAllAsciiTexts
+        ⟦<AsciiExecutorForAsciiPikeVM as ProducerFromProgramAndText<'static>>⟧.can_search }
+    ensures reads { ReadsBytesAsAscii
+        ⟦<AsciiExecutorForAsciiPikeVM as ProducerFromProgramAndText<'static>>⟧.text_of }
 {}

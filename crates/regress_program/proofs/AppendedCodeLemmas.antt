@@ -4,11 +4,13 @@ use Rattle.std.proofs.Common.{◌≡◌, ℕ, ◌+◌, ◌-◌, ◌<◌, ◌^◌
 use Rattle.std.proofs.Math.Seq.{set-append_seam}
 use Rattle.std.proofs.lemmas.List.{length-map, length-reverse}
 use Rattle.regex_meaning.specs.NumberListHelpers.{numbers_from}
-use Rattle.regex_meaning.specs.Tree.{BracketContents, Quantifier, Lookaround, Node, empty, goal, char, char_set, byte_set, byte_sequence, cat, end_of_cat, alt, bracket, string_set, match_any, match_any_except_line_terminator, anchor, word_boundary}
+use Rattle.regex_meaning.specs.Tree.{BracketContents, Quantifier, Lookaround, Node, empty, goal, char, char_set, byte_set, byte_sequence, cat, end_of_cat, alt, bracket, string_set, match_any}
+use Rattle.regex_meaning.specs.Tree.{match_any_except_line_terminator, anchor, word_boundary}
 use Rattle.regex_meaning.specs.Tree.{capture_group, back_ref, lookaround, loop, loop_1_char_body}
 use Rattle.regex_meaning.specs.Outcomes.{max_iterations, in_intervals}
 use Rattle.regex_meaning.specs.StartPredicate.{bytes_that_pass}
-use Rattle.regex_meaning.specs.CompilationRelation.{Insn, AsciiBracket, Bracket, is_uninverted_ascii_class, Alt, Jump, EnterLoop, LoopAgain, Loop1CharBody, Goal, BeginCaptureGroup, lookaround_insn, EndCaptureGroup, ByteSeq, ResetCaptureGroup, reversed_if_in_lookbehind, chunks}
+use Rattle.regex_meaning.specs.CompilationRelation.{Insn, AsciiBracket, Bracket, is_uninverted_ascii_class, Alt, Jump, EnterLoop, LoopAgain, Loop1CharBody, Goal, BeginCaptureGroup, lookaround_insn}
+use Rattle.regex_meaning.specs.CompilationRelation.{EndCaptureGroup, ByteSeq, ResetCaptureGroup, reversed_if_in_lookbehind, chunks}
 use Rattle.regress_program.specs.CompilationOfTreesAsFunction.{node_insn_count, strings_size, loop_count, brackets_of, string_code, strings_code, group_reset_insns, code_of}
 use Rattle.regress_program.specs.EmitterStateAndAppendedCode.{EmitterState, HasIndexRoomForNode, with_code, with_insn_appended, with_insns_appended, with_insn_at, with_loop, with_bracket_table_entry}
 use Rattle.regex_meaning.proofs.ListLemmas.{length-numbers_from}

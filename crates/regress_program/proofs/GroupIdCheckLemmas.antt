@@ -1,13 +1,16 @@
 -- The check of a tree accepts exactly the trees that are well formed, with distinct group ids.
-use Rattle.std.proofs.Common.{◌≡◌, ℕ, zero, suc, ◌+◌, ◌-◌, ◌/◌, ◌^◌, ◌<◌, ◌≤◌, min, max, Bool, true, false, not, ◌&&◌, ◌||◌, List, [], ◌∷◌, ◌++◌, length, replicate, refl, sym, ap, ap₂, ◌∙◌, arith, ⊎_elim, length-append, length-set}
+use Rattle.std.proofs.Common.{◌≡◌, ℕ, zero, suc, ◌+◌, ◌-◌, ◌/◌, ◌^◌, ◌<◌, ◌≤◌, min, max, Bool, true, false, not, ◌&&◌, ◌||◌, List, [], ◌∷◌, ◌++◌, length, replicate, refl, sym, ap, ap₂, ◌∙◌, arith}
+use Rattle.std.proofs.Common.{⊎_elim, length-append, length-set}
 use Rattle.std.specs.Prelude.{if◌then◌else◌, nat_eq, nat_lt, nat_le, ◌==◌, count_by}
 use Rattle.std.specs.List.{list_all}
-use Rattle.std.proofs.lemmas.Bool.{cases_eq, cases_lt, ne_eqb, eq-eqb, eqb-true, lt-ltb, le-ltb, le-leb, leb-true, and_from, or_right, or_left, or_cases, or_from, not-true, false_from_ne_true, false≢true}
+use Rattle.std.proofs.lemmas.Bool.{cases_eq, cases_lt, ne_eqb, eq-eqb, eqb-true, lt-ltb, le-ltb, le-leb, leb-true, and_from, or_right, or_left, or_cases, or_from, not-true, false_from_ne_true}
+use Rattle.std.proofs.lemmas.Bool.{false≢true}
 use Rattle.std.proofs.lemmas.List.{length-replicate}
 use Rattle.std.proofs.lemmas.List.Sums.{sum_by-cons}
 use Rattle.regex_meaning.specs.NumberListHelpers.{contains, numbers_from}
 use Rattle.regex_meaning.specs.Tree.{Node, cat, alt, capture_group, lookaround, loop, loop_1_char_body, group_ids, every_node_passes}
-use Rattle.regex_meaning.specs.WellFormedTrees.{range_is_ids_of_enclosed_groups, each_id_stands_once, IsWellFormed, only_goal_node_is_last, has_exact_group_range, refers_to_a_group, has_order_in_quantifier, has_one_character_body, has_text_in_sequence, set_sizes_and_characters_fit_instructions}
+use Rattle.regex_meaning.specs.WellFormedTrees.{range_is_ids_of_enclosed_groups, each_id_stands_once, IsWellFormed, only_goal_node_is_last, has_exact_group_range, refers_to_a_group}
+use Rattle.regex_meaning.specs.WellFormedTrees.{has_order_in_quantifier, has_one_character_body, has_text_in_sequence, set_sizes_and_characters_fit_instructions}
 use Rattle.regex_meaning.proofs.WellFormedTreesLemmas.{clauses, by_clauses}
 use Rattle.regex_meaning.proofs.StartPredicateLemmas.{all-contains}
 use Rattle.regex_pattern_front.proofs.BitmapLemmas.{has_bit, with_bit, no-bits, bit-set}
@@ -15,7 +18,8 @@ use Rattle.regex_pattern_front.proofs.ByteSetMemberLemmas.{contains-numbers_from
 use Rattle.regress_program.specs.LeafNodesAndOptimizableLoops.{is_leaf}
 use Rattle.regress_program.specs.GroupIdSpans.{group_id_span_as_numbers}
 use Rattle.regress_program.specs.declared.emit.group_id_and_range_check.GroupIdCountAndBounds as spans
-use Rattle.regress_program.specs.GroupIdCheck.{is_outside_bitmap, is_group_id_seen, are_distinct_unseen, least_group_id, end_of_group_ids, GroupIdCountAndSpanNumbers, count_and_span_of_group_ids, joined, has_exact_group_ids, is_well_formed_node}
+use Rattle.regress_program.specs.GroupIdCheck.{is_outside_bitmap, is_group_id_seen, are_distinct_unseen, least_group_id, end_of_group_ids, GroupIdCountAndSpanNumbers, count_and_span_of_group_ids}
+use Rattle.regress_program.specs.GroupIdCheck.{joined, has_exact_group_ids, is_well_formed_node}
 use Rattle.regex_meaning.proofs.BoolLemmas.{or-false-left, or-false-right, same-truth, and-left, and-right}
 use Rattle.std.proofs.Math.Bool.{or-false, or_assoc, and-true, and_assoc}
 use Rattle.regex_meaning.proofs.ListLemmas.{list_all-members, contains-append}

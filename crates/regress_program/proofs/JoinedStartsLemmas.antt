@@ -1,12 +1,14 @@
 -- Joining the abstract starts of the nodes of a tree yields its start predicate.
-use Rattle.std.proofs.Common.{◌≡◌, ℕ, ◌+◌, ◌<◌, ◌≤◌, Bool, true, false, not, ◌&&◌, ◌||◌, List, [], ◌∷◌, ◌++◌, length, take, drop, get_or, refl, sym, ap, ◌∙◌, arith, append-nil, drop-cons, Result, IfOk}
+use Rattle.std.proofs.Common.{◌≡◌, ℕ, ◌+◌, ◌<◌, ◌≤◌, Bool, true, false, not, ◌&&◌, ◌||◌, List, [], ◌∷◌, ◌++◌, length, take, drop, get_or, refl, sym, ap, ◌∙◌, arith, append-nil, drop-cons, Result}
+use Rattle.std.proofs.Common.{IfOk}
 use Rattle.std.specs.Prelude.{if◌then◌else◌, nat_lt, ◌==◌}
 use Rattle.std.proofs.lemmas.List.{drop_all}
 use Rattle.std.proofs.lemmas.Result.{IfOk-weaker}
 use Rattle.std.proofs.lemmas.Bool.{ne_eqb, or_parts, eqb-true}
 use Rattle.regex_meaning.specs.Tree.{Node, byte_sequence, cat, alt, capture_group, loop, loop_1_char_body, Tree}
 use Rattle.regex_meaning.specs.WellFormedTrees.{IsWellFormed}
-use Rattle.regex_meaning.specs.StartPredicate.{AbstractStartPredicate, open_ended, arbitrary, sequence, one_of, first_not_open_ended, join, abstract_start_predicate, common_prefix_or_first_bytes, start_predicate, start_arbitrary, start_byte_set, start_anchored, IsSoundStartPredicateOf}
+use Rattle.regex_meaning.specs.StartPredicate.{AbstractStartPredicate, open_ended, arbitrary, sequence, one_of, first_not_open_ended, join, abstract_start_predicate, common_prefix_or_first_bytes}
+use Rattle.regex_meaning.specs.StartPredicate.{start_predicate, start_arbitrary, start_byte_set, start_anchored, IsSoundStartPredicateOf}
 use Rattle.regex_meaning.specs.StartPredicate.{common_prefix, union_of_byte_sets, first_byte_as_set, is_anchored, StartPredicate, resolved_start_predicate}
 use Rattle.regex_meaning.proofs.StartPredicateSoundness.{predicate-sound}
 use Rattle.regress_program.proofs.NodeKindLemmas.{leaf-bare}

@@ -1,5 +1,6 @@
 -- A leap that passes the check of a plan's operations is sound for the program.
-use Rattle.std.proofs.Common.{◌≡◌, ◌<◌, ◌≤◌, ℕ, zero, suc, ◌+◌, ◌-◌, ◌/◌, ◌%◌, Bool, true, false, ◌||◌, Option, Some, None, List, [], ◌∷◌, length, slice_get, get_or, refl, ap, ◌∙◌, sym, subst, arith, inl, inr, append-nil}
+use Rattle.std.proofs.Common.{◌≡◌, ◌<◌, ◌≤◌, ℕ, zero, suc, ◌+◌, ◌-◌, ◌/◌, ◌%◌, Bool, true, false, ◌||◌, Option, Some, None, List, [], ◌∷◌, length, slice_get, get_or, refl, ap, ◌∙◌, sym, subst, arith}
+use Rattle.std.proofs.Common.{inl, inr, append-nil}
 use mathlib.Core.Logic.{◌⊎◌}
 use Rattle.std.specs.Prelude.{min, nat_le, if◌then◌else◌, slice_index_or}
 use Rattle.std.specs.Char.{encode_utf8 as encode}

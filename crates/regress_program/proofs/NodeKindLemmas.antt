@@ -6,7 +6,8 @@ use Rattle.regex_meaning.specs.MatchGroupsByNumberAndName.{capturing_group_ids_a
 use Rattle.regex_meaning.specs.StartPredicate.{abstract_start_predicate}
 use Rattle.regex_pattern_front.specs.AstToSpecTree.{spec_node_of}
 use Rattle.regex_pattern_front.specs.declared.ir.Node.{Node}
-use Rattle.regex_pattern_front.specs.declared.ir.Node.TheVariants.{Goal, CharSet, ByteSet, ByteSequence, Cat, Alt, StringSet, CaptureGroup, LookaroundAssertion, BackRef, CanonicalBackRef, Loop, Loop1CharBody, rolls-Cat, rolls-Alt}
+use Rattle.regex_pattern_front.specs.declared.ir.Node.TheVariants.{Goal, CharSet, ByteSet, ByteSequence, Cat, Alt, StringSet, CaptureGroup, LookaroundAssertion, BackRef, CanonicalBackRef, Loop}
+use Rattle.regex_pattern_front.specs.declared.ir.Node.TheVariants.{Loop1CharBody, rolls-Cat, rolls-Alt}
 use Rattle.regex_pattern_front.specs.declared.ir.Node.TheVariants.{rolls-CaptureGroup, rolls-LookaroundAssertion, rolls-Loop, rolls-Loop1CharBody}
 use Rattle.regex_pattern_front.specs.declared.ir.Node.TheOpen.{Node-F}
 use Rattle.regex_pattern_front.specs.declared.ir.Node.TheViews.{roll-Node}

@@ -11,7 +11,8 @@ use Rattle.regex_pattern_front.specs.AstToSpecTree.{spec_node_of}
 use Rattle.regex_pattern_front.specs.declared.ir.Node as ir
 use Rattle.regress_program.specs.InnerNodeCountMeasure.{inner_node_count}
 use Rattle.regress_program.specs.CompilationOfTreesAsFunction.{group_reset_insns}
-use Rattle.regress_program.specs.EmitterStateAndAppendedCode.{EmitterState, HasIndexRoomForNode, node_with_char_loops_if_enabled, with_code, with_insn_appended, with_insns_appended, with_insn_at, with_loop}
+use Rattle.regress_program.specs.EmitterStateAndAppendedCode.{EmitterState, HasIndexRoomForNode, node_with_char_loops_if_enabled, with_code, with_insn_appended, with_insns_appended, with_insn_at}
+use Rattle.regress_program.specs.EmitterStateAndAppendedCode.{with_loop}
 use Rattle.regress_program.specs.LeafNodesAndOptimizableLoops.{spec_cat_of_children, is_leaf}
 use Rattle.regress_program.specs.PendingEmission.{EmitWork, FitsIndexWidths, CanEmitPendingPart, ExpandsPending, with_arm_end, with_jump, with_alternatives_emitted, with_lookaround_end, with_loop_end}
 use Rattle.regress_program.specs.PendingEmission.{with_pending, with_all_pending, is_emittable, are_emittable, node_measure, pending_measure, total_measure}

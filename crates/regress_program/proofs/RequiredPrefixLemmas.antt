@@ -1,5 +1,6 @@
 -- The prefix that the analysis derives from the operations is required where a match starts.
-use Rattle.std.proofs.Common.{◌≡◌, ◌≢◌, ◌<◌, ◌≤◌, ℕ, zero, suc, ◌+◌, ◌-◌, ◌*◌, ◌/◌, ◌%◌, ◌^◌, min, max, Bool, true, false, not, ◌&&◌, ◌||◌, Option, Some, None, List, length, slice_get, slice_set, get_or, refl, sym, ap, ◌∙◌, subst, arith, bit_and, div-add-mod', pow_pos}
+use Rattle.std.proofs.Common.{◌≡◌, ◌≢◌, ◌<◌, ◌≤◌, ℕ, zero, suc, ◌+◌, ◌-◌, ◌*◌, ◌/◌, ◌%◌, ◌^◌, min, max, Bool, true, false, not, ◌&&◌, ◌||◌, Option, Some, None, List, length, slice_get, slice_set}
+use Rattle.std.proofs.Common.{get_or, refl, sym, ap, ◌∙◌, subst, arith, bit_and, div-add-mod', pow_pos}
 use mathlib.Core.Logic.{◌⊎◌, inl, inr}
 use Rattle.std.specs.Prelude.{◌==◌, if◌then◌else◌, slice_index, slice_index_or}
 use Rattle.std.specs.Int.{bit_at}
@@ -10,7 +11,8 @@ use Rattle.std.proofs.lemmas.List.{get_or_past, get_or-set_other, length-set}
 use Rattle.std.proofs.lemmas.Option.{slice_get-get_or, slice_get_within}
 use Rattle.regex_meaning.specs.Text.{Text}
 use Rattle.regex_meaning.specs.CodeUnits.{Encoding, code_units_of_character}
-use Rattle.regex_meaning.specs.CompilationRelation.{Program, Insn, Char, CharSet, ByteSet, AsciiBracket, Bracket, MatchAny, MatchAnyExceptLineTerminator, StartOfLine, WordBoundary, WordBoundaryUnicodeICase, Jump, EnterLoop, Loop1CharBody, ResetCaptureGroup}
+use Rattle.regex_meaning.specs.CompilationRelation.{Program, Insn, Char, CharSet, ByteSet, AsciiBracket, Bracket, MatchAny, MatchAnyExceptLineTerminator, StartOfLine, WordBoundary}
+use Rattle.regex_meaning.specs.CompilationRelation.{WordBoundaryUnicodeICase, Jump, EnterLoop, Loop1CharBody, ResetCaptureGroup}
 use Rattle.regex_meaning.specs.CompilationRelation.{BeginCaptureGroup, EndCaptureGroup, Lookahead, Lookbehind}
 use Rattle.regex_meaning.proofs.OptionLemmas.{some-same}
 use Rattle.regress_machine.specs.Machine.{test_of}
@@ -36,7 +38,8 @@ use Rattle.regress_program.specs.declared.plan.Plan.{Plan}
 use Rattle.regress_program.specs.TableKeysOfUnits.{key, is_16_bit_encoding, is_read_length_right, read_length_at_key, unit_table_of_set}
 use Rattle.regress_program.specs.Plans.{IsClassRightForProgram, reads_class_char, op_as_char_loop, IsOpOf}
 use Rattle.regress_program.specs.PrefixesAndPrefilters.{units_allowed_by_prefix, PrefixAt, IsRequiredPrefixFromInsn, ExcludesKeys}
-use Rattle.regress_program.specs.RequiredPrefixAnalysis.{joined_masks, allowed_first_then_after, allows_only_key, units_allowed_by_first_set, falls_through, ExtendsPrefix, AllowsEitherPrefix, IsPrefixSoFar, AreOpsOfProgram, PrefixAfter}
+use Rattle.regress_program.specs.RequiredPrefixAnalysis.{joined_masks, allowed_first_then_after, allows_only_key, units_allowed_by_first_set, falls_through, ExtendsPrefix, AllowsEitherPrefix}
+use Rattle.regress_program.specs.RequiredPrefixAnalysis.{IsPrefixSoFar, AreOpsOfProgram, PrefixAfter}
 use Rattle.regress_program.specs.RequiredPrefixAnalysis.{PrefixBeginsWith, FollowsFromSuccessors, IsOpPrefixContributionOf, IsPrefixOfCharLoop}
 use Rattle.regress_program.proofs.TableKeysOfUnitsLemmas.{first-key-at, first-key-below, key_of_first}
 use Rattle.regress_program.proofs.ClosedFirstSetsLemmas.{told-some}

@@ -1,5 +1,6 @@
 -- Storing the group names of each node by id yields the names of the tree by id.
-use Rattle.std.proofs.Common.{◌≡◌, ℕ, ◌+◌, ◌*◌, ◌<◌, ◌≤◌, Bool, true, false, IsTrue, List, [], ◌∷◌, ◌++◌, length, map, get_or, set, take, drop, replicate, refl, sym, ap, ◌∙◌, arith, get_or-set_same, get_or-set_other}
+use Rattle.std.proofs.Common.{◌≡◌, ℕ, ◌+◌, ◌*◌, ◌<◌, ◌≤◌, Bool, true, false, IsTrue, List, [], ◌∷◌, ◌++◌, length, map, get_or, set, take, drop, replicate, refl, sym, ap, ◌∙◌, arith, get_or-set_same}
+use Rattle.std.proofs.Common.{get_or-set_other}
 use Rattle.std.specs.Prelude.{if◌then◌else◌, nat_eq, ◌==◌, count_by}
 use Rattle.std.specs.List.{AllZip}
 use Rattle.std.proofs.lemmas.Bool.{eqb-true, eq-eqb, false≢true}
@@ -15,7 +16,8 @@ use Rattle.regex_pattern_front.specs.AstToSpecTree.{spec_node_of}
 use Rattle.regex_pattern_front.specs.declared.ir.Node as ir
 use Rattle.regress_program.specs.LeafNodesAndOptimizableLoops.{spec_cat_of_children, is_leaf}
 use Rattle.regress_program.specs.InnerNodeCountMeasure.{inner_node_count}
-use Rattle.regress_program.specs.StoringGroupNamesById.{StoresNamesOrPushesNodes, with_names_stored_by_id, pending_names_stored, tree_has_no_named_groups, naming_measure_of_node, naming_measure_of_part, total_naming_measure, naming_measure_of_nodes, names_in_pending_part}
+use Rattle.regress_program.specs.StoringGroupNamesById.{StoresNamesOrPushesNodes, with_names_stored_by_id, pending_names_stored, tree_has_no_named_groups, naming_measure_of_node}
+use Rattle.regress_program.specs.StoringGroupNamesById.{naming_measure_of_part, total_naming_measure, naming_measure_of_nodes, names_in_pending_part}
 use Rattle.regress_program.specs.declared.emit.storing_group_names_by_id.NodeOrListWithUnstoredNames.{NodeOrListWithUnstoredNames}
 use Rattle.regress_program.proofs.NodeKindLemmas.{leaf-bare}
 use Rattle.regress_program.proofs.GroupIdCheckLemmas.{count_by-first}

@@ -1,14 +1,17 @@
 -- The program of a tree, as a function.
 use Rattle.std.specs.Prelude.{ℕ, ◌+◌, ◌-◌, Bool, false, List, [], ◌∷◌, ◌++◌, map, length, if◌then◌else◌}
 use Rattle.regex_meaning.specs.NumberListHelpers.{numbers_from}
-use Rattle.regex_meaning.specs.Tree.{BracketContents, Node, empty, goal, char, char_set, byte_set, byte_sequence, cat, end_of_cat, alt, bracket, string_set, match_any, match_any_except_line_terminator, anchor, word_boundary, capture_group, back_ref}
+use Rattle.regex_meaning.specs.Tree.{BracketContents, Node, empty, goal, char, char_set, byte_set, byte_sequence, cat, end_of_cat, alt, bracket, string_set, match_any}
+use Rattle.regex_meaning.specs.Tree.{match_any_except_line_terminator, anchor, word_boundary, capture_group, back_ref}
 use Rattle.regex_meaning.specs.Tree.{lookaround, loop, loop_1_char_body, Tree, group_ids}
 use Rattle.regex_meaning.specs.Text.{expand_code_point}
 use Rattle.regex_meaning.specs.Outcomes.{max_iterations, in_intervals}
 use Rattle.regex_meaning.specs.StartPredicate.{start_predicate, bytes_that_pass}
 use Rattle.regex_meaning.specs.MatchGroupsByNumberAndName.{group_names_by_id}
-use Rattle.regex_meaning.specs.CompilationRelation.{Insn, Goal, JustFail, Char, ByteSeq, AsciiBracket, Bracket, MatchAny, MatchAnyExceptLineTerminator, Alt, Jump, EnterLoop, LoopAgain, ResetCaptureGroup, Loop1CharBody, BeginCaptureGroup, EndCaptureGroup, BackRef, Program}
-use Rattle.regex_meaning.specs.CompilationRelation.{char_set_insn, byte_set_insn, case_variants_insn, anchor_insn, word_boundary_insn, lookaround_insn, reversed_if_in_lookbehind, is_uninverted_ascii_class, chunks}
+use Rattle.regex_meaning.specs.CompilationRelation.{Insn, Goal, JustFail, Char, ByteSeq, AsciiBracket, Bracket, MatchAny, MatchAnyExceptLineTerminator, Alt, Jump, EnterLoop, LoopAgain}
+use Rattle.regex_meaning.specs.CompilationRelation.{ResetCaptureGroup, Loop1CharBody, BeginCaptureGroup, EndCaptureGroup, BackRef, Program}
+use Rattle.regex_meaning.specs.CompilationRelation.{char_set_insn, byte_set_insn, case_variants_insn, anchor_insn, word_boundary_insn, lookaround_insn, reversed_if_in_lookbehind}
+use Rattle.regex_meaning.specs.CompilationRelation.{is_uninverted_ascii_class, chunks}
 
 -- ---- Counts
 

@@ -3,7 +3,8 @@ use Rattle.std.specs.Prelude.{◌≡◌, ℕ, ◌+◌, ◌-◌, ◌^◌, ◌/◌
 use Rattle.std.specs.Int.{bit_at}
 use Rattle.regex_meaning.specs.NumberListHelpers.{contains}
 use Rattle.regex_meaning.specs.Tree.{Node, group_ids, every_node_passes}
-use Rattle.regex_meaning.specs.WellFormedTrees.{has_exact_group_range, range_is_ids_of_enclosed_groups, refers_to_a_group, has_order_in_quantifier, has_one_character_body, has_text_in_sequence, set_sizes_and_characters_fit_instructions}
+use Rattle.regex_meaning.specs.WellFormedTrees.{has_exact_group_range, range_is_ids_of_enclosed_groups, refers_to_a_group, has_order_in_quantifier, has_one_character_body, has_text_in_sequence}
+use Rattle.regex_meaning.specs.WellFormedTrees.{set_sizes_and_characters_fit_instructions}
 
 -- The bitmap has no bit for the id. A bitmap of 1,024 words has a bit for each possible id.
 abbrev pub is_outside_bitmap : (words : ℕ) → ℕ → Bool

@@ -2,7 +2,8 @@
 use Rattle.std.specs.Prelude.{◌≡◌, ◌⊎◌, ℕ, ◌+◌, Bool, true, false, List, Option, Some, None, slice_get}
 use Rattle.std.specs.List.{list_all}
 use Rattle.regex_meaning.specs.CodeUnits.{Encoding, utf8, code_units_of_character}
-use Rattle.regex_meaning.specs.CompilationRelation.{Program, LoopFields, Insn, Goal, JustFail, Char, CharSet, ByteSet, ByteSeq, AsciiBracket, Bracket, MatchAny, MatchAnyExceptLineTerminator, Alt, Jump, EnterLoop, LoopAgain, Loop1CharBody, BackRef, Lookahead, Lookbehind}
+use Rattle.regex_meaning.specs.CompilationRelation.{Program, LoopFields, Insn, Goal, JustFail, Char, CharSet, ByteSet, ByteSeq, AsciiBracket, Bracket, MatchAny, MatchAnyExceptLineTerminator, Alt}
+use Rattle.regex_meaning.specs.CompilationRelation.{Jump, EnterLoop, LoopAgain, Loop1CharBody, BackRef, Lookahead, Lookbehind}
 use Rattle.regress_machine.specs.Machine.{test_of}
 use Rattle.regress_machine.specs.FirstSetTables.{is_character_in_encoding}
 use Rattle.regress_program.specs.Leaps.{LeapToGoal}

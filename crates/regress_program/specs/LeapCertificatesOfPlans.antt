@@ -9,7 +9,8 @@ use Rattle.regress_program.specs.declared.ops.CountedLoop.{CountedLoop}
 use Rattle.regress_program.specs.declared.ops.SpanOfPlanBytes.{SpanOfPlanBytes}
 use Rattle.regress_program.specs.declared.ops.LookaroundAndNextOp as look
 use Rattle.regress_program.specs.declared.ops.Op.{Op}
-use Rattle.regress_program.specs.declared.ops.Op.TheVariants.{Goal, Fail, UnitChar, Char, Bytes, One, LineStart, LineEnd, WordEdge, Goto, Either, Enter, LoopEnd, OpenGroup, CloseGroup, ResetGroup, MatchBackref, Look}
+use Rattle.regress_program.specs.declared.ops.Op.TheVariants.{Goal, Fail, UnitChar, Char, Bytes, One, LineStart, LineEnd, WordEdge, Goto, Either, Enter, LoopEnd, OpenGroup, CloseGroup, ResetGroup}
+use Rattle.regress_program.specs.declared.ops.Op.TheVariants.{MatchBackref, Look}
 use Rattle.regress_program.specs.declared.plan.Plan.{Plan}
 use Rattle.regress_program.specs.Leaps.{is_goal_key, is_passed_key, leap_to_goal}
 use Rattle.regress_program.specs.PrefixesAndPrefilters.{PrefixAt}

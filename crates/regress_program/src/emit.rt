@@ -5,7 +5,8 @@ ghost use Rattle.std.specs.Arc.{arc_value};
 ghost use Rattle.regex_meaning.specs.{Tree.{group_ids}, CompilationRelation.{IsByteProgramOfTree, Is16BitProgramOfTree}};
 ghost use Rattle.regex_pattern_front.specs.AstToSpecTree.{tree_of};
 ghost use Rattle.regex_pattern_front.specs.declared.ir.Regex.{Regex};
-ghost use Rattle.regress_program.specs.{CompilationOfTreesAsFunction.{compiled, node_insn_count}, EmitterStateAndAppendedCode.{tree_with_char_loops}, ProgramFieldsMatchTree.{IsCodeOfTree, Is16BitPlanAndCodeOf}, OptimizedTreeUnlessNoOpt.{optimized_tree_unless_no_opt}};
+ghost use Rattle.regress_program.specs.{CompilationOfTreesAsFunction.{compiled, node_insn_count}, EmitterStateAndAppendedCode.{tree_with_char_loops}};
+ghost use Rattle.regress_program.specs.{ProgramFieldsMatchTree.{IsCodeOfTree, Is16BitPlanAndCodeOf}, OptimizedTreeUnlessNoOpt.{optimized_tree_unless_no_opt}};
 ghost use Rattle.regress_program.specs.CompileRefusals.{TreeHasByteCompileErrorCause, Is16BitUnitCompileErrorCause, IsCompileErrorCause, IsWellFormedWithinLimits};
 
 mod brackets;

@@ -9,7 +9,8 @@ ghost use Rattle.regex_meaning.specs.CompilationRelation.{Program};
 ghost use Rattle.regress_program.specs.RequiredPrefixAnalysis.{AreOpsOfProgram};
 ghost use Rattle.regress_program.specs.TableKeysOfUnits.{is_16_bit_width, unit_table_of_set};
 ghost use Rattle.regress_program.specs.Leaps.{is_goal_key, is_passed_key, AreHighKeysAlike, AreGoalsFewAscii, IsLeapRightForProgram};
-ghost use Rattle.regress_program.specs.LeapCertificatesOfPlans.{is_op_on_way, AreAllGoalKeys, PassesUnits, PassesReadLengths, ArrivesAtGoal, PassesByteSeq, PassesClass, LoopStaysOnWay, LookaroundStaysOnWay, OpReachesGoal, OpOnWayReachesGoal, OpsOnWayReachGoal};
+ghost use Rattle.regress_program.specs.LeapCertificatesOfPlans.{is_op_on_way, AreAllGoalKeys, PassesUnits, PassesReadLengths, ArrivesAtGoal, PassesByteSeq, PassesClass, LoopStaysOnWay};
+ghost use Rattle.regress_program.specs.LeapCertificatesOfPlans.{LookaroundStaysOnWay, OpReachesGoal, OpOnWayReachesGoal, OpsOnWayReachGoal};
 
 use crate::char_class_tables::Class;
 use crate::first_set_type::FirstSet;

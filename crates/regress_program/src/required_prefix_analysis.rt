@@ -9,7 +9,8 @@ ghost use Rattle.std.specs.Int.{bit_at};
 ghost use Rattle.regex_meaning.specs.CompilationRelation.{Program};
 ghost use Rattle.regress_program.specs.declared.ops.Op.TheVariants.{UnitChar, One, Enter};
 ghost use Rattle.regress_program.specs.PrefixesAndPrefilters.{units_allowed_by_prefix, IsRequiredPrefixFromInsn, AllowsOnlyAsciiAt, ExcludesKeys};
-ghost use Rattle.regress_program.specs.RequiredPrefixAnalysis.{allows_only_key, units_allowed_by_first_set, joined_masks, falls_through, ExtendsPrefix, AllowsEitherPrefix, AreOpsOfProgram, FollowsFromSuccessors, IsOpPrefixContributionOf, IsPrefixOfCharLoop};
+ghost use Rattle.regress_program.specs.RequiredPrefixAnalysis.{allows_only_key, units_allowed_by_first_set, joined_masks, falls_through, ExtendsPrefix, AllowsEitherPrefix, AreOpsOfProgram};
+ghost use Rattle.regress_program.specs.RequiredPrefixAnalysis.{FollowsFromSuccessors, IsOpPrefixContributionOf, IsPrefixOfCharLoop};
 
 use crate::first_set_type::FirstSet;
 use crate::ops::{CharLoop, Op};

@@ -1,7 +1,8 @@
 //! Prefilters: what is searched for before the units of a required prefix are checked.
 
 ghost use Rattle.std.specs.Prelude.{◌≡◌, ◌<◌, ◌≤◌, ◌↔◌, ℕ, true, IsTrue, IfSome};
-ghost use Rattle.regress_program.specs.PrefixesAndPrefilters.{units_allowed_by_prefix, unit_passes_probe, IsOnlyUnitAllowedAtPosition, IsLiteralForcedByPrefix, ProbePassesPrefix, ProbesPassPrefix, IsPrefilterOfPrefix};
+ghost use Rattle.regress_program.specs.PrefixesAndPrefilters.{units_allowed_by_prefix, unit_passes_probe, IsOnlyUnitAllowedAtPosition, IsLiteralForcedByPrefix, ProbePassesPrefix, ProbesPassPrefix};
+ghost use Rattle.regress_program.specs.PrefixesAndPrefilters.{IsPrefilterOfPrefix};
 ghost use Rattle.regress_program.specs.TableKeysOfUnits.{is_16_bit_width};
 
 use crate::required_prefix_types::{

@@ -130,11 +130,8 @@ fn is_start_anchored(node: &Node) -> bool
                 anchor_type: AnchorType::StartOfLine,
                 multiline,
             } => return !*multiline,
-            Node::Anchor {
-                anchor_type: AnchorType::EndOfLine,
-                ..
-            } => return false,
-            Node::Empty
+            Node::Anchor { .. }
+            | Node::Empty
             | Node::Goal
             | Node::Char { .. }
             | Node::CharSet(_)

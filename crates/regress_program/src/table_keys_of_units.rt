@@ -6,7 +6,8 @@
 ghost use Rattle.std.specs.Prelude.{◌≡◌, ◌<◌, ◌+◌, ◌/◌, ◌&&◌, ◌||◌, ℕ, min, true, false, is_some};
 ghost use Rattle.regex_meaning.specs.CodeUnits.{Encoding};
 ghost use Rattle.regress_machine.specs.FirstSetTables.{is_character_in_encoding, first_unit_key};
-ghost use Rattle.regress_program.specs.TableKeysOfUnits.{key as spec_key, is_16_bit_encoding, begins_utf8_character, is_16_bit_width, may_begin_surrogate_pair as spec_may_begin_surrogate_pair, KeyCharsLieInRangeOrPairs, HasKeysBetween, first_utf8_byte, first_utf16_unit};
+ghost use Rattle.regress_program.specs.TableKeysOfUnits.{key as spec_key, is_16_bit_encoding, begins_utf8_character, is_16_bit_width, may_begin_surrogate_pair as spec_may_begin_surrogate_pair};
+ghost use Rattle.regress_program.specs.TableKeysOfUnits.{KeyCharsLieInRangeOrPairs, HasKeysBetween, first_utf8_byte, first_utf16_unit};
 
 use regex_pattern_front::codepointset::Interval;
 

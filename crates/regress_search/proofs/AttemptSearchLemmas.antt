@@ -9,7 +9,8 @@ use Rattle.regex_meaning.specs.OutcomesWithStepTicks.{items_at}
 use Rattle.regex_meaning.proofs.CodeUnitOffsetsLemmas.{offset-place_at}
 use Rattle.regress_program.specs.CompilationOfTreesAsFunction.{compiled}
 use Rattle.regress_machine.specs.Machine.{running, search}
-use Rattle.regress_machine.specs.SearchFindsFirstOutcomeAtPlace.{state_before_first_insn, end_and_groups_of_state, first_outcome_among_ticks, end_in_offsets, TreeProgramCanSearchText, sufficient_turns_at}
+use Rattle.regress_machine.specs.SearchFindsFirstOutcomeAtPlace.{state_before_first_insn, end_and_groups_of_state, first_outcome_among_ticks, end_in_offsets, TreeProgramCanSearchText}
+use Rattle.regress_machine.specs.SearchFindsFirstOutcomeAtPlace.{sufficient_turns_at}
 use Rattle.regress_machine.proofs.TreeCodeOutcomes.{searches-find}
 use Rattle.regress_machine.specs.InsnEffects.{end_of_search}
 use Rattle.regress_search.specs.AttemptsAndStarts.{match_end_and_groups_at, steps_for_attempt, search_from}

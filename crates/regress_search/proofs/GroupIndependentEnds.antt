@@ -3,7 +3,8 @@ use Rattle.std.proofs.Common.{◌≡◌, ℕ, zero, suc, ◌+◌, ◌-◌, Bool,
 use Rattle.std.specs.Prelude.{if◌then◌else◌, nat_le, nat_lt, nat_eq, chars, flat_map, filter, length, ◌&&◌}
 use lib.Pointwise.{pointwise}
 use Rattle.regex_meaning.specs.Laws.{Each}
-use Rattle.regex_meaning.specs.Tree.{Sameness, Node, empty, goal, char, char_set, byte_set, byte_sequence, cat, end_of_cat, alt, bracket, string_set, match_any, match_any_except_line_terminator, anchor, word_boundary, capture_group, back_ref, lookaround, loop, loop_1_char_body}
+use Rattle.regex_meaning.specs.Tree.{Sameness, Node, empty, goal, char, char_set, byte_set, byte_sequence, cat, end_of_cat, alt, bracket, string_set, match_any, match_any_except_line_terminator}
+use Rattle.regex_meaning.specs.Tree.{anchor, word_boundary, capture_group, back_ref, lookaround, loop, loop_1_char_body}
 use Rattle.regex_meaning.specs.Text.{Text, Direction, next_character, characters_ahead, next_characters, moved}
 use Rattle.regex_meaning.specs.Outcomes.{Groups, Outcome, Repetition, accepts, is_some_and, captured, with_groups_cleared, exclusive_or, anchor_holds, is_at_word_boundary}
 use Rattle.regex_meaning.specs.Outcomes.{bounded_repeat, preferred, passes_empty_check, repetition, lookaround_outcomes, direction_of, is_case_variant, spelled, outcomes}

@@ -1,5 +1,6 @@
 -- No match begins within a leading char loop if none begins at the loop's start.
-use Rattle.std.proofs.Common.{◌≡◌, ℕ, zero, suc, ◌+◌, ◌-◌, ◌<◌, ◌≤◌, min, List, [], ◌∷◌, flat_map, drop, take, slice_range, Option, Some, None, unwrap_or, Bool, true, false, refl, ap, ◌∙◌, sym, subst, arith, append-nil, cond, reverse, slice_get, length}
+use Rattle.std.proofs.Common.{◌≡◌, ℕ, zero, suc, ◌+◌, ◌-◌, ◌<◌, ◌≤◌, min, List, [], ◌∷◌, flat_map, drop, take, slice_range, Option, Some, None, unwrap_or, Bool, true, false, refl, ap, ◌∙◌, sym}
+use Rattle.std.proofs.Common.{subst, arith, append-nil, cond, reverse, slice_get, length}
 use Rattle.std.specs.Prelude.{if◌then◌else◌, nat_le, ◌&&◌, MatchBool, IsSome, ◌⊎◌}
 use Rattle.std.specs.List.{prefix_len}
 use Rattle.std.proofs.lemmas.Bool.{cases_lt, le-leb}
@@ -10,7 +11,8 @@ use Rattle.std.proofs.lemmas.List.{drop-drop, reverse-reverse}
 use lib.Pointwise.{pointwise}
 use Rattle.regex_meaning.specs.NumberListHelpers.{numbers_from}
 use Rattle.regex_meaning.specs.Laws.{Each}
-use Rattle.regex_meaning.specs.Tree.{Quantifier, BracketContents, Lookaround, start_of_line, end_of_line, Node, empty, goal, char, char_set, byte_set, byte_sequence, cat, end_of_cat, alt, bracket, string_set, match_any, match_any_except_line_terminator}
+use Rattle.regex_meaning.specs.Tree.{Quantifier, BracketContents, Lookaround, start_of_line, end_of_line, Node, empty, goal, char, char_set, byte_set, byte_sequence, cat, end_of_cat, alt, bracket}
+use Rattle.regex_meaning.specs.Tree.{string_set, match_any, match_any_except_line_terminator}
 use Rattle.regex_meaning.specs.Tree.{anchor, word_boundary, capture_group, back_ref, lookaround, loop, loop_1_char_body, Tree}
 use Rattle.regex_meaning.specs.Text.{Text, rightwards, last_place, expand_code_point}
 use Rattle.regex_meaning.specs.Outcomes.{Groups, Outcome, accepts, captured, with_groups_cleared, in_intervals, max_iterations, repetition, spelled, is_case_variant, outcomes}
@@ -18,8 +20,10 @@ use Rattle.regex_meaning.specs.StartPredicate.{bytes_that_pass}
 use Rattle.regex_meaning.specs.WellFormedTrees.{is_one_character}
 use Rattle.regex_meaning.specs.FirstAndAllMatches.{match_at, first_outcome, no_groups}
 use Rattle.regex_meaning.specs.OutcomesWithStepTicks.{nearest_first}
-use Rattle.regex_meaning.specs.CompilationRelation.{Program, Insn, Counters, counters_after_insn, counters_at_start, HasInsnAt, HasInsnsBetween, IsCode, IsStringCode, AreStringsCode, case_variants_insn, char_set_insn, lookaround_insn, is_uninverted_ascii_class}
-use Rattle.regex_meaning.specs.CompilationRelation.{Loop1CharBody, Goal, JustFail, Char, ByteSet, ByteSeq, AsciiBracket, Bracket, MatchAny, MatchAnyExceptLineTerminator, StartOfLine, EndOfLine, WordBoundary, WordBoundaryUnicodeICase, Alt, EnterLoop}
+use Rattle.regex_meaning.specs.CompilationRelation.{Program, Insn, Counters, counters_after_insn, counters_at_start, HasInsnAt, HasInsnsBetween, IsCode, IsStringCode, AreStringsCode}
+use Rattle.regex_meaning.specs.CompilationRelation.{case_variants_insn, char_set_insn, lookaround_insn, is_uninverted_ascii_class}
+use Rattle.regex_meaning.specs.CompilationRelation.{Loop1CharBody, Goal, JustFail, Char, ByteSet, ByteSeq, AsciiBracket, Bracket, MatchAny, MatchAnyExceptLineTerminator, StartOfLine, EndOfLine}
+use Rattle.regex_meaning.specs.CompilationRelation.{WordBoundary, WordBoundaryUnicodeICase, Alt, EnterLoop}
 use Rattle.regex_meaning.specs.CompilationRelation.{BeginCaptureGroup, EndCaptureGroup, BackRef, Lookahead, Lookbehind}
 use Rattle.regex_meaning.proofs.EachElementLemmas.{Each-map, Each-reverse, Each-image}
 use Rattle.regress_machine.specs.Machine.{test_of}

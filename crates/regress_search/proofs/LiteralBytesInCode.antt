@@ -2,12 +2,14 @@
 use Rattle.std.proofs.Common.{◌≡◌, ℕ, zero, suc, ◌+◌, ◌-◌, List, [], ◌∷◌, ◌++◌, length, map, Some, Bool, true, false, ◌||◌, refl, subst, slice_get}
 use Rattle.std.specs.Prelude.{if◌then◌else◌, IsTrue}
 use Rattle.regex_meaning.specs.NumberListHelpers.{numbers_from}
-use Rattle.regex_meaning.specs.Tree.{Node, AnchorType, start_of_line, end_of_line, empty, goal, char, char_set, byte_set, byte_sequence, cat, end_of_cat, alt, bracket, string_set, match_any, match_any_except_line_terminator, anchor, word_boundary}
+use Rattle.regex_meaning.specs.Tree.{Node, AnchorType, start_of_line, end_of_line, empty, goal, char, char_set, byte_set, byte_sequence, cat, end_of_cat, alt, bracket, string_set, match_any}
+use Rattle.regex_meaning.specs.Tree.{match_any_except_line_terminator, anchor, word_boundary}
 use Rattle.regex_meaning.specs.Tree.{capture_group, back_ref, lookaround, loop, loop_1_char_body, Tree}
 use Rattle.regex_meaning.specs.Text.{expand_code_point}
 use Rattle.regex_meaning.specs.Outcomes.{in_intervals}
 use Rattle.regex_meaning.specs.StartPredicate.{bytes_that_pass}
-use Rattle.regex_meaning.specs.CompilationRelation.{Insn, Jump, ResetCaptureGroup, EndCaptureGroup, LoopAgain, Goal, AsciiBracket, Bracket, Lookahead, Lookbehind, char_set_insn, case_variants_insn, anchor_insn, word_boundary_insn, reversed_if_in_lookbehind, is_uninverted_ascii_class}
+use Rattle.regex_meaning.specs.CompilationRelation.{Insn, Jump, ResetCaptureGroup, EndCaptureGroup, LoopAgain, Goal, AsciiBracket, Bracket, Lookahead, Lookbehind, char_set_insn, case_variants_insn}
+use Rattle.regex_meaning.specs.CompilationRelation.{anchor_insn, word_boundary_insn, reversed_if_in_lookbehind, is_uninverted_ascii_class}
 use Rattle.regex_meaning.specs.CompilationRelation.{tree_contains_byte_nodes}
 use Rattle.regress_program.specs.CompilationOfTreesAsFunction.{node_insn_count, strings_size, loop_count, brackets_of, string_code, strings_code, code_of, compiled}
 use Rattle.regress_machine.specs.InsnEffects.{is_byte_sequence_insn}

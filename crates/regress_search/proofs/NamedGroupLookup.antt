@@ -1,5 +1,6 @@
 -- The lookup of a name finds the first group with this name that matched.
-use Rattle.std.proofs.Common.{◌≡◌, ℕ, ◌+◌, ◌<◌, Bool, true, false, List, [], ◌∷◌, length, map, take, drop, get_or, zero, suc, ◌++◌, slice_get, unwrap_or, ap₂, arith, refl, sym, ◌∙◌, ap, Option, Some, None, is_some, option_map, bytes_eq, if◌then◌else◌}
+use Rattle.std.proofs.Common.{◌≡◌, ℕ, ◌+◌, ◌<◌, Bool, true, false, List, [], ◌∷◌, length, map, take, drop, get_or, zero, suc, ◌++◌, slice_get, unwrap_or, ap₂, arith, refl, sym, ◌∙◌, ap, Option, Some}
+use Rattle.std.proofs.Common.{None, is_some, option_map, bytes_eq, if◌then◌else◌}
 use Rattle.std.proofs.lemmas.List.{drop_more, drop-map}
 use Rattle.std.specs.Option.{option_or}
 use Rattle.regex_meaning.specs.Outcomes.{group_range}

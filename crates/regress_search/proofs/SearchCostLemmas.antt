@@ -6,7 +6,8 @@ use Rattle.regex_meaning.specs.Tree.{Tree}
 use Rattle.regex_meaning.specs.Text.{Text}
 use Rattle.regex_meaning.specs.Outcomes.{Groups}
 use Rattle.regress_search.specs.AttemptsAndStarts.{NoMatchAt, end_with_groups, match_end_and_groups_at}
-use Rattle.regress_search.specs.CostsOfSearches.{AttemptsFail, CallSpendsExactCost, CostsMoreThanLeft, Failures, IfWorkIsCounted, LeavesWorkWithoutResult, SearchCosts, SpendsExactCost, TakesExactCost, no_attempt, one_more, finds_none, finds_match, is_begun, next_attempt_offset}
+use Rattle.regress_search.specs.CostsOfSearches.{AttemptsFail, CallSpendsExactCost, CostsMoreThanLeft, Failures, IfWorkIsCounted, LeavesWorkWithoutResult, SearchCosts, SpendsExactCost}
+use Rattle.regress_search.specs.CostsOfSearches.{TakesExactCost, no_attempt, one_more, finds_none, finds_match, is_begun, next_attempt_offset}
 
 -- ---- Statements of producers that count work
 

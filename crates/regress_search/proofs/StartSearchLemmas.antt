@@ -1,6 +1,7 @@
 -- The start search finds the first boundary at which a table, or the required prefix, allows a
 -- match.
-use Rattle.std.proofs.Common.{map, ◌≡◌, ℕ, zero, suc, ◌+◌, ◌-◌, ◌<◌, ◌≤◌, Bool, true, false, not, List, [], ◌∷◌, length, drop, take, get_or, Option, Some, None, refl, ap, sym, ◌∙◌, subst, arith, slice_get, le_refl}
+use Rattle.std.proofs.Common.{map, ◌≡◌, ℕ, zero, suc, ◌+◌, ◌-◌, ◌<◌, ◌≤◌, Bool, true, false, not, List, [], ◌∷◌, length, drop, take, get_or, Option, Some, None, refl, ap, sym, ◌∙◌, subst, arith}
+use Rattle.std.proofs.Common.{slice_get, le_refl}
 use Rattle.std.specs.Prelude.{option_map, slice_index, nat_lt, nat_le, nat_eq, ◌&&◌, ◌||◌}
 use Rattle.std.proofs.lemmas.Bool.{cases_lt, lt-ltb, le-ltb, lt-leb, leb-true, ltb-true, eqb-true, false_from_ne_true}
 use Rattle.std.proofs.lemmas.Option.{slice_get-get_or}
@@ -29,7 +30,8 @@ use Rattle.regress_search.proofs.PrefixUnitLemmas.{own-key, fits-past, fits-behi
 use Rattle.regress_program.specs.declared.required_prefix_types.Prefix.{Prefix}
 use Rattle.regress_program.specs.PrefixesAndPrefilters.{units_allowed_by_prefix, prefix_allows_units_at, PrefixAllowsOnlyAsciiFirst}
 use Rattle.regress_search.proofs.AsciiUnitLemmas.{fit-boundary}
-use Rattle.regress_search.specs.StartSearch.{table_allows_unit_or_end_at, TableAllowsNoBoundary, IsFirstAllowedBoundary, IsFirstBoundaryWhere, AllowsOnlyLeadBytes, SkipsNoBoundary, IsFirstByteSearchHit, table_of_listed_units, prefix_fits_at}
+use Rattle.regress_search.specs.StartSearch.{table_allows_unit_or_end_at, TableAllowsNoBoundary, IsFirstAllowedBoundary, IsFirstBoundaryWhere, AllowsOnlyLeadBytes, SkipsNoBoundary}
+use Rattle.regress_search.specs.StartSearch.{IsFirstByteSearchHit, table_of_listed_units, prefix_fits_at}
 
 -- ---- Offsets behind a unit
 

@@ -1,5 +1,6 @@
 -- The functions that read a character, a group's characters or bytes agree with the machine.
-use Rattle.std.proofs.Common.{◌≡◌, ℕ, zero, suc, ◌+◌, ◌-◌, ◌<◌, ◌≤◌, List, [], ◌∷◌, ◌++◌, length, take, drop, reverse, Option, Some, None, Bool, true, false, ◌&&◌, ◌||◌, refl, ap, ap₂, sym, ◌∙◌, arith, slice_get, slice_range, unwrap_or, le-leb, length-drop, length-append, take-append-drop}
+use Rattle.std.proofs.Common.{◌≡◌, ℕ, zero, suc, ◌+◌, ◌-◌, ◌<◌, ◌≤◌, List, [], ◌∷◌, ◌++◌, length, take, drop, reverse, Option, Some, None, Bool, true, false, ◌&&◌, ◌||◌, refl, ap, ap₂, sym, ◌∙◌}
+use Rattle.std.proofs.Common.{arith, slice_get, slice_range, unwrap_or, le-leb, length-drop, length-append, take-append-drop}
 use Rattle.std.proofs.lemmas.List.{reverse-append, length-take-le, drop-take}
 use Rattle.std.proofs.Math.Seq.{take-append_seam, drop-append_seam}
 use Rattle.std.specs.Prelude.{if◌then◌else◌, nat_eq, nat_le, not, encode_utf8_all, option_map, option_and_then}
@@ -15,7 +16,8 @@ use Rattle.regress_input.specs.CharAndByteReadsFromOffset.{end_if_matched, past_
 use Rattle.regress_input.proofs.TextSlices.{take-slice, past_bytes-right, right-past_bytes, past_bytes-left, left-past_bytes}
 use Rattle.regress_machine.specs.TextsForBytePrograms.{HasUtf8CharactersAndOffsets}
 use Rattle.regress_machine.specs.Machine as machine
-use Rattle.regress_machine.specs.Machine.{Next, running, goes, with_some, go, go_if, next_insn_at_place, state_at_next_ip, read_one, stay_if, occurs_beside_offset, offset_moved_in_direction, read_bytes, backref_read, read_group}
+use Rattle.regress_machine.specs.Machine.{Next, running, goes, with_some, go, go_if, next_insn_at_place, state_at_next_ip, read_one, stay_if, occurs_beside_offset, offset_moved_in_direction}
+use Rattle.regress_machine.specs.Machine.{read_bytes, backref_read, read_group}
 use Rattle.regress_machine.proofs.NearestCharacterLemmas.{moved-zero}
 use Rattle.regress_machine.proofs.AdjacentCharacterLemmas.{stands, stands-length}
 use Rattle.regress_machine.proofs.AdjacentCharacterBytes.{starts-stands, stands-front, front-is, last-of}

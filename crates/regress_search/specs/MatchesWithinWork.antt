@@ -79,15 +79,18 @@ MayReturnError WorkLimit before behind = (before.enough ≡ false) × (behind.le
 -- The effect of one call. It returns the head of the list and leaves its tail. It returns `None`
 -- only if the list is empty. It returns an error only if the list had not ended, and then the list
 -- ends. If the work sufficed before the call and there is no error, it suffices after the call.
-abbrev pub Yields : RemainingAnswersAndWork → Option (Result Match WorkError) → RemainingAnswersAndWork → Type 0
-Yields s None t = (s.remaining.answers ≡ []) × HasEnded t.remaining × (s.enough ≡ true → t.enough ≡ true)
-Yields s (Some (Ok m)) t =
+abbrev pub NextYieldsApartFromWorkLeft : RemainingAnswersAndWork → Option (Result Match WorkError)
+    → RemainingAnswersAndWork → Type 0
+NextYieldsApartFromWorkLeft s None t =
+    (s.remaining.answers ≡ []) × HasEnded t.remaining × (s.enough ≡ true → t.enough ≡ true)
+NextYieldsApartFromWorkLeft s (Some (Ok m)) t =
     (s.remaining.answers ≡ answer_of m ∷ t.remaining.answers) × (s.remaining.ended ≡ false)
     × (t.remaining.text_end ≡ s.remaining.text_end)
     × (t.remaining.ended ≡ (m.range.start == s.remaining.text_end)) × (s.enough ≡ true → t.enough ≡ true)
-Yields s (Some (Err e)) t = MayReturnError e s t × (s.remaining.ended ≡ false) × HasEnded t.remaining
+NextYieldsApartFromWorkLeft s (Some (Err e)) t =
+    MayReturnError e s t × (s.remaining.ended ≡ false) × HasEnded t.remaining
 
 -- The effect of one call, and the work left does not increase.
 abbrev pub NextYieldsWithinWork : RemainingAnswersAndWork → Option (Result Match WorkError) → RemainingAnswersAndWork
     → Type 0
-NextYieldsWithinWork s result t = Yields s result t × (t.left ≤ s.left)
+NextYieldsWithinWork s result t = NextYieldsApartFromWorkLeft s result t × (t.left ≤ s.left)

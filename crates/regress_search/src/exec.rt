@@ -308,7 +308,8 @@ fn advance_matches<P: MatchProducer>(
     }
 }
 
-/// After a match at the end of the text, which is empty, the next call returns `None`.
+/// A law: after a match at the end of the text, which is empty, the next call returns `None`.
+/// Statement: `specs/RemainingAnswers`.
 pub fn match_at_text_end_is_last()
     ensures { EndsAtTextEnd }
 {}

@@ -2,7 +2,8 @@
 
 ghost use Rattle.std.specs.Prelude.{◌≡◌, IsTrue, IsSome, Some, option_map, nat_eq, encode_utf8_all, [], ◌∷◌};
 ghost use lib.Pointwise.{pointwise};
-ghost use Rattle.regex_meaning.specs.{Text.{is_scalar, is_word_char}, Tree.{start_of_line, end_of_line}, Outcomes.{is_at_word_boundary, is_line_boundary, is_some_and, exclusive_or}, CodeUnitOffsets.{IsBoundary}};
+ghost use Rattle.regex_meaning.specs.{Text.{is_scalar, is_word_char}, Tree.{start_of_line, end_of_line}, Outcomes.{is_at_word_boundary, is_line_boundary, is_some_and, exclusive_or}};
+ghost use Rattle.regex_meaning.specs.CodeUnitOffsets.{IsBoundary};
 ghost use Rattle.regex_meaning.specs.CompilationRelation.{ByteSeq, Bracket};
 ghost use Rattle.regex_pattern_front.specs.AstToSpecTree.{spec_sameness_of, tree_of};
 ghost use Rattle.regress_input.specs.CharAndByteReadsFromOffset.{end_if_matched, place};

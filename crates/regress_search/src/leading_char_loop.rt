@@ -185,7 +185,7 @@ fn is_ascii_unit_repeated_next<W: SearchContext>(context: &W, at: usize) -> bool
     unit == unit_at_offset(context, at + 1)
 }
 
-// Does the same for a char loop that exists.
+// Does what `skip_leading_char_loop` does, for a char loop that exists.
 // Contract: the loop `run` follows `opens` operations that open groups. `executable` says that the
 // program can search the text. `no_match` says that if no match begins at the boundary `from`, none
 // begins between it and the result, which is a boundary too.

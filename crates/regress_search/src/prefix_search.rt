@@ -81,7 +81,7 @@ fn find_prefix_by_shift_or(prefix: &Prefix, bytes: &[u8]) -> Option<usize>
     None
 }
 
-// Returns the same index by a search for the required unit.
+// Does what `find_prefix_by_shift_or` does, by a search for the required unit.
 #[inline(always)]
 fn find_prefix_by_required_unit(
     prefix: &Prefix,
@@ -105,7 +105,7 @@ fn find_prefix_by_required_unit(
     None
 }
 
-// Returns the same index by a search for the required literal.
+// Does what `find_prefix_by_shift_or` does, by a search for the required literal.
 #[inline(always)]
 fn find_prefix_by_literal(
     kept: &StartLiteralFinder<'_>,

@@ -1,10 +1,12 @@
 //! The search loop over the candidate starts of a text, shared by all executors.
 
 ghost use Rattle.std.specs.Prelude.{◌≡◌, ◌+◌, ◌<◌, ◌≤◌, ℕ, ⊤, Bool, true, false, IfErr, IfOk, IsSome, None, Some, Option, map, option_map, length};
-ghost use Rattle.regex_meaning.specs.{Tree.{Tree}, Text.{Text}, CodeUnitOffsets.{HasRisingPlaceOffsets, IsBoundary, IsBoundaryOrPastEnd, units}, SearchAnswers.{answer_at}, Outcomes.{Groups, group_range}, MatchGroupsByNumberAndName.{group_names_by_id}};
+ghost use Rattle.regex_meaning.specs.{Tree.{Tree}, Text.{Text}, CodeUnitOffsets.{HasRisingPlaceOffsets, IsBoundary, IsBoundaryOrPastEnd, units}, SearchAnswers.{answer_at}};
+ghost use Rattle.regex_meaning.specs.{Outcomes.{Groups, group_range}, MatchGroupsByNumberAndName.{group_names_by_id}};
 ghost use Rattle.regex_pattern_front.specs.AstToSpecTree.{tree_of};
 ghost use Rattle.regress_search.specs.MatchesAsSpecAnswers.{answer_from_parts, answer_of, range_as_pair};
-ghost use Rattle.regress_search.specs.AttemptsAndStarts.{NextStartSkipsNoMatch, NoMatchAt, end_with_groups, match_end_and_groups_at, first_filtered_start, next_filtered_start, next_search_offset, ticks_of_attempt_at};
+ghost use Rattle.regress_search.specs.AttemptsAndStarts.{NextStartSkipsNoMatch, NoMatchAt, end_with_groups, match_end_and_groups_at, first_filtered_start, next_filtered_start, next_search_offset};
+ghost use Rattle.regress_search.specs.AttemptsAndStarts.{ticks_of_attempt_at};
 ghost use Rattle.regress_search.specs.OffsetRangeOfPositions.{offset_range_of_positions};
 ghost use Rattle.regress_search.specs.SearchEffects.{SpendsNeedOrReachesLimit, AllocFailureCostsAStep, TellsIfStepLimitReached, cause_of_error};
 ghost use Rattle.regress_search.specs.MatchesWithinWork.{AttemptKeepsWorkEnough};

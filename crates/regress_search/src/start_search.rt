@@ -8,7 +8,8 @@ ghost use Rattle.regress_program.specs.PrefixesAndPrefilters.{PrefixAllowsOnlyAs
 ghost use Rattle.regress_program.specs.TableKeysOfUnits.{is_16_bit_encoding};
 ghost use Rattle.regress_program.specs.Plans.{unit_table_of_set_number};
 ghost use Rattle.regress_machine.specs.FirstSetTables.{AllowedNextKeys};
-ghost use Rattle.regress_search.specs.StartSearch.{IsFirstAllowedBoundary, IsFirstBoundaryWhere, IsFirstPrefixFit, IsFirstCandidate, IsFirstByteSearchHit, AllowsOnlyLeadBytes, SkipsNoBoundary, IsPastFirstAllowedChar, table_of_listed_units, may_start_at};
+ghost use Rattle.regress_search.specs.StartSearch.{IsFirstAllowedBoundary, IsFirstBoundaryWhere, IsFirstPrefixFit, IsFirstCandidate, IsFirstByteSearchHit, AllowsOnlyLeadBytes, SkipsNoBoundary};
+ghost use Rattle.regress_search.specs.StartSearch.{IsPastFirstAllowedChar, table_of_listed_units, may_start_at};
 
 use crate::class_char_and_table_lookups::{set_allows_next_unit, unit_key_at_offset};
 use crate::few_units_finder::FewUnitsFinder;
@@ -161,7 +162,7 @@ pub(crate) fn next_of_few_units<W: SearchContext>(
     }
 }
 
-// Does the same in 16-bit units. It uses vectors if bits identify the units.
+// Does what `next_of_few_units` does, in 16-bit units. It uses vectors if bits identify the units.
 #[inline(always)]
 fn next_of_few_wide_units<W: SearchContext>(
     context: &W,
@@ -200,7 +201,7 @@ fn next_prefix_match<W: SearchContext>(
     find(context, &fitting, from)
 }
 
-// Does the same by a search for the required literal.
+// Does what `next_prefix_match` does, by a search for the required literal.
 #[inline(never)]
 fn next_prefix_by_literal<W: SearchContext>(
     context: &W,
@@ -222,7 +223,8 @@ fn next_prefix_by_literal<W: SearchContext>(
     find(context, &in_row, from)
 }
 
-// Does the same for a prefix whose units are known. In a long text, it searches for the literal.
+// Does what `next_prefix_match` does, for a prefix whose units are known. In a long text, it
+// searches for the literal.
 // Contract: `some`, `ascii` and `known` say what the prefix and its prefilter have to be, and the
 // text consists of bytes. The result is the first boundary at `from` or later where the prefix may
 // occur.
@@ -251,8 +253,8 @@ fn next_prefix_with_known_units<W: SearchContext>(
     next_prefix_in_short_text(context, prefix, known, from)
 }
 
-// Does the same in a short text. It searches for a rare unit if there is one, or uses bit probes if
-// there are any.
+// Does what `next_prefix_with_known_units` does, in a short text. It searches for a rare unit if
+// there is one, or uses bit probes if there are any.
 // The contract is that of `next_prefix_with_known_units`.
 #[inline(always)]
 fn next_prefix_in_short_text<W: SearchContext>(
@@ -276,7 +278,8 @@ fn next_prefix_in_short_text<W: SearchContext>(
     next_prefix_match(context, prefix, known.rare, from)
 }
 
-// Does the same by the prefilter of the plan.
+// Returns the first offset at `from` or later at which the prefix may occur. It uses the prefilter
+// of the plan.
 #[inline(always)]
 fn next_prefix_by_prefilter<W: SearchContext>(
     context: &W,

@@ -13,7 +13,8 @@ use Rattle.regex_meaning.specs.CharacterClasses.{digit_class}
 use Rattle.regex_meaning.specs.Grammar.{no_terms, terms, atom, repeated_assertion, look, leaf, last_alternative, pattern_is}
 use Rattle.regex_meaning.specs.GrammarLaws.{no_flags}
 use Rattle.regex_meaning.specs.EcmaEscapesAndNames.{non_identity_escape, legacy_octal_escape, one_digit}
-use Rattle.regex_meaning.specs.EcmaClasses.{ClassMember, character, class, class_member_contains, CharacterClassEscape, by_letter, by_property, class_escape_set, IsSetOf, class_escape, verbatim, escaped, no_range, no_more, more, plain}
+use Rattle.regex_meaning.specs.EcmaClasses.{ClassMember, character, class, class_member_contains, CharacterClassEscape, by_letter, by_property, class_escape_set, IsSetOf, class_escape, verbatim}
+use Rattle.regex_meaning.specs.EcmaClasses.{escaped, no_range, no_more, more, plain}
 use Rattle.regex_meaning.specs.EcmaGrammarWithAnnexB.{GroupNumber, group_number, character_escape, pattern_character, atom_escape, character_class, ParsesEcmaScript}
 use Rattle.regex_meaning.proofs.EscapesAndNamesLemmas.{firsts, is_some}
 use Rattle.regex_meaning.proofs.QuantifierStartLemmas.{not_quantified}

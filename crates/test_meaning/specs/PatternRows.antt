@@ -6,7 +6,8 @@ use Rattle.ucd_table.specs.Rows.{value_in}
 use Rattle.ucd_case.specs.CaseFolding.{simple_folding}
 use Rattle.ucd_case.specs.SimpleFoldingRows.{simple_folding_rows}
 use Rattle.regex_meaning.specs.Canonical.{canonicalize}
-use Rattle.regex_meaning.specs.Tree.{Node, goal, char, char_set, byte_sequence, cat, end_of_cat, alt, bracket, string_set, match_any_except_line_terminator, anchor, start_of_line, end_of_line, word_boundary, capture_group, back_ref, exact, folded, alike, lookaround, loop, loop_1_char_body}
+use Rattle.regex_meaning.specs.Tree.{Node, goal, char, char_set, byte_sequence, cat, end_of_cat, alt, bracket, string_set, match_any_except_line_terminator, anchor, start_of_line, end_of_line}
+use Rattle.regex_meaning.specs.Tree.{word_boundary, capture_group, back_ref, exact, folded, alike, lookaround, loop, loop_1_char_body}
 use Rattle.regex_meaning.specs.Text.{utf8_text, utf16_text, ucs2_text}
 use Rattle.test_meaning.specs.Computing.{found, matches, times, in_brackets, look}
 

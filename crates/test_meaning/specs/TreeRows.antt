@@ -1,6 +1,7 @@
 -- Patterns and trees: loops, sets, lookarounds, encodings and hostile trees.
 use Rattle.std.specs.Prelude.{◌≡◌, [], ◌∷◌, Some, None, refl, true, false}
-use Rattle.regex_meaning.specs.Tree.{Node, empty, goal, char, char_set, byte_set, byte_sequence, cat, end_of_cat, alt, bracket, string_set, match_any_except_line_terminator, anchor, start_of_line, end_of_line, capture_group, back_ref, exact, lookaround, loop, loop_1_char_body}
+use Rattle.regex_meaning.specs.Tree.{Node, empty, goal, char, char_set, byte_set, byte_sequence, cat, end_of_cat, alt, bracket, string_set, match_any_except_line_terminator, anchor, start_of_line}
+use Rattle.regex_meaning.specs.Tree.{end_of_line, capture_group, back_ref, exact, lookaround, loop, loop_1_char_body}
 use Rattle.regex_meaning.specs.Text.{utf8_text, utf16_text, ucs2_text}
 use Rattle.test_meaning.specs.Computing.{found, matches, first, times, in_brackets, look}
 

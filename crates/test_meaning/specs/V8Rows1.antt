@@ -1,7 +1,8 @@
 -- Patterns on texts, part 1, with the results of JavaScript's V8: the same flags, and its indices as
 -- byte offsets. The trees are those of the patterns, optimized.
 use Rattle.std.specs.Prelude.{◌≡◌, [], ◌∷◌, Some, None, refl, true, false}
-use Rattle.regex_meaning.specs.Tree.{goal, char, char_set, cat, end_of_cat, alt, bracket, match_any_except_line_terminator, anchor, start_of_line, end_of_line, word_boundary, capture_group, back_ref, exact, folded, lookaround, loop, loop_1_char_body}
+use Rattle.regex_meaning.specs.Tree.{goal, char, char_set, cat, end_of_cat, alt, bracket, match_any_except_line_terminator, anchor, start_of_line, end_of_line, word_boundary, capture_group, back_ref}
+use Rattle.regex_meaning.specs.Tree.{exact, folded, lookaround, loop, loop_1_char_body}
 use Rattle.regex_meaning.specs.Text.{utf8_text}
 use Rattle.test_meaning.specs.Computing.{found, matches, times, in_brackets, look}
 

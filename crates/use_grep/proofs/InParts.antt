@@ -1,5 +1,6 @@
 -- If a local tree has a match in a part of a text, it has one in the whole text.
-use Rattle.std.proofs.Common.{◌≡◌, ◌⊎◌, ℕ, zero, suc, ◌+◌, ◌-◌, ◌<◌, ◌≤◌, Bool, true, false, not, ◌&&◌, List, [], ◌∷◌, ◌++◌, length, map, Option, Some, None, refl, ap, sym, ◌∙◌, filter, flat_map, arith, subst, option_map, option_and_then, append-nil, append_assoc, get_or, lit<}
+use Rattle.std.proofs.Common.{◌≡◌, ◌⊎◌, ℕ, zero, suc, ◌+◌, ◌-◌, ◌<◌, ◌≤◌, Bool, true, false, not, ◌&&◌, List, [], ◌∷◌, ◌++◌, length, map, Option, Some, None, refl, ap, sym, ◌∙◌, filter, flat_map}
+use Rattle.std.proofs.Common.{arith, subst, option_map, option_and_then, append-nil, append_assoc, get_or, lit<}
 use Rattle.std.specs.Str.{chars}
 use Rattle.std.specs.Prelude.{if◌then◌else◌, nat_le, nat_lt, ◌==◌, slice_get, is_some, IsUtf8, eqb}
 use Rattle.std.specs.List.{join_with_byte, slice_split, position_or_len, before_first, after_first}
@@ -11,7 +12,8 @@ use Rattle.std.proofs.lemmas.Str.{chars-append, IsUtf8-from_ascii, IsUtf8-take, 
 use Rattle.std.proofs.lemmas.Str.Ascii.{IsAscii-cons, IsAscii-nil}
 use Rattle.std.proofs.lemmas.List.Splits.{join_with_byte-slice_split, slice_split_first, slice_split_none}
 use Rattle.std.proofs.lemmas.List.Sums.{passes_at_first, fails_before_first}
-use Rattle.regex_meaning.specs.Tree.{Quantifier, Node, empty, goal, char, char_set, byte_set, byte_sequence, cat, end_of_cat, alt, bracket, string_set, match_any, match_any_except_line_terminator, anchor, word_boundary, capture_group, back_ref, lookaround, loop, loop_1_char_body}
+use Rattle.regex_meaning.specs.Tree.{Quantifier, Node, empty, goal, char, char_set, byte_set, byte_sequence, cat, end_of_cat, alt, bracket, string_set, match_any, match_any_except_line_terminator}
+use Rattle.regex_meaning.specs.Tree.{anchor, word_boundary, capture_group, back_ref, lookaround, loop, loop_1_char_body}
 use Rattle.regex_meaning.specs.Text.{Text, character_after, character_before, is_word_char, rightwards, utf8_text}
 use Rattle.regex_meaning.specs.CodeUnitOffsets.{HasRisingPlaceOffsets, place_at}
 use Rattle.regex_meaning.specs.FirstAndAllMatches.{Found, no_groups, first_outcome, match_at, first_match, first_match_among}
@@ -19,7 +21,8 @@ use Rattle.regex_meaning.specs.MatchGroupsByNumberAndName.{Answer, answer, answe
 use Rattle.regex_meaning.specs.SearchAnswers.{first_answer, next_start, answer_then_list}
 use Rattle.regex_meaning.proofs.SearchAnswersLemmas.{answers-go_on}
 use Rattle.regex_meaning.proofs.CodeUnitOffsetsLemmas.{place_at-offset, utf8_text-IsText}
-use Rattle.regex_meaning.specs.Outcomes.{Groups, Outcome, Repetition, repetition, bounded_repeat, outcomes, captured, with_groups_cleared, passes_empty_check, exclusive_or, preferred, max_iterations, one_character, is_at_word_boundary, is_some_and}
+use Rattle.regex_meaning.specs.Outcomes.{Groups, Outcome, Repetition, repetition, bounded_repeat, outcomes, captured, with_groups_cleared, passes_empty_check, exclusive_or, preferred, max_iterations}
+use Rattle.regex_meaning.specs.Outcomes.{one_character, is_at_word_boundary, is_some_and}
 use Rattle.regex_meaning.proofs.EachElementLemmas.{Each, Each-append, Each-map, Each-when, Each-flat_map, Each-image}
 use Rattle.regex_meaning.proofs.BoolLemmas.{and-left, and-right}
 use Rattle.regex_meaning.proofs.ListLemmas.{get-behind}

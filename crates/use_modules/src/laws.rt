@@ -1,9 +1,11 @@
 //! Callers of the laws of the crates. Each function cites one or two laws, and its clause follows
 //! from them.
 
-ghost use Rattle.std.specs.Prelude.{◌≡◌, ◌==◌, ◌≤◌, ◌<◌, ◌+◌, ◌-◌, ℕ, List, [], ◌∷◌, true, false, Option, Some, None, Result, Ok, Err, IfOk, IfSome, IsAscii, chars, codes, if◌then◌else◌, length, option_map, slice_get, string_bytes};
+ghost use Rattle.std.specs.Prelude.{◌≡◌, ◌==◌, ◌≤◌, ◌<◌, ◌+◌, ◌-◌, ℕ, List, [], ◌∷◌, true, false, Option, Some, None, Result, Ok, Err, IfOk, IfSome, IsAscii, chars, codes, if◌then◌else◌, length};
+ghost use Rattle.std.specs.Prelude.{option_map, slice_get, string_bytes};
 ghost use Rattle.std.specs.List.{list_all};
-ghost use Rattle.regex_meaning.specs.{MatchGroupsByNumberAndName.{Answer, answers_from, group_names_by_id}, CodeUnitOffsets.{HasRisingPlaceOffsets, place_at}, Laws.{AreAscendingDisjointAnswersFrom, Each}, Text.{Text, last_place, utf8_text}, Tree.{Flags, Tree, group_ids}};
+ghost use Rattle.regex_meaning.specs.{MatchGroupsByNumberAndName.{Answer, answers_from, group_names_by_id}, CodeUnitOffsets.{HasRisingPlaceOffsets, place_at}};
+ghost use Rattle.regex_meaning.specs.{Laws.{AreAscendingDisjointAnswersFrom, Each}, Text.{Text, last_place, utf8_text}, Tree.{Flags, Tree, group_ids}};
 ghost use Rattle.regex_meaning.specs.FlagLettersAndEscaping.{flags_from_letters};
 ghost use Rattle.regex_meaning.specs.{Grammar.{Parses, ParsesBy}, EcmaGrammarWithAnnexB.{ecmascript}, GroupNameScan.{scanned_names_per_capturing_group}, GrammarLaws.{literal_tree}};
 ghost use Rattle.regress_search.specs.{MatchesAsSpecAnswers.{answer_of}, RemainingAnswers.{NextYields, RemainingView}};
@@ -13,7 +15,8 @@ ghost use Rattle.regress_search.specs.declared.{exec.Match.{Match as TheMatch}, 
 ghost use Rattle.regress_search.specs.declared.exec.work_matches.WorkError.TheVariants.{WorkLimit};
 ghost use Rattle.regress_match.specs.ProgramTreesAndAnswers.{IsCompiledWith, IsCompiledWithSyntax, bytes_as_utf8_text, ascii_answers, tree_for_byte_units, tree_for_16_bit_units, utf8_answers};
 ghost use Rattle.regress_match.specs.{ExpansionsAndMatchRanges.{MatchFitsText}, SearchResults.{AreAllResultsNone, NextCallsYield, NextResult, YieldsMatches}};
-ghost use Rattle.regress_match.specs.WorkBounds.{NextCallsYieldWithinWork, IsHigherOfProgramWorkBounds, WorkLimitedNextResult, YieldsMatchesIfWorkSuffices, enough_work_for_text, NextCallsYieldAtTotalCost, IsNoAllocationFailure, NextCallsYieldAtCost, work_per_unit_limit};
+ghost use Rattle.regress_match.specs.WorkBounds.{NextCallsYieldWithinWork, IsHigherOfProgramWorkBounds, WorkLimitedNextResult, YieldsMatchesIfWorkSuffices, enough_work_for_text};
+ghost use Rattle.regress_match.specs.WorkBounds.{NextCallsYieldAtTotalCost, IsNoAllocationFailure, NextCallsYieldAtCost, work_per_unit_limit};
 ghost use Rattle.regress_match.specs.declared.api.regex.Regex.{Regex as TheRegex};
 
 use regex_meaning::{

@@ -182,7 +182,7 @@ impl Pattern {
     /// # Errors
     ///
     /// `Memory` if an allocation fails.
-    pub fn taken(
+    pub fn matches_of_call(
         &self,
         alloc: Global,
         text: &[u16],

@@ -161,7 +161,9 @@ impl RegExp {
         ensures refused { IfErr result IsOutOfMemory }
         ensures unchanged { OnErr result (self.new ≡ self.old) }
     {
-        let matches = self.pattern.taken(alloc, text, 0, self.last_index)?;
+        let matches = self
+            .pattern
+            .matches_of_call(alloc, text, 0, self.last_index)?;
         self.set_last_index_after(matches.as_slice());
         Ok(matches)
     }
@@ -193,6 +195,6 @@ impl RegExp {
         ensures refused { IfErr result IsOutOfMemory }
     {
         self.pattern
-            .taken(alloc, text, self.last_index, self.last_index)
+            .matches_of_call(alloc, text, self.last_index, self.last_index)
     }
 }

@@ -4,7 +4,8 @@ ghost use Rattle.std.specs.Prelude.{◌≡◌, ◌++◌, ◌≤◌, IfErr, IfOk,
 ghost use Rattle.std.specs.Result.{IsOkAnd};
 ghost use Rattle.regex_meaning.specs.Replace.{replaced};
 ghost use Rattle.regress_search.specs.MatchesAsSpecAnswers.{answer_of};
-ghost use Rattle.regress_match.specs.{ClosureReplacement.{IsClosureErrorOrOutOfMemory}, StringClosures.{ClosureCanBeCalled}, CompileErrors.{IsOutOfMemory}, ExpansionsAndMatchRanges.{MatchRangesLieWithinUnits}};
+ghost use Rattle.regress_match.specs.{ClosureReplacement.{IsClosureErrorOrOutOfMemory}, StringClosures.{ClosureCanBeCalled}, CompileErrors.{IsOutOfMemory}};
+ghost use Rattle.regress_match.specs.ExpansionsAndMatchRanges.{MatchRangesLieWithinUnits};
 ghost use Rattle.use_regexp.specs.Loops.{SetsLastIndexAfterMatches};
 ghost use Rattle.use_regexp.specs.Replace.{ClosureAcceptsMatches, IsPossibleErrorForMatches, IsPossibleReplaceError, IsReplaced, IsReplacedBy, IsReplacedWith, AreRangesInOrderFrom, substituted};
 
@@ -38,7 +39,9 @@ impl RegExp {
         ensures refused { IfErr result IsOutOfMemory }
         ensures unchanged { OnErr result (self.new ≡ self.old) }
     {
-        let matches = self.pattern.taken(alloc, text, 0, self.last_index)?;
+        let matches = self
+            .pattern
+            .matches_of_call(alloc, text, 0, self.last_index)?;
         let made = replace_matches_by_template(alloc, text, matches.as_slice(), template)?;
         self.set_last_index_after(matches.as_slice());
         Ok(made)
@@ -70,7 +73,9 @@ impl RegExp {
             self.old.last_index) }
         ensures unchanged { OnErr result (self.new ≡ self.old) }
     {
-        let matches = self.pattern.taken(alloc, text, 0, self.last_index)?;
+        let matches = self
+            .pattern
+            .matches_of_call(alloc, text, 0, self.last_index)?;
         let made = replace_matches_by_closure(alloc, text, matches.as_slice(), with)?;
         self.set_last_index_after(matches.as_slice());
         Ok(made)

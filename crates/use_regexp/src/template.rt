@@ -6,7 +6,8 @@ ghost use Rattle.std.specs.List.{list_all};
 ghost use Rattle.regex_meaning.specs.{MatchGroupsByNumberAndName.{Answer}, Replace.{text_of}};
 ghost use Rattle.regress_search.specs.MatchesAsSpecAnswers.{answer_of, range_as_pair};
 ghost use Rattle.regress_match.specs.ExpansionsAndMatchRanges.{MatchRangesLieWithinUnits, IsRangeWithinUnits};
-ghost use Rattle.use_regexp.specs.Template.{IsWritten, expansion_after_dollar, is_ascii, is_greater_than_sign, has_group_of_number as spec_has_group_of_number, end_of_group_name as spec_end_of_group_name, named};
+ghost use Rattle.use_regexp.specs.Template.{IsWritten, expansion_after_dollar, is_ascii, is_greater_than_sign, has_group_of_number as spec_has_group_of_number};
+ghost use Rattle.use_regexp.specs.Template.{end_of_group_name as spec_end_of_group_name, named};
 ghost use Rattle.use_regexp.specs.Template.{named_text, numbered, plain, said, substitution, two_digit_number_or_zero as spec_two_digit_number_or_zero};
 
 use regress_match::{Match, Range};

@@ -1,5 +1,6 @@
 -- Names of files, and renamings.
-use Rattle.std.specs.Prelude.{◌≡◌, ◌≢◌, ◌⊎◌, ℕ, List, [], ◌∷◌, ◌++◌, Bool, true, not, ◌&&◌, ◌||◌, IsTrue, Option, Some, None, String, All, AllPairs, Contains, map, flat_map, filter, find, is_none, codes, bytes_eq, length, nat_eq, nat_le, slice_get, slice_range, string_bytes}
+use Rattle.std.specs.Prelude.{◌≡◌, ◌≢◌, ◌⊎◌, ℕ, List, [], ◌∷◌, ◌++◌, Bool, true, not, ◌&&◌, ◌||◌, IsTrue, Option, Some, None, String, All, AllPairs, Contains, map, flat_map, filter, find, is_none}
+use Rattle.std.specs.Prelude.{codes, bytes_eq, length, nat_eq, nat_le, slice_get, slice_range, string_bytes}
 use Rattle.std.specs.List.{list_any}
 use Rattle.std.specs.Option.{option_map_or}
 use Rattle.regex_meaning.specs.MatchGroupsByNumberAndName.{Answer, named_groups}

@@ -5,15 +5,15 @@ use Rattle.use_validator.specs.declared.report.Outcome.TheVariants.{Holds, Fails
 
 -- `count` is a possible number of schemas that hold. `holding` of them hold for certain. `possible`
 -- of them hold if all undecided ones do.
-abbrev pub IsPossible : (holding possible count : ℕ) → Type 0
-IsPossible holding possible count = (holding ≤ count) × (count ≤ possible)
+abbrev pub IsPossibleCount : (holding possible count : ℕ) → Type 0
+IsPossibleCount holding possible count = (holding ≤ count) × (count ≤ possible)
 
 -- The outcome for the limits `least` and `most`. `Holds`: each possible count is within the limits.
 -- `Fails`: no possible count is. `Undecided`: neither is known.
 abbrev pub FollowsFromCounts : (least most holding possible : ℕ) → Outcome → Type 0
 FollowsFromCounts least most holding possible Holds =
-    (count : ℕ) → IsPossible holding possible count → (least ≤ count) × (count ≤ most)
+    (count : ℕ) → IsPossibleCount holding possible count → (least ≤ count) × (count ≤ most)
 FollowsFromCounts least most holding possible Fails =
-    (count : ℕ) → IsPossible holding possible count → ¬ ((least ≤ count) × (count ≤ most))
+    (count : ℕ) → IsPossibleCount holding possible count → ¬ ((least ≤ count) × (count ≤ most))
 FollowsFromCounts least most holding possible Undecided =
     (least ≤ possible) × (holding ≤ most) × ((holding < least) ⊎ (most < possible))

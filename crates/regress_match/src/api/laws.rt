@@ -43,7 +43,10 @@ pub fn searches_follow_the_ecmascript_pattern()
 /// tree that the grammar gives to the pattern, one after another, and then always `None`, in each
 /// encoding and for both values of `Syntax`. They end earlier only with the error `Memory`.
 ///
-/// It follows from `searches_return_matches_in_order` and `searches_follow_the_pattern`.
+/// It follows from `searches_return_matches_in_order`, and from `searches_follow_the_pattern` or
+/// `searches_follow_the_ecmascript_pattern`.
+///
+/// Statement: `specs/Laws`.
 pub fn searches_return_matches_of_pattern()
     ensures profile { SearchesReturnMatchesOfPattern profile }
     ensures ecmascript { SearchesReturnMatchesOfPattern ecmascript }

@@ -43,7 +43,8 @@ pub struct Regex {
 
 impl Regex {
     ghost use Rattle.regress_match.specs.PublicFlagsAsSpecFlags.{spec_flags_of};
-    ghost use Rattle.regress_match.specs.ProgramTreesAndAnswers.{IsCompiledWith, IsCompiledWithSyntax, bytes_as_ascii_text, bytes_as_utf8_text, ascii_answers, tree_for_byte_units, utf8_steps_suffice, tree_for_16_bit_units, utf8_answers, utf8_answers_within_steps};
+    ghost use Rattle.regress_match.specs.ProgramTreesAndAnswers.{IsCompiledWith, IsCompiledWithSyntax, bytes_as_ascii_text, bytes_as_utf8_text, ascii_answers, tree_for_byte_units, utf8_steps_suffice};
+    ghost use Rattle.regress_match.specs.ProgramTreesAndAnswers.{tree_for_16_bit_units, utf8_answers, utf8_answers_within_steps};
 
     /// Compiles a pattern with the default flags (`crates/use_dates` compiles `\d{4}-\d\d-\d\d`).
     ///

@@ -9,7 +9,8 @@ ghost use Rattle.regex_pattern_front.specs.AstToSpecTree.{class_as_spec, spec_no
 ghost use Rattle.regress_program.specs.InsnsAsSpec.{loop_fields_as_spec};
 ghost use Rattle.regress_program.specs.{InsnsAsSpec.{insn_as_spec_insn}, CompilationOfTreesAsFunction.{group_reset_insns}};
 ghost use Rattle.regress_program.specs.LeafNodesAndOptimizableLoops.{is_leaf};
-ghost use Rattle.regress_program.specs.EmitterStateAndAppendedCode.{HasIndexRoomForNode, emitter_state, with_insn_appended, with_insns_appended, with_insn_at, with_loop, empty_state, IsEmitted, lookaround_as_spec};
+ghost use Rattle.regress_program.specs.EmitterStateAndAppendedCode.{HasIndexRoomForNode, emitter_state, with_insn_appended, with_insns_appended, with_insn_at, with_loop, empty_state, IsEmitted};
+ghost use Rattle.regress_program.specs.EmitterStateAndAppendedCode.{lookaround_as_spec};
 
 use crate::emit::small_set_and_assertion_insns::{
     anchor_insn, byte_set_insn, char_set_insn, word_boundary_insn,

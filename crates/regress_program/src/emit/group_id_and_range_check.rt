@@ -6,7 +6,8 @@ ghost use Rattle.std.specs.Prelude.{◌≡◌, is_some, IfSome, ◌≤◌, ◌<�
 ghost use Rattle.regex_meaning.specs.{Tree.{alt, group_ids, every_node_passes}, WellFormedTrees.{has_exact_group_range}};
 ghost use Rattle.regex_pattern_front.specs.AstToSpecTree.{spec_node_of};
 ghost use Rattle.regress_program.specs.LeafNodesAndOptimizableLoops.{spec_cat_of_children};
-ghost use Rattle.regress_program.specs.GroupIdCheck.{is_group_id_seen, are_distinct_unseen, has_exact_group_ids, node_fills_id_range, count_and_span_of_group_ids, MarksGroupIdsSeen, joined as spec_joined, GroupIdCountAndSpanNumbers};
+ghost use Rattle.regress_program.specs.GroupIdCheck.{is_group_id_seen, are_distinct_unseen, has_exact_group_ids, node_fills_id_range, count_and_span_of_group_ids, MarksGroupIdsSeen};
+ghost use Rattle.regress_program.specs.GroupIdCheck.{joined as spec_joined, GroupIdCountAndSpanNumbers};
 ghost use Rattle.regress_program.specs.GroupIdSpans.{group_id_span_as_numbers, JoinsGroupIdSpan};
 
 use regex_pattern_front::ir::Node;

@@ -7,7 +7,8 @@ ghost use Rattle.regex_meaning.specs.WellFormedTrees.{set_sizes_and_characters_f
 ghost use Rattle.regex_pattern_front.specs.AstToSpecTree.{spec_node_of, spec_quantifier_of};
 ghost use Rattle.regress_program.specs.LeafNodesAndOptimizableLoops.{spec_cat_of_children, is_leaf};
 ghost use Rattle.regress_program.specs.EmitterStateAndAppendedCode.{HasIndexRoomForNode, node_with_char_loops_if_enabled, node_to_emit_in_mode, emitter_state, IsEmitted, lookaround_as_spec};
-ghost use Rattle.regress_program.specs.PendingEmission.{CanEmitPendingPart, FitsIndexWidths, PendingPartIsEmittedOrBegun, BeginsEmittingNode, BeginsEmittingAlternatives, BeginsEmittingNodeList, emitter_and_pending_parts, with_alternatives_emitted, with_lookaround_end, with_loop_end};
+ghost use Rattle.regress_program.specs.PendingEmission.{CanEmitPendingPart, FitsIndexWidths, PendingPartIsEmittedOrBegun, BeginsEmittingNode, BeginsEmittingAlternatives, BeginsEmittingNodeList};
+ghost use Rattle.regress_program.specs.PendingEmission.{emitter_and_pending_parts, with_alternatives_emitted, with_lookaround_end, with_loop_end};
 
 use crate::emit::emitter::{EmitMode, Emitter, LookaroundFields, loop_head_insn};
 use crate::instructions::{Insn, LoopFields};

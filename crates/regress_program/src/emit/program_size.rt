@@ -5,7 +5,8 @@ ghost use Rattle.std.specs.Prelude.{◌≡◌, ◌+◌, ◌-◌, ◌^◌, Some, 
 ghost use Rattle.std.proofs.Common.{refl};
 ghost use Rattle.regex_meaning.specs.Tree.{group_ids};
 ghost use Rattle.regex_pattern_front.specs.AstToSpecTree.{spec_node_of};
-ghost use Rattle.regress_program.specs.{CompilationOfTreesAsFunction.{node_insn_count, insn_count_without_children as spec_insn_count_without_children, loop_count}, GroupLoopInsnCountsPerNode.{count_node}};
+ghost use Rattle.regress_program.specs.CompilationOfTreesAsFunction.{node_insn_count, insn_count_without_children as spec_insn_count_without_children, loop_count};
+ghost use Rattle.regress_program.specs.GroupLoopInsnCountsPerNode.{count_node};
 
 use crate::emit::byte_sequences_and_string_sets::{chunk_count, insn_count_of_strings};
 use crate::emit::tree_walk_with_visitor::{PreorderNodeVisitor, walk};

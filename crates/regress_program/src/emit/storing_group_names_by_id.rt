@@ -6,7 +6,8 @@ ghost use Rattle.std.proofs.Common.{refl};
 ghost use Rattle.regex_meaning.specs.{Tree.{group_ids}, WellFormedTrees.{each_id_stands_once}};
 ghost use Rattle.regex_meaning.specs.MatchGroupsByNumberAndName.{capturing_group_ids_and_names, group_names_by_id};
 ghost use Rattle.regex_pattern_front.specs.AstToSpecTree.{spec_node_of, group_name_bytes};
-ghost use Rattle.regress_program.specs.StoringGroupNamesById.{IsNameListAfterStoringNames, StoresOrPushesNodes, PushesTwoNodes, PushesNamedNodes, is_nameless, tree_has_no_named_groups as spec_tree_has_no_named_groups, naming_measure_of_node, naming_measure_of_part, names_in_pending_part};
+ghost use Rattle.regress_program.specs.StoringGroupNamesById.{IsNameListAfterStoringNames, StoresOrPushesNodes, PushesTwoNodes, PushesNamedNodes, is_nameless};
+ghost use Rattle.regress_program.specs.StoringGroupNamesById.{tree_has_no_named_groups as spec_tree_has_no_named_groups, naming_measure_of_node, naming_measure_of_part, names_in_pending_part};
 ghost use Rattle.regress_program.specs.TryFoldOverTreeNodes.{step_of_test};
 
 use crate::emit::nested_nodes::has_children;

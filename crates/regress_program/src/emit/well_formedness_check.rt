@@ -7,8 +7,10 @@ ghost use Rattle.std.specs.List.{list_all};
 ghost use Rattle.std.specs.Str.{is_utf8, chars, continuation_len};
 ghost use Rattle.regex_pattern_front.specs.AstToSpecTree.{spec_node_of, spec_quantifier_of};
 ghost use Rattle.regex_meaning.specs.Tree.{every_node_passes};
-ghost use Rattle.regex_meaning.specs.WellFormedTrees.{number_of_goal_nodes, ends_in_goal, only_goal_node_is_last, IsWellFormed, is_one_character as spec_is_one_character, is_min_at_most_max as spec_is_min_at_most_max};
-ghost use Rattle.regress_program.specs.{GroupIdCheck.{is_well_formed_node}, EmitterStateAndAppendedCode.{strings_as_code_points}, TryFoldOverTreeNodes.{step_of_test}, AtMostOneGoalNodeCheck.{visit_goal}};
+ghost use Rattle.regex_meaning.specs.WellFormedTrees.{number_of_goal_nodes, ends_in_goal, only_goal_node_is_last, IsWellFormed, is_one_character as spec_is_one_character};
+ghost use Rattle.regex_meaning.specs.WellFormedTrees.{is_min_at_most_max as spec_is_min_at_most_max};
+ghost use Rattle.regress_program.specs.{GroupIdCheck.{is_well_formed_node}, EmitterStateAndAppendedCode.{strings_as_code_points}, TryFoldOverTreeNodes.{step_of_test}};
+ghost use Rattle.regress_program.specs.AtMostOneGoalNodeCheck.{visit_goal};
 
 use crate::emit::group_id_and_range_check::group_id_span_if_ids_valid;
 use crate::emit::tree_walk_with_visitor::{PreorderNodeVisitor, walk};

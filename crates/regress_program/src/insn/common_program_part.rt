@@ -3,7 +3,8 @@
 ghost use Rattle.std.specs.Prelude.{◌≡◌, ◌<◌, ◌^◌, IsTrue, IfOk, [], get_or, map, string_bytes};
 ghost use Rattle.regex_pattern_front.specs.AstToSpecTree.{tree_of, spec_flags_of, class_as_spec};
 ghost use Rattle.regex_meaning.specs.WellFormedTrees.{is_well_formed};
-ghost use Rattle.regress_program.specs.{InsnsAsSpec.{insn_as_spec_insn}, CompilationOfTreesAsFunction.{node_insn_count, compiled}, ProgramFieldsMatchTree.{IsCodeOfTree}, OptimizedTreeUnlessNoOpt.{optimized_tree_unless_no_opt}, TableKeysOfUnits.{is_16_bit_width}, Plans.{IsPlanOf}};
+ghost use Rattle.regress_program.specs.{InsnsAsSpec.{insn_as_spec_insn}, CompilationOfTreesAsFunction.{node_insn_count, compiled}, ProgramFieldsMatchTree.{IsCodeOfTree}};
+ghost use Rattle.regress_program.specs.{OptimizedTreeUnlessNoOpt.{optimized_tree_unless_no_opt}, TableKeysOfUnits.{is_16_bit_width}, Plans.{IsPlanOf}};
 ghost use Rattle.std.specs.Arc.{arc_value};
 
 use crate::ghost_source_tree::GhostSourceTree;

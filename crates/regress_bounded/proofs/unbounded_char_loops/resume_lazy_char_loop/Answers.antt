@@ -42,8 +42,8 @@ overflow_add-state g c =
     let few = body-fits c.args.searched.now.program.now c.args.insns.now c.requires.code c.args.state.ip (back-tested c.args.stack.now.items c.args.state c.requires.stands) short in
     omega (arith, few)
 
-pub nearest-requires-clause-at : goal.nearest-requires-clause-at
-nearest-requires-clause-at g c = back-boundary c.args.stack.now.items c.args.state c.requires.stands
+pub take_nearest_exit-requires-clause-at : goal.take_nearest_exit-requires-clause-at
+take_nearest_exit-requires-clause-at g c = back-boundary c.args.stack.now.items c.args.state c.requires.stands
 
 pub bounds-insns-state : goal.bounds-insns-state
 bounds-insns-state g c =
@@ -61,8 +61,8 @@ overflow_add-state-2 g c =
     let few = body-fits c.args.searched.now.program.now c.args.insns.now c.requires.code c.args.state.ip (back-tested c.args.stack.now.items c.args.state c.requires.stands) short in
     omega (arith, few)
 
-pub nearest-requires-clause-within : goal.nearest-requires-clause-within
-nearest-requires-clause-within g c =
+pub take_nearest_exit-requires-clause-within : goal.take_nearest_exit-requires-clause-within
+take_nearest_exit-requires-clause-within g c =
     let short : length c.args.insns.now < 2 ^ 64 = search rules in
     body-fits c.args.searched.now.program.now c.args.insns.now c.requires.code c.args.state.ip (back-tested c.args.stack.now.items c.args.state c.requires.stands) short
 
@@ -73,15 +73,15 @@ body g c =
     let tested = back-tested c.args.stack.now.items c.args.state c.requires.stands in
     body-insn c.args.searched.now.program.now c.args.insns.now c.requires.code c.args.state.ip tested c.index-insns-state.result c.index-insns-state.is
 
-pub nearest-requires-clause-test : goal.nearest-requires-clause-test
-nearest-requires-clause-test g c =
+pub take_nearest_exit-requires-clause-test : goal.take_nearest_exit-requires-clause-test
+take_nearest_exit-requires-clause-test g c =
     let tested = back-tested c.args.stack.now.items c.args.state c.requires.stands in
-    subst (λ o. IsSome (test_of (compiled (tree_of c.args.searched.now.program.now)) o)) (body g (goal.at.nearest-requires-clause-test g c).After-index-insns-state) tested
+    subst (λ o. IsSome (test_of (compiled (tree_of c.args.searched.now.program.now)) o)) (body g (goal.at.take_nearest_exit-requires-clause-test g c).After-index-insns-state) tested
 
-pub nearest-requires-clause-bytes : goal.nearest-requires-clause-bytes
-nearest-requires-clause-bytes g c =
+pub take_nearest_exit-requires-clause-bytes : goal.take_nearest_exit-requires-clause-bytes
+take_nearest_exit-requires-clause-bytes g c =
     body-spelled c.args.searched.now.program.now c.args.searched.now.bytes c.args.state.ip c.index-insns-state.result
-    (body g (goal.at.nearest-requires-clause-bytes g c).After-index-insns-state)
+    (body g (goal.at.take_nearest_exit-requires-clause-bytes g c).After-index-insns-state)
 
 -- ---- It is not
 
@@ -94,5 +94,5 @@ pub returns-clause-continues : goal.returns-clause-continues
 returns-clause-continues g c = λ b h.
     let rest = rest-of c.args.stack.now.items c.args.state h in
     let near = c.in_ok-next.ensures rest.test rest.place (sym (ap (test_of (compiled (tree_of c.args.searched.now.program.now))) (body g (goal.at.returns-clause-continues g c).After-index-insns-state)) ∙ rest.run.body) rest.at in
-    back-goes c.args.stack.now.items c.args.state h c.in-Some.is c.key_at.ensures.key (sym c.fails.ensures ∙ c.if-fails.false) c.in_ok-next.next c.push_entry.new.stack.items c.nearest.new.stack.items
+    back-goes c.args.stack.now.items c.args.state h c.in-Some.is c.key_at.ensures.key (sym c.fails.ensures ∙ c.if-fails.false) c.in_ok-next.next c.push_entry.new.stack.items c.take_nearest_exit.new.stack.items
     c.in_ok-push_entry.ensures near c.spend-2.new.self c.spend-2.ensures.memo c.in_ok-spend-2.ensures.spent

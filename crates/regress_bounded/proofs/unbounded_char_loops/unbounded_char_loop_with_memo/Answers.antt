@@ -106,10 +106,10 @@ returns-in_err-spend-3-clause-continues g c = λ b h.
     (falls-short g.Input.Position.PositionType.offset (compiled (tree_of c.args.searched.now.program.now)) (g.Input.InputIndexer.text c.args.searched.now.input) b h
     (c.read_chars_within_budget-passed.result + 2) c.spend-2.new.self (at-least h p c.requires.run) c.in_err-spend-3.ensures.over.1)
 
-pub nearest-requires-clause-test : goal.nearest-requires-clause-test
-nearest-requires-clause-test g c = (reads-here c.requires.run c.requires.stands).test
+pub take_nearest_exit-requires-clause-test : goal.take_nearest_exit-requires-clause-test
+take_nearest_exit-requires-clause-test g c = (reads-here c.requires.run c.requires.stands).test
 
 pub returns-clause-continues : goal.returns-clause-continues
 returns-clause-continues g c = λ b h.
     lazy-goes c.args.state h (run-which c.requires.run c.if-run.false) (passes g (goal.at.returns-clause-continues g c).After-read_chars_within_budget-passed) c.if-passed-run.false c.in_ok-next-2.next
-    c.nearest.new.stack.items c.in_ok-next-2.ensures c.spend-2.new.self c.spend-2.ensures.memo c.in_ok-spend-3.ensures.spent
+    c.take_nearest_exit.new.stack.items c.in_ok-next-2.ensures c.spend-2.new.self c.spend-2.ensures.memo c.in_ok-spend-3.ensures.spent

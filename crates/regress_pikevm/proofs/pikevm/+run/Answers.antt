@@ -8,7 +8,8 @@ use Rattle.regress_search.specs.AttemptsAndStarts.{steps_for_attempt, search_fro
 use Rattle.regress_machine.specs.InsnEffects.{end_of_search}
 use Rattle.regress_machine.specs.ExecutorLoopInvariantAndSpentSteps.{steps_of}
 use Rattle.regress_machine.proofs.RemainingThreads.{Remains, remains-begin}
-use Rattle.regress_pikevm.proofs.ExecutorTurnLemmas.{TakenUp, less-by, turn-can, turn-inside, turn-dead, turn-go, turn-fork_thread_at_insn, turn-scans, taken-up, reads-literals, turn-ends, turn-ask, turn-resumed, turn-none}
+use Rattle.regress_pikevm.proofs.ExecutorTurnLemmas.{TakenUp, less-by, turn-can, turn-inside, turn-dead, turn-go, turn-fork_thread_at_insn, turn-scans, taken-up, reads-literals, turn-ends, turn-ask}
+use Rattle.regress_pikevm.proofs.ExecutorTurnLemmas.{turn-resumed, turn-none}
 use Rattle.regress_pikevm.proofs.pikevm.+run.Given.{Over}
 use Rattle.regress_pikevm.proofs.pikevm.+run.Goals.{In-Some}
 use Rattle.regress_pikevm.proofs.pikevm.+run.Goals as goal

@@ -9,7 +9,8 @@ use Rattle.regress_program.specs.GroupIdCheck.{is_group_id_seen, has_exact_group
 use Rattle.regress_program.specs.GroupIdSpans.{group_id_span_as_numbers}
 use Rattle.regress_program.proofs.NodeListLemmas.{spec_node_of-Cat, spec_cat_of_children-drop}
 use Rattle.regress_program.proofs.NodeKindLemmas.{leaf-left}
-use Rattle.regress_program.proofs.GroupIdCheckLemmas.{left-same, left-next, left-fails, left-leaf, left-found, left-span, left-seen, fills-range_is_ids_of_enclosed_groups, joined-none, one_is_fresh, one_contained}
+use Rattle.regress_program.proofs.GroupIdCheckLemmas.{left-same, left-next, left-fails, left-leaf, left-found, left-span, left-seen, fills-range_is_ids_of_enclosed_groups, joined-none, one_is_fresh}
+use Rattle.regress_program.proofs.GroupIdCheckLemmas.{one_contained}
 use Rattle.regress_program.proofs.InnerNodeCountLemmas.{inner_node_count, weight-child}
 use Rattle.regress_program.proofs.emit.group_id_and_range_check.GroupIdSpanDuringCheck.+check_ids.Goals as goal
 

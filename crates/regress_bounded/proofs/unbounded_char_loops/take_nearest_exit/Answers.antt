@@ -1,8 +1,8 @@
 use Rattle.std.proofs.Common.{ℕ, ap, ◌∙◌, arith}
 use Rattle.regress_pikevm.specs.States.{machine_state_of}
 use Rattle.regress_bounded.proofs.CharLoopProgress.{past-none, past-more, past-all}
-use Rattle.regress_bounded.proofs.unbounded_char_loops.nearest.Goals.{then-consume_next_char_if_accepted+in_ok-push_entry, else-consume_next_char_if_accepted}
-use Rattle.regress_bounded.proofs.unbounded_char_loops.nearest.Goals as goal
+use Rattle.regress_bounded.proofs.unbounded_char_loops.take_nearest_exit.Goals.{then-consume_next_char_if_accepted+in_ok-push_entry, else-consume_next_char_if_accepted}
+use Rattle.regress_bounded.proofs.unbounded_char_loops.take_nearest_exit.Goals as goal
 
 pub returns : goal.returns
 returns g c = λ test place e f.

@@ -3,7 +3,7 @@ use Rattle.std.specs.Option.{option_to_list}
 use Rattle.std.proofs.lemmas.Result.{IfOk-weaker}
 use Rattle.regress_search.specs.MatchesAsSpecAnswers.{answer_of}
 use Rattle.use_regexp.proofs.TurnLemmas.{taken-all, taken-one}
-use Rattle.use_regexp.proofs.pattern.Pattern.taken.Goals as goal
+use Rattle.use_regexp.proofs.pattern.Pattern.matches_of_call.Goals as goal
 
 pub returns-then-self-clause-taken : goal.returns-then-self-clause-taken
 returns-then-self-clause-taken c =

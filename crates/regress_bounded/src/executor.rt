@@ -150,7 +150,7 @@ impl<'r, Input: InputIndexer> SingleAttemptExecutor for BoundedExecutor<'r, Inpu
 
     ghost failures = { λ e. failures_of e.progress.memo };
 
-    ghost attempt_costs = { AttemptCosts };
+    ghost costs = { record { of_attempt = AttemptCosts; may_skip = false } };
 
     fn program(&self) -> &Program {
         self.searched.program

@@ -14,7 +14,7 @@ use Rattle.regex_meaning.specs.Text.{Text}
 use Rattle.regex_meaning.specs.Tree.{Tree}
 use Rattle.regress_search.specs.MatchesWithinWork.{RemainingAnswersAndWork}
 use Rattle.regress_search.specs.CostsOfCalls.{WorkMatchesView}
-use Rattle.regress_search.specs.CostsOfSearches.{Failures}
+use Rattle.regress_search.specs.CostsOfSearches.{Failures, WorkCosts}
 use Rattle.regress_bounded.specs.CostsOfAttempts.{BeginsSearchesForTreeInText}
 use Rattle.regress_search.specs.declared.exec.work_matches.WorkError.TheVariants.{Memory, WorkLimit}
 use Rattle.regress_memo.specs.AnalysisAsPotentials.{no_insn_analysis}
@@ -70,10 +70,10 @@ searches-ResultsAreMatchesWithinWork tree text start per_unit work it t rs y k =
 
 -- ---- The cost of calls
 
-module _ {P : Type 0} (attempt_costs : Tree → Text → (before : Failures) → (at cost : ℕ) → (after : Option Failures) → Type 0) (tree_of : P → Tree) (text_of : P → Text) (failures_of : P → Failures) where
+module _ {P : Type 0} (costs : WorkCosts) (tree_of : P → Tree) (text_of : P → Text) (failures_of : P → Failures) where
   -- If the work is enough and no allocation fails, the calls take exactly their costs.
-  calls-cost : (s t : WorkMatchesView P) (rs : List WorkLimitedNextResult) → s.enough ≡ true → NextCallsYieldAtCost attempt_costs tree_of text_of failures_of s rs t
-      → Each IsNoAllocationFailure rs → (cost : ℕ) × NextCallsYieldAtTotalCost attempt_costs tree_of text_of failures_of s rs cost t × (s.left ≡ cost + t.left)
+  calls-cost : (s t : WorkMatchesView P) (rs : List WorkLimitedNextResult) → s.enough ≡ true → NextCallsYieldAtCost costs tree_of text_of failures_of s rs t
+      → Each IsNoAllocationFailure rs → (cost : ℕ) × NextCallsYieldAtTotalCost costs tree_of text_of failures_of s rs cost t × (s.left ≡ cost + t.left)
   calls-cost s t [] e h n = (0, (h, refl), (let same : s.left ≡ t.left = ap (λ (v : WorkMatchesView P). v.left) (sym h) in omega (arith, same)))
   calls-cost s t (None ∷ rs) e (u, h, k) n =
       let cost = h.1 in
@@ -86,7 +86,7 @@ module _ {P : Type 0} (attempt_costs : Tree → Text → (before : Failures) →
   calls-cost s t (Some (Err Memory) ∷ rs) e h n = absurd n.0
   calls-cost s t (Some (Err WorkLimit) ∷ rs) e (u, h, k) n = absurd (cc (sym e ∙ h.0.0.0.0))
 
-  pub searches-cost : CallCostsAreWorkSpent attempt_costs tree_of text_of failures_of
+  pub searches-cost : CallCostsAreWorkSpent costs tree_of text_of failures_of
   searches-cost tree text start per_unit work it t rs y big k n =
       let all = calls-cost it t rs (y.enough big) k n in
       (all.0, all.1, sym y.left ∙ all.2)

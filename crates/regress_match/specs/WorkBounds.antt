@@ -6,7 +6,7 @@ use Rattle.regex_meaning.specs.Text.{Text}
 use Rattle.regex_meaning.specs.Tree.{Tree}
 use Rattle.regress_search.specs.MatchesAsSpecAnswers.{answer_of}
 use Rattle.regress_search.specs.MatchesWithinWork.{RemainingAnswersAndWork, NextYieldsWithinWork}
-use Rattle.regress_search.specs.CostsOfSearches.{Failures}
+use Rattle.regress_search.specs.CostsOfSearches.{Failures, WorkCosts}
 use Rattle.regress_search.specs.CostsOfCalls.{NextCallCosts, NextYieldsAtCost, WorkMatchesView, without_costs}
 use Rattle.regress_search.specs.declared.exec.Match.{Match}
 use Rattle.regress_search.specs.declared.exec.work_matches.WorkError.{WorkError}
@@ -115,15 +115,14 @@ abbrev pub IsNoAllocationFailure : WorkLimitedNextResult → Type 0
 IsNoAllocationFailure (Some (Err Memory)) = ⊥
 IsNoAllocationFailure _ = Unit {0}
 
-module _ {P : Type 0} (attempt_costs : Tree → Text → (before : Failures) → (at cost : ℕ) → (after : Option Failures)
-    → Type 0) (tree_of : P → Tree) (text_of : P → Text) (failures_of : P → Failures) where
+module _ {P : Type 0} (costs : WorkCosts) (tree_of : P → Tree) (text_of : P → Text) (failures_of : P → Failures) where
   -- Successive calls of `next` return these results. The iterator's view is `before` at first and
   -- `behind` at the end.
   abbrev pub NextCallsYieldAtCost : (before : WorkMatchesView P) → List WorkLimitedNextResult
       → (behind : WorkMatchesView P) → Type 0
   NextCallsYieldAtCost before [] behind = behind ≡ before
   NextCallsYieldAtCost before (r ∷ rs) behind =
-      (next : WorkMatchesView P) × NextYieldsAtCost attempt_costs tree_of text_of failures_of before r next
+      (next : WorkMatchesView P) × NextYieldsAtCost costs tree_of text_of failures_of before r next
       × NextCallsYieldAtCost next rs behind
 
   -- Like `NextCallsYieldAtCost`, where the searches of all calls together cost `cost`.
@@ -132,8 +131,8 @@ module _ {P : Type 0} (attempt_costs : Tree → Text → (before : Failures) →
   NextCallsYieldAtTotalCost before [] cost behind = (behind ≡ before) × (cost ≡ 0)
   NextCallsYieldAtTotalCost before (r ∷ rs) cost behind =
       (next : WorkMatchesView P) × (first later : ℕ)
-      × NextYieldsAtCost attempt_costs tree_of text_of failures_of before r next
-      × NextCallCosts attempt_costs tree_of text_of failures_of before first (Some (failures_of next.producer))
+      × NextYieldsAtCost costs tree_of text_of failures_of before r next
+      × NextCallCosts costs tree_of text_of failures_of before first (Some (failures_of next.producer))
       × NextCallsYieldAtTotalCost next rs later behind × (cost ≡ first + later)
 
   -- If the budget suffices and no allocation fails, the calls together cost exactly what is taken

@@ -9,7 +9,7 @@ use Rattle.regress_search.specs.declared.exec.work_matches.WorkError.TheVariants
 use Rattle.regress_search.specs.declared.exec.MatchProducer.{Ghosts}
 use Rattle.regress_search.specs.RemainingAnswers.{NextYields, remaining_answers_from}
 use Rattle.regress_search.specs.MatchesWithinWork.{CallKeepsWorkEnough, IsWorkLimitOrMemoryCause, is_work_enough}
-use Rattle.regress_search.specs.CostsOfSearches.{CallSpendsExactCost, ContinuesAfterCall, Failures, LeavesWorkWithoutResult}
+use Rattle.regress_search.specs.CostsOfSearches.{CallSpendsExactCost, ContinuesAfterCall, Failures, LeavesWorkWithoutResult, WorkCosts}
 use Rattle.regress_search.specs.CostsOfCalls.{NextCallCosts, NextYieldsAtCost, WorkMatchesView}
 
 -- If the work limit was reached, the work left was not enough.
@@ -17,19 +17,19 @@ not-enough : (enough out : Bool) → (enough ≡ true → out ≡ false) → out
 not-enough true out e is = absurd (cc (sym (e refl) ∙ is))
 not-enough false out e is = refl
 
-module _ {P : Type 0} (attempt_costs : Tree → Text → (before : Failures) → (at cost : ℕ) → (after : Option Failures) → Type 0) (tree : P → Tree) (text : P → Text) (failures : P → Failures)
+module _ {P : Type 0} (costs : WorkCosts) (tree : P → Tree) (text : P → Text) (failures : P → Failures)
     (s t : WorkMatchesView P) (out : Bool) where
   -- `Called` is what the function that searches ensures of a result.
   pub record Called (r : Option (Result Match SearchError)) : Type 0 where
     pub yields : NextYields s.remaining r t.remaining
     pub enough : CallKeepsWorkEnough s.enough r t.enough out
     pub less : t.left ≤ s.left
-    pub spends : CallSpendsExactCost (NextCallCosts attempt_costs tree text failures s) s.left r out t.left (failures t.producer)
+    pub spends : CallSpendsExactCost (NextCallCosts costs tree text failures s) s.left r out t.left (failures t.producer)
     pub continues : ContinuesAfterCall (tree s.producer) (text s.producer) s.position r t.position
     pub same_tree : tree t.producer ≡ tree s.producer
     pub same_text : text t.producer ≡ text s.producer
 
-  pub called-Ok : (m : Match) → Called (Some (Ok m)) → NextYieldsAtCost attempt_costs tree text failures s (Some (Ok m)) t
+  pub called-Ok : (m : Match) → Called (Some (Ok m)) → NextYieldsAtCost costs tree text failures s (Some (Ok m)) t
   called-Ok m c = (
     ((c.yields.0, c.yields.2, c.yields.3, c.yields.4, c.enough), c.less),
     c.spends,
@@ -40,11 +40,11 @@ module _ {P : Type 0} (attempt_costs : Tree → Text → (before : Failures) →
 
   -- An error of the search fulfills what a call ensures, by its cause.
   pub called-Err : (e : SearchError) (w : WorkError) → IsWorkLimitOrMemoryCause w out t.left → Called (Some (Err e))
-      → NextYieldsAtCost attempt_costs tree text failures s (Some (Err w)) t
+      → NextYieldsAtCost costs tree text failures s (Some (Err w)) t
   called-Err e Memory is c = (((tt, c.yields.1, c.yields.2), c.less), c.less, c.continues, c.same_tree, c.same_text)
   called-Err e WorkLimit is c = (
     (((not-enough s.enough out c.enough is.0, is.1), c.yields.1, c.yields.2), c.less),
-    (subst (λ b. LeavesWorkWithoutResult (NextCallCosts attempt_costs tree text failures s) s.left b t.left) is.0 c.spends, is.1),
+    (subst (λ b. LeavesWorkWithoutResult (NextCallCosts costs tree text failures s) s.left b t.left) is.0 c.spends, is.1),
     c.continues,
     c.same_tree,
     c.same_text,
@@ -62,15 +62,15 @@ view-of e offset producer position = record {
 
 module _ {E Q : Type 0} (e : Ghosts E Q) (offset : Q → ℕ) (producer : E) (position : Option Q) (producer' : E) (position' : Option Q) where
   abbrev pub CalledBy : Option (Result Match SearchError) → Type 0
-  CalledBy = Called e.attempt_costs e.tree e.text e.failures (view-of e offset producer position) (view-of e offset producer' position') (e.out_of_work producer')
+  CalledBy = Called e.costs e.tree e.text e.failures (view-of e offset producer position) (view-of e offset producer' position') (e.out_of_work producer')
 
   abbrev pub Gives : Option (Result Match WorkError) → Type 0
-  Gives result = NextYieldsAtCost e.attempt_costs e.tree e.text e.failures (view-of e offset producer position) result (view-of e offset producer' position')
+  Gives result = NextYieldsAtCost e.costs e.tree e.text e.failures (view-of e offset producer position) result (view-of e offset producer' position')
 
   module _ (r : Option (Result Match SearchError)) (called : CalledBy r) (result : Option (Result Match WorkError)) where
     pub gives-Ok : (m : Match) → r ≡ Some (Ok m) → result ≡ Some (Ok m) → Gives result
-    gives-Ok m is some = subst Gives (sym some) (called-Ok e.attempt_costs e.tree e.text e.failures _ _ (e.out_of_work producer') m (subst CalledBy is called))
+    gives-Ok m is some = subst Gives (sym some) (called-Ok e.costs e.tree e.text e.failures _ _ (e.out_of_work producer') m (subst CalledBy is called))
 
     pub gives-Err : (x : SearchError) (w : WorkError) → r ≡ Some (Err x) → result ≡ Some (Err w) → IsWorkLimitOrMemoryCause w (e.out_of_work producer') (e.left producer') → Gives result
     gives-Err x w is some cause =
-        subst Gives (sym some) (called-Err e.attempt_costs e.tree e.text e.failures _ _ (e.out_of_work producer') x w cause (subst CalledBy is called))
+        subst Gives (sym some) (called-Err e.costs e.tree e.text e.failures _ _ (e.out_of_work producer') x w cause (subst CalledBy is called))

@@ -5,9 +5,9 @@ use Rattle.std.proofs.Math.Logic.{∥∥₁_map}
 use Rattle.regex_meaning.specs.Tree.{Tree}
 use Rattle.regex_meaning.specs.Text.{Text}
 use Rattle.regex_meaning.specs.Outcomes.{Groups}
-use Rattle.regress_search.specs.AttemptsAndStarts.{NoMatchAt, end_with_groups, match_end_and_groups_at}
-use Rattle.regress_search.specs.CostsOfSearches.{AttemptsFail, CallSpendsExactCost, CostsMoreThanLeft, Failures, IfWorkIsCounted, LeavesWorkWithoutResult, SearchCosts, SpendsExactCost}
-use Rattle.regress_search.specs.CostsOfSearches.{TakesExactCost, no_attempt, one_more, finds_none, finds_match, is_begun, next_attempt_offset}
+use Rattle.regress_search.specs.AttemptsAndStarts.{NextStartSkipsNoMatch, NoMatchAt, end_with_groups, match_end_and_groups_at}
+use Rattle.regress_search.specs.CostsOfSearches.{AttemptsFail, CallSpendsExactCost, CostsMoreThanLeft, Failures, IfWorkIsCounted, LeavesWorkWithoutResult, PaysForSkip, PaysForSkipFrom, SearchCosts, SpendsExactCost, WorkCosts}
+use Rattle.regress_search.specs.CostsOfSearches.{TakesExactCost, no_attempt, one_more, skips, finds_none, finds_match, is_begun, next_attempt_offset, units_skipped}
 
 -- ---- Statements of producers that count work
 
@@ -33,44 +33,74 @@ counted₃ true f w x y = f w x y
 
 -- ---- Attempts of a search
 
-module _ (attempt_costs : Tree → Text → (before : Failures) → (at cost : ℕ) → (after : Option Failures) → Type 0) where
+module _ (costs : WorkCosts) where
   -- A call behind the end of the list costs nothing.
   pub nothing-costs : {X E : Type 0} (tree : Tree) (text : Text) (before : Failures) (position : Option ℕ) (left : ℕ) (out : Bool) (r : Option (Result X E)) → r ≡ None → position ≡ None
-      → CallSpendsExactCost (SearchCosts attempt_costs tree text before position) left r out left before
+      → CallSpendsExactCost (SearchCosts costs tree text before position) left r out left before
   nothing-costs tree text before position left out r none e =
-      subst (λ r. CallSpendsExactCost (SearchCosts attempt_costs tree text before position) left r out left before) (sym none)
-      (0, finds_none 0 before (subst (λ p. AttemptsFail attempt_costs tree text before position 0 before p) e no_attempt), omega arith)
+      subst (λ r. CallSpendsExactCost (SearchCosts costs tree text before position) left r out left before) (sym none)
+      (0, finds_none 0 before (subst (λ p. AttemptsFail costs tree text before position 0 before p) e no_attempt), omega arith)
 
   -- The attempts so far found no match, and cost what is no longer left.
   pub record Failing (tree : Tree) (text : Text) (before : Failures) (first left : ℕ) (now : Failures) (left' : ℕ) (next : Option ℕ) : Type 0 where
     pub done : ℕ
-    pub fail : AttemptsFail attempt_costs tree text before (Some first) done now next
+    pub fail : AttemptsFail costs tree text before (Some first) done now next
     pub spent : left ≡ done + left'
 
   pub failing-begins : (tree : Tree) (text : Text) (before : Failures) (first left : ℕ) (next : Option ℕ) → next ≡ Some first
       → Failing tree text before first left before left next
   failing-begins tree text before first left next e = record {
     done = 0;
-    fail = subst (λ n. AttemptsFail attempt_costs tree text before (Some first) 0 before n) (sym e) no_attempt;
+    fail = subst (λ n. AttemptsFail costs tree text before (Some first) 0 before n) (sym e) no_attempt;
     spent = omega arith;
   }
 
   module _ {tree : Tree} {text : Text} {before : Failures} {first left : ℕ} where
+    skip-by : (may_skip : Bool) → costs.may_skip ≡ may_skip → (now : Failures) (now_left left' at : ℕ) (next : Option ℕ)
+        → Failing tree text before first left now now_left (Some at) → PaysForSkip may_skip text at next now_left left' → NextStartSkipsNoMatch tree text at next
+        → Failing tree text before first left now left' next
+    skip-by true may now now_left left' at next f pays none = record {
+      done = f.done + units_skipped text at next;
+      fail = skips f.done at now next f.fail may none;
+      spent = let s = f.spent in let p = pays.1 in omega (arith, s, p);
+    }
+    skip-by false may now now_left left' at next f pays none =
+        let is : next ≡ Some at = pays.0 refl in
+        let taken : now_left ≡ units_skipped text at (Some at) + left' = pays.1 ∙ ap (λ n. units_skipped text at n + left') is in
+        record {
+          done = f.done;
+          fail = subst (λ n. AttemptsFail costs tree text before (Some first) f.done now n) (sym is) f.fail;
+          spent = let s = f.spent in omega (arith, s, taken);
+        }
+
+    -- If starts are skipped, the search takes a unit for each code unit that is skipped.
+    pub failing-skips : (tree' : Tree) (text' : Text) → tree' ≡ tree → text' ≡ text → (now : Failures) (now_left left' : ℕ) {P : Type 0} (offset : P → ℕ) (from : Option P) (next : Option ℕ)
+        → Failing tree text before first left now now_left (option_map offset from) → PaysForSkipFrom costs.may_skip text' (option_map offset from) next now_left left'
+        → ((p : P) → from ≡ Some p → NextStartSkipsNoMatch tree' text' (offset p) next) → Failing tree text before first left now left' next
+    failing-skips tree' text' t x now now_left left' offset None next f pays none = record {
+      done = f.done;
+      fail = subst (λ n. AttemptsFail costs tree text before (Some first) f.done now n) (sym pays.0) f.fail;
+      spent = let s = f.spent in let p = pays.1 in omega (arith, s, p);
+    }
+    failing-skips tree' text' t x now now_left left' offset (Some p) next f pays none =
+        skip-by costs.may_skip refl now now_left left' (offset p) next f (subst (λ x. PaysForSkip costs.may_skip x (offset p) next now_left left') x pays)
+        (subst (λ t. NextStartSkipsNoMatch t text (offset p) next) t (subst (λ x. NextStartSkipsNoMatch tree' x (offset p) next) x (none p refl)))
+
     -- If no offset is left to try, the search takes the cost of the failed attempts.
     pub failing-ends : (now : Failures) (left' : ℕ) (next : Option ℕ) → next ≡ None → Failing tree text before first left now left' next
-        → TakesExactCost (SearchCosts attempt_costs tree text before (Some first)) left left' now
+        → TakesExactCost (SearchCosts costs tree text before (Some first)) left left' now
     failing-ends now left' next e f =
-        (f.done, finds_none f.done now (subst (λ n. AttemptsFail attempt_costs tree text before (Some first) f.done now n) e f.fail), f.spent)
+        (f.done, finds_none f.done now (subst (λ n. AttemptsFail costs tree text before (Some first) f.done now n) e f.fail), f.spent)
 
     -- An attempt is made at the next offset, with the tree and the text of the search.
     module _ {P : Type 0} (offset : P → ℕ) (next : Option P) (at : P) (here : next ≡ Some at) (tree' : Tree) (text' : Text) (same_tree : tree' ≡ tree) (same_text : text' ≡ text)
         (now : Failures) (now_left : ℕ) (f : Failing tree text before first left now now_left (option_map offset next)) where
-      fail-here : AttemptsFail attempt_costs tree text before (Some first) f.done now (Some (offset at))
-      fail-here = subst (λ o. AttemptsFail attempt_costs tree text before (Some first) f.done now (option_map offset o)) here f.fail
+      fail-here : AttemptsFail costs tree text before (Some first) f.done now (Some (offset at))
+      fail-here = subst (λ o. AttemptsFail costs tree text before (Some first) f.done now (option_map offset o)) here f.fail
 
-      costs-here : (cost : ℕ) (after : Option Failures) → attempt_costs tree' text' now (offset at) cost after → attempt_costs tree text now (offset at) cost after
+      costs-here : (cost : ℕ) (after : Option Failures) → costs.of_attempt tree' text' now (offset at) cost after → costs.of_attempt tree text now (offset at) cost after
       costs-here cost after c =
-          subst (λ t. attempt_costs t text now (offset at) cost after) same_tree (subst (λ x. attempt_costs tree' x now (offset at) cost after) same_text c)
+          subst (λ t. costs.of_attempt t text now (offset at) cost after) same_tree (subst (λ x. costs.of_attempt tree' x now (offset at) cost after) same_text c)
 
       module _ (groups : Groups) (end : Option P) (found : end_with_groups offset end groups ≡ match_end_and_groups_at tree' text' (offset at)) where
         match-here : match_end_and_groups_at tree text (offset at) ≡ end_with_groups offset end groups
@@ -78,21 +108,21 @@ module _ (attempt_costs : Tree → Text → (before : Failures) → (at cost : �
 
         -- If the attempt finds no match, it is one more failed attempt, whose cost is added.
         pub failing-goes : end ≡ None → (further : Option ℕ) (tree'' : Tree) (text'' : Text) → tree'' ≡ tree' → text'' ≡ text' → (after : Failures) (left' : ℕ)
-            → TakesExactCost (attempt_costs tree' text' now (offset at)) now_left left' after → further ≡ next_attempt_offset tree'' text'' (offset at)
+            → TakesExactCost (costs.of_attempt tree' text' now (offset at)) now_left left' after → further ≡ next_attempt_offset tree'' text'' (offset at)
             → Failing tree text before first left after left' further
         failing-goes none further tree'' text'' t x after left' takes on =
             let vain : NoMatchAt tree text (offset at) = match-here ∙ ap (λ o. end_with_groups offset o groups) none in
             let is : further ≡ next_attempt_offset tree text (offset at) = on ∙ ap₂ (λ t x. next_attempt_offset t x (offset at)) (t ∙ same_tree) (x ∙ same_text) in
             record {
               done = f.done + takes.0;
-              fail = subst (λ n. AttemptsFail attempt_costs tree text before (Some first) (f.done + takes.0) after n) (sym is)
+              fail = subst (λ n. AttemptsFail costs tree text before (Some first) (f.done + takes.0) after n) (sym is)
                   (one_more f.done takes.0 (offset at) now after fail-here (costs-here takes.0 (Some after) takes.1) vain);
               spent = let s = f.spent in let l = takes.2 in omega (arith, s, l);
             }
 
         -- If the attempt finds a match, the search takes the cost of all its attempts.
-        pub failing-finds : (e : P) → end ≡ Some e → (after : Failures) (left' : ℕ) → TakesExactCost (attempt_costs tree' text' now (offset at)) now_left left' after
-            → TakesExactCost (SearchCosts attempt_costs tree text before (Some first)) left left' after
+        pub failing-finds : (e : P) → end ≡ Some e → (after : Failures) (left' : ℕ) → TakesExactCost (costs.of_attempt tree' text' now (offset at)) now_left left' after
+            → TakesExactCost (SearchCosts costs tree text before (Some first)) left left' after
         failing-finds e some after left' takes =
             let is : match_end_and_groups_at tree text (offset at) ≡ Some (offset e, groups) = match-here ∙ ap (λ o. end_with_groups offset o groups) some in
             let found : IsSome (match_end_and_groups_at tree text (offset at)) = subst IsSome (sym is) refl in (
@@ -102,8 +132,8 @@ module _ (attempt_costs : Tree → Text → (before : Failures) → (at cost : �
             )
 
       -- If the attempt stops short, the search does.
-      pub failing-stops : (out : Bool) (left' : ℕ) → LeavesWorkWithoutResult (attempt_costs tree' text' now (offset at)) now_left out left'
-          → LeavesWorkWithoutResult (SearchCosts attempt_costs tree text before (Some first)) left out left'
+      pub failing-stops : (out : Bool) (left' : ℕ) → LeavesWorkWithoutResult (costs.of_attempt tree' text' now (offset at)) now_left out left'
+          → LeavesWorkWithoutResult (SearchCosts costs tree text before (Some first)) left out left'
       failing-stops false left' less = let s = f.spent in omega (arith, s, less)
       failing-stops true left' more = ∥∥₁_map more (λ c. (
         f.done + c.0,

@@ -7,7 +7,7 @@ use Rattle.regress_search.specs.declared.exec.work_matches.WorkError.{WorkError}
 use Rattle.regress_search.specs.declared.exec.work_matches.WorkError.TheVariants.{Memory, WorkLimit}
 use Rattle.regress_search.specs.RemainingAnswers.{RemainingView}
 use Rattle.regress_search.specs.MatchesWithinWork.{RemainingAnswersAndWork, NextYieldsWithinWork}
-use Rattle.regress_search.specs.CostsOfSearches.{ContinuesAfterCall, CostsMoreThanLeft, Failures, SearchCosts, TakesExactCost}
+use Rattle.regress_search.specs.CostsOfSearches.{ContinuesAfterCall, CostsMoreThanLeft, Failures, SearchCosts, TakesExactCost, WorkCosts}
 
 -- What contracts see of an iterator: the answers still to come, how much work may still be done,
 -- and whether that is enough for all of them. The cost of the next call depends on the producer and
@@ -33,11 +33,10 @@ CostsInWork costs left (Some (Ok m)) left' after = TakesExactCost costs left lef
 CostsInWork costs left (Some (Err Memory)) left' after = left' ≤ left
 CostsInWork costs left (Some (Err WorkLimit)) left' after = CostsMoreThanLeft costs left × (left' ≡ 0)
 
-module _ {P : Type 0} (attempt_costs : Tree → Text → (before : Failures) → (at cost : ℕ) → (after : Option Failures)
-    → Type 0) (tree : P → Tree) (text : P → Text) (failures : P → Failures) where
+module _ {P : Type 0} (costs : WorkCosts) (tree : P → Tree) (text : P → Text) (failures : P → Failures) where
   -- The cost of the next call: a search from the offset at which the list continues.
   abbrev pub NextCallCosts : WorkMatchesView P → (cost : ℕ) → (after : Option Failures) → Type 0
-  NextCallCosts s = SearchCosts attempt_costs (tree s.producer) (text s.producer) (failures s.producer) s.position
+  NextCallCosts s = SearchCosts costs (tree s.producer) (text s.producer) (failures s.producer) s.position
 
   -- The effect of one call: what it returns, what it costs, and where the list continues.
   abbrev pub NextYieldsAtCost : WorkMatchesView P → Option (Result Match WorkError) → WorkMatchesView P → Type 0

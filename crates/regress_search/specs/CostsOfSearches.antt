@@ -1,19 +1,42 @@
 -- What searches cost in units of work, given the cost of each attempt.
---
--- A producer may remember failures between attempts. `attempt_costs tree text before at cost (Some
--- after)` says: if the failures `before` are known at the start of the attempt at offset `at`, the
--- attempt costs `cost`, and the failures `after` are known at its end. With `None` it says that a
--- first part of the attempt costs `cost`.
-use Rattle.std.specs.Prelude.{◌≡◌, ◌<◌, ◌≤◌, ◌+◌, ℕ, Bool, true, false, Option, Some, None, Result, Ok, Err, IfSome, IsSome}
+use Rattle.std.specs.Prelude.{◌≡◌, ◌<◌, ◌≤◌, ◌+◌, ◌-◌, ℕ, Bool, true, false, Option, Some, None, Result, Ok, Err, IfSome, IsSome}
 use Rattle.regex_meaning.specs.Tree.{Tree}
 use Rattle.regex_meaning.specs.Text.{Text}
 use Rattle.regress_program.specs.StartPredicates.{is_anchored_tree}
-use Rattle.regress_search.specs.AttemptsAndStarts.{NoMatchAt, match_end_and_groups_at, offset_after_failed_attempt}
+use Rattle.regex_meaning.specs.CodeUnitOffsets.{units}
+use Rattle.regress_search.specs.AttemptsAndStarts.{NextStartSkipsNoMatch, NoMatchAt, match_end_and_groups_at, offset_after_failed_attempt}
 use Rattle.regress_search.specs.SearchEffects.{IsNextStartAfterFirstMatch}
 
 -- The known failures, by instruction, offset and code of the loop data.
 abbrev pub Failures : Type 0
 Failures = (ip pos code : ℕ) → Bool
+
+-- The costs of a producer that counts work.
+pub record WorkCosts : Type 1 where
+  -- The cost of an attempt. A producer may remember failures between attempts. `of_attempt tree text
+  -- before at cost (Some after)` says: if the failures `before` are known at the start of the
+  -- attempt at offset `at`, the attempt costs `cost`, and the failures `after` are known at its end.
+  -- With `None` it says that a first part of the attempt costs `cost`.
+  pub of_attempt : Tree → Text → (before : Failures) → (at cost : ℕ) → (after : Option Failures) → Type 0
+  -- Whether a search may skip offsets at which no match begins. It pays one unit for each code unit
+  -- that it skips.
+  pub may_skip : Bool
+
+-- The code units from an offset to the next start, or to the end of the text.
+abbrev pub units_skipped : Text → (at : ℕ) → (next : Option ℕ) → ℕ
+units_skipped text at None = units text - at
+units_skipped text at (Some to) = to - at
+
+-- The code units that are skipped are taken from the work that was left. If the producer may not
+-- skip, the next start is the offset itself.
+abbrev pub PaysForSkip : (may_skip : Bool) → Text → (at : ℕ) → (next : Option ℕ) → (left left' : ℕ) → Type 0
+PaysForSkip may_skip text at next left left' =
+    (may_skip ≡ false → next ≡ Some at) × (left ≡ units_skipped text at next + left')
+
+-- The same, for a search that continues at offset `from`, or has ended.
+abbrev pub PaysForSkipFrom : (may_skip : Bool) → Text → (from next : Option ℕ) → (left left' : ℕ) → Type 0
+PaysForSkipFrom may_skip text None next left left' = (next ≡ None) × (left ≡ left')
+PaysForSkipFrom may_skip text (Some at) next left left' = PaysForSkip may_skip text at next left left'
 
 -- A statement that holds only for producers that count work.
 abbrev pub IfWorkIsCounted : (counts_work : Bool) → Type 0 → Type 0
@@ -25,16 +48,18 @@ IfWorkIsCounted true X = X
 abbrev pub next_attempt_offset : Tree → Text → (at : ℕ) → Option ℕ
 next_attempt_offset tree text at = offset_after_failed_attempt (is_anchored_tree tree) text at
 
-module _ (attempt_costs : Tree → Text → (before : Failures) → (at cost : ℕ) → (after : Option Failures) → Type 0)
-    (tree : Tree) (text : Text) where
-  -- Consecutive attempts from offset `first` on find no match and cost `cost` in total. The next
-  -- attempt is at offset `next` and begins with the known failures `now`.
+module _ (costs : WorkCosts) (tree : Tree) (text : Text) where
+  -- Consecutive attempts and skips from offset `first` on find no match and cost `cost` in total.
+  -- The search continues at offset `next` with the known failures `now`.
   pub data AttemptsFail (before : Failures) (first : Option ℕ) : (cost : ℕ) → (now : Failures) → (next : Option ℕ)
       → Type 0 where
     no_attempt : AttemptsFail before first 0 before first
     one_more : (done cost at : ℕ) (now after : Failures) → AttemptsFail before first done now (Some at)
-        → attempt_costs tree text now at cost (Some after) → NoMatchAt tree text at
+        → costs.of_attempt tree text now at cost (Some after) → NoMatchAt tree text at
         → AttemptsFail before first (done + cost) after (next_attempt_offset tree text at)
+    skips : (done at : ℕ) (now : Failures) (next : Option ℕ) → AttemptsFail before first done now (Some at)
+        → costs.may_skip ≡ true → NextStartSkipsNoMatch tree text at next
+        → AttemptsFail before first (done + units_skipped text at next) now next
 
   -- The search for the first match from offset `first` on costs `cost`, and ends with the known
   -- failures `after`. If `after` is `None`, a first part of the search costs `cost`.
@@ -42,10 +67,10 @@ module _ (attempt_costs : Tree → Text → (before : Failures) → (at cost : �
     finds_none : (cost : ℕ) (after : Failures) → AttemptsFail before first cost after None
         → SearchCosts before first cost (Some after)
     finds_match : (done cost at : ℕ) (now after : Failures) → AttemptsFail before first done now (Some at)
-        → attempt_costs tree text now at cost (Some after) → IsSome (match_end_and_groups_at tree text at)
+        → costs.of_attempt tree text now at cost (Some after) → IsSome (match_end_and_groups_at tree text at)
         → SearchCosts before first (done + cost) (Some after)
     is_begun : (done cost at : ℕ) (now : Failures) → AttemptsFail before first done now (Some at)
-        → attempt_costs tree text now at cost None → SearchCosts before first (done + cost) None
+        → costs.of_attempt tree text now at cost None → SearchCosts before first (done + cost) None
 
 -- A first part of the computation costs more than the work that was left.
 abbrev pub CostsMoreThanLeft : (costs : (cost : ℕ) → (after : Option Failures) → Type 0) → (left : ℕ) → Type 0

@@ -9,7 +9,7 @@ ghost use Rattle.regex_pattern_front.specs.AstToSpecTree.{tree_of};
 ghost use Rattle.regress_search.specs.SearchEffects.{IsNextStartAfterFirstMatch, SpendsNeedOrReachesLimit, cause_of_error};
 ghost use Rattle.regress_search.specs.RemainingAnswers.{RemainingView, remaining_answers_from, NextYields, EndsAtTextEnd, max_items_left};
 ghost use Rattle.regress_search.specs.MatchesWithinWork.{CallKeepsWorkEnough, SearchKeepsWorkEnough, is_work_enough};
-ghost use Rattle.regress_search.specs.CostsOfSearches.{CallSpendsExactCost, ContinuesAfterCall, Failures, IfWorkIsCounted, SearchCosts, SpendsExactCost};
+ghost use Rattle.regress_search.specs.CostsOfSearches.{CallSpendsExactCost, ContinuesAfterCall, Failures, IfWorkIsCounted, SearchCosts, SpendsExactCost, WorkCosts};
 
 use regress_input::position::PositionType;
 use regress_program::insn::{CompiledRegex, GroupNames};
@@ -133,8 +133,9 @@ pub trait MatchProducer {
     // The failures that are known. The costs of attempts depend on them.
     ghost failures: { Self → Failures } = { λ _ _ _ _. false };
 
-    // What an attempt costs, if work is counted (see `CostsOfSearches`).
-    ghost attempt_costs: { Tree → Text → Failures → (at cost : ℕ) → Option Failures → Type 0 } = { λ _ _ _ _ _ _. ⊤ };
+    // What attempts cost, if work is counted, and whether starts may be skipped (see
+    // `CostsOfSearches`).
+    ghost costs: { WorkCosts } = { record { of_attempt = λ _ _ _ _ _ _. ⊤; may_skip = false } };
 
     /// Returns the position of an offset in code units. The offset is a boundary, or past the end
     /// of the text; then the result is `None`.
@@ -175,7 +176,7 @@ pub trait MatchProducer {
             (ahead self.old) (at pos)
             result (enough self.new) (ahead self.new) (option_map at next_start.new) (out_of_work self.new) }
         ensures left { left self.new ≤ left self.old }
-        ensures cost { IfWorkIsCounted counts_work (SpendsExactCost (SearchCosts attempt_costs (tree self.old)
+        ensures cost { IfWorkIsCounted counts_work (SpendsExactCost (SearchCosts costs (tree self.old)
             (text self.old) (failures self.old) (Some (Self.Position.offset pos)))
             (left self.old) result (out_of_work self.new) (left self.new) (failures self.new)) }
         ensures same { (tree self.new ≡ tree self.old) × (text self.new ≡ text self.old) };
@@ -285,7 +286,7 @@ fn advance_matches<P: MatchProducer>(
         CallKeepsWorkEnough before result behind (P.out_of_work producer.new) }
     ensures left { P.left producer.new ≤ P.left producer.old }
     ensures cost { let offset = option_map P.Position.offset in
-        let costs = SearchCosts P.attempt_costs (P.tree producer.old) (P.text producer.old) (P.failures producer.old)
+        let costs = SearchCosts P.costs (P.tree producer.old) (P.text producer.old) (P.failures producer.old)
         (offset position.old) in
         IfWorkIsCounted P.counts_work (CallSpendsExactCost costs (P.left producer.old) result
         (P.out_of_work producer.new) (P.left producer.new) (P.failures producer.new)) }

@@ -1,5 +1,6 @@
 //! The search loop over the candidate starts of a text, shared by all executors.
 
+ghost use Rattle.std.specs.Option.{ForSome};
 ghost use Rattle.std.specs.Prelude.{◌≡◌, ◌+◌, ◌<◌, ◌≤◌, ℕ, ⊤, Bool, true, false, IfErr, IfOk, IsSome, None, Some, Option, map, option_map, length};
 ghost use Rattle.regex_meaning.specs.{Tree.{Tree}, Text.{Text}, CodeUnitOffsets.{HasRisingPlaceOffsets, IsBoundary, IsBoundaryOrPastEnd, units}, SearchAnswers.{answer_at}};
 ghost use Rattle.regex_meaning.specs.{Outcomes.{Groups, group_range}, MatchGroupsByNumberAndName.{group_names_by_id}};
@@ -10,7 +11,7 @@ ghost use Rattle.regress_search.specs.AttemptsAndStarts.{ticks_of_attempt_at};
 ghost use Rattle.regress_search.specs.OffsetRangeOfPositions.{offset_range_of_positions};
 ghost use Rattle.regress_search.specs.SearchEffects.{SpendsNeedOrReachesLimit, AllocFailureCostsAStep, TellsIfStepLimitReached, cause_of_error};
 ghost use Rattle.regress_search.specs.MatchesWithinWork.{AttemptKeepsWorkEnough};
-ghost use Rattle.regress_search.specs.CostsOfSearches.{Failures, IfWorkIsCounted, SpendsExactCost, next_attempt_offset};
+ghost use Rattle.regress_search.specs.CostsOfSearches.{Failures, IfWorkIsCounted, PaysForSkip, PaysForSkipFrom, SpendsExactCost, WorkCosts, next_attempt_offset};
 
 use crate::exec::{Match, MatchProducer, SearchError};
 use regress_input::indexing::InputIndexer;
@@ -61,8 +62,9 @@ pub trait SingleAttemptExecutor {
     // The failures that are known. The costs of attempts depend on them.
     ghost failures: { Self → Failures } = { λ _ _ _ _. false };
 
-    // What an attempt costs, if work is counted (see `CostsOfSearches`).
-    ghost attempt_costs: { Tree → Text → Failures → (at cost : ℕ) → Option Failures → Type 0 } = { λ _ _ _ _ _ _. ⊤ };
+    // What attempts cost, if work is counted, and whether starts may be skipped (see
+    // `CostsOfSearches`).
+    ghost costs: { WorkCosts } = { record { of_attempt = λ _ _ _ _ _ _. ⊤; may_skip = false } };
 
     // The groups of the last attempt that found an end.
     ghost groups: { Self → Groups };
@@ -105,7 +107,7 @@ pub trait SingleAttemptExecutor {
             (ahead self.old) (at pos) result (enough self.new) (ahead self.new) (out_of_work self.new) }
         ensures left { left self.new ≤ left self.old }
         ensures within { IfWorkIsCounted counts_work (IfOk result (λ _. out_of_work self.new ≡ false)) }
-        ensures cost { IfWorkIsCounted counts_work (SpendsExactCost (attempt_costs (tree self.old) (text self.old)
+        ensures cost { IfWorkIsCounted counts_work (SpendsExactCost (costs.of_attempt (tree self.old) (text self.old)
             (failures self.old) (Self.Input.Position.offset pos))
             (left self.old) result (out_of_work self.new) (left self.new) (failures self.new)) }
         ensures same { (tree self.new ≡ tree self.old) × (text self.new ≡ text self.old) };
@@ -163,6 +165,32 @@ pub trait SingleAttemptExecutor {
             → option_map at result ≡ next_filtered_start (tree self.now) (text self.now) (at tried) }
         ensures next_if_work_counted { let at = Self.Input.Position.offset in IfWorkIsCounted counts_work
             (option_map at result ≡ next_attempt_offset (tree self.now) (text self.now) (at tried)) };
+
+    /// Returns the next position to try at a given position or later, and pays for the code units
+    /// that it skips. No match begins before the result. Returns `None` if no match begins at the
+    /// given position or later.
+    ///
+    /// An executor that does not pay for skips, or that counts steps, returns the given position.
+    /// The clause `same` says that only the work left changes.
+    fn skip_to_candidate(
+        &mut self,
+        from: <Self::Input as InputIndexer>::Position,
+    ) -> Option<<Self::Input as InputIndexer>::Position>
+        requires { IsBoundary (text self.old) (Self.Input.Position.offset from) }
+        ensures next { let at = Self.Input.Position.offset in
+            NextStartSkipsNoMatch (tree self.old) (text self.old) (at from) (option_map at result) }
+        ensures counted { let at = Self.Input.Position.offset in IsSome (budget self.old)
+            → option_map at result ≡ Some (at from) }
+        ensures paid { let at = Self.Input.Position.offset in IfWorkIsCounted counts_work
+            (PaysForSkip costs.may_skip (text self.old) (at from) (option_map at result) (left self.old)
+            (left self.new)) }
+        ensures left { left self.new ≤ left self.old }
+        ensures same { (tree self.new ≡ tree self.old) × (text self.new ≡ text self.old)
+            × (budget self.new ≡ budget self.old) × (enough self.new ≡ enough self.old)
+            × (ahead self.new ≡ ahead self.old) × (failures self.new ≡ failures self.old) }
+    {
+        Some(from)
+    }
 
     ghost is_text: { (it : Self) → HasRisingPlaceOffsets (text it) };
 }
@@ -246,6 +274,32 @@ fn next_search_pos<Input: InputIndexer>(
     }
 }
 
+// Returns the next position to try at `next` or later, and pays for the code units that it skips.
+#[inline(always)]
+fn skip_from<A: SingleAttemptExecutor>(
+    executor: &mut A,
+    next: Option<<A::Input as InputIndexer>::Position>,
+) -> Option<<A::Input as InputIndexer>::Position>
+    requires { ForSome next (λ p. IsBoundary (A.text executor.old) (A.Input.Position.offset p)) }
+    ensures next { let at = A.Input.Position.offset in (from : ℕ)
+        → NextStartSkipsNoMatch (A.tree executor.old) (A.text executor.old) from (option_map at next)
+        → NextStartSkipsNoMatch (A.tree executor.old) (A.text executor.old) from (option_map at result) }
+    ensures candidate { let at = A.Input.Position.offset in ForSome next (λ p. NextStartSkipsNoMatch
+        (A.tree executor.old) (A.text executor.old) (at p) (option_map at result)) }
+    ensures counted { let at = A.Input.Position.offset in IsSome (A.budget executor.old)
+        → option_map at result ≡ option_map at next }
+    ensures paid { let at = A.Input.Position.offset in IfWorkIsCounted A.counts_work
+        (PaysForSkipFrom A.costs.may_skip (A.text executor.old) (option_map at next) (option_map at result)
+        (A.left executor.old) (A.left executor.new)) }
+    ensures left { A.left executor.new ≤ A.left executor.old }
+    ensures same { (A.tree executor.new ≡ A.tree executor.old) × (A.text executor.new ≡ A.text executor.old)
+        × (A.budget executor.new ≡ A.budget executor.old) × (A.enough executor.new ≡ A.enough executor.old)
+        × (A.ahead executor.new ≡ A.ahead executor.old) × (A.failures executor.new ≡ A.failures executor.old) }
+{
+    let from = next?;
+    executor.skip_to_candidate(from)
+}
+
 impl<A: SingleAttemptExecutor> MatchProducer for A {
     type Position = <A::Input as InputIndexer>::Position;
 
@@ -269,7 +323,7 @@ impl<A: SingleAttemptExecutor> MatchProducer for A {
 
     ghost failures = { A.failures };
 
-    ghost attempt_costs = { A.attempt_costs };
+    ghost costs = { A.costs };
 
     ghost is_text = { A.is_text };
 
@@ -285,14 +339,16 @@ impl<A: SingleAttemptExecutor> MatchProducer for A {
         pos: <A::Input as InputIndexer>::Position,
         next_start: &mut Option<<A::Input as InputIndexer>::Position>,
     ) -> Result<Option<Match>, SearchError> {
-        let mut next = self.first_start_to_try_from(pos);
+        let first = self.first_start_to_try_from(pos);
+        let mut next = skip_from(self, first);
         'places: while let Some(start) = next {
             if let Some(end) = self.attempt(start)? {
                 let found = successful_match(self, start, end)?;
                 *next_start = next_search_pos(self.input(), start, end);
                 return Ok(Some(found));
             }
-            next = self.next_start_after_failure(start);
+            let further = self.next_start_after_failure(start);
+            next = skip_from(self, further);
         }
         Ok(None)
     }

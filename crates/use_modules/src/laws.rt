@@ -198,8 +198,8 @@ pub fn calls_cost_at_most_the_bound<P: WorkLimitedProducer>()
     ensures { (tree : Tree) (text : Text) (start per_unit : ℕ) (it behind : WorkMatchesView P)
         (rs : List WorkLimitedNextResult) → let bound = enough_work_for_text per_unit text in
         YieldsMatchesIfWorkSuffices tree text start per_unit bound (without_costs it)
-        → NextCallsYieldAtCost P.attempt_costs P.tree P.text P.failures it rs behind → Each IsNoAllocationFailure rs
-        → (cost : ℕ) × NextCallsYieldAtTotalCost P.attempt_costs P.tree P.text P.failures it rs cost behind ×
+        → NextCallsYieldAtCost P.costs P.tree P.text P.failures it rs behind → Each IsNoAllocationFailure rs
+        → (cost : ℕ) × NextCallsYieldAtTotalCost P.costs P.tree P.text P.failures it rs cost behind ×
         (cost ≤ bound) }
 {
     call_costs_are_work_spent::<P>();

@@ -9,6 +9,8 @@ use regress_search::exec::WorkLimitedProducer;
 
 /// A law: a search yields the matches of the list, one after another, and then always `None`. It
 /// ends earlier only with the error `Memory`.
+///
+/// Statement: `specs/SearchResults`.
 pub fn searches_return_matches_in_order()
     ensures { SearchesReturnMatchesInOrder }
 {}
@@ -17,6 +19,8 @@ pub fn searches_return_matches_in_order()
 /// always `None`. It ends earlier only with `Memory` or `WorkLimit`. `WorkLimit` does not occur if
 /// the budget is at least what the pattern's bound requires. The work that is left never exceeds
 /// the budget.
+///
+/// Statement: `specs/WorkBounds`.
 pub fn searches_return_matches_within_work()
     ensures { SearchesReturnMatchesWithinWork }
 {}
@@ -24,17 +28,23 @@ pub fn searches_return_matches_within_work()
 /// A law: if the budget is at least what the pattern's bound requires and no allocation fails, the
 /// calls of a search together cost exactly what is taken from the budget. So if the budget is just
 /// what the bound requires, they cost at most that.
+///
+/// Statement: `specs/WorkBounds`.
 pub fn call_costs_are_work_spent<P: WorkLimitedProducer>()
-    ensures { CallCostsAreWorkSpent P.attempt_costs P.tree P.text P.failures }
+    ensures { CallCostsAreWorkSpent P.costs P.tree P.text P.failures }
 {}
 
 /// A law: the matches of a compiled pattern in a text, in each encoding, are those of the
 /// tree that the grammar gives to the pattern (the only one, by `pattern_has_at_most_one_tree`).
+///
+/// Statement: `specs/Laws`.
 pub fn searches_follow_the_pattern()
     ensures { SearchesFollowThePattern }
 {}
 
 /// A law: the same for a pattern of `Syntax::EcmaScript2018`.
+///
+/// Statement: `specs/Laws`.
 pub fn searches_follow_the_ecmascript_pattern()
     ensures { SearchesFollowGrammar ecmascript }
 {}
@@ -53,12 +63,16 @@ pub fn searches_return_matches_of_pattern()
 {}
 
 /// A law: the matches of a search are in the text, in ascending order, and do not overlap.
+///
+/// Statement: `specs/Laws`.
 pub fn matches_lie_in_text_in_order()
     ensures { MatchesLieInTextInOrder }
 {}
 
 /// A law: no work bound of a pattern exceeds `work_per_unit_limit`, which depends only on its two
 /// programs. So a budget computed from that number suffices for every search of the pattern.
+///
+/// Statement: `specs/WorkBounds`.
 pub fn work_per_unit_limit_suffices()
     ensures { WorkPerUnitLimitSuffices }
 {}

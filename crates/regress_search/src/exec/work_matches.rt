@@ -24,7 +24,7 @@ pub enum WorkError {
 }
 
 /// A producer of matches with a work limit. In contracts, `left` is the work that is left, which
-/// never increases; `attempt_costs` is the cost of attempts; `enough` says whether the work left
+/// never increases; `costs` are the costs of attempts; `enough` says whether the work left
 /// suffices for attempts in ascending order of offsets (see `MatchProducer`).
 pub trait WorkLimitedProducer: MatchProducer {
     /// Returns the work that is left.
@@ -101,7 +101,7 @@ impl<P: WorkLimitedProducer> WorkMatches<P> {
 impl<P: WorkLimitedProducer + Drop> Iterator for WorkMatches<P> {
     type Item = Result<Match, WorkError>;
 
-    ghost next_gives = { NextYieldsAtCost P.attempt_costs P.tree P.text P.failures };
+    ghost next_gives = { NextYieldsAtCost P.costs P.tree P.text P.failures };
 
     ghost remaining = { λ s. at_most (max_items_left s.remaining) };
 

@@ -3,7 +3,7 @@ use Rattle.std.specs.Prelude.{IfSome}
 use Rattle.regex_meaning.specs.CodeUnitOffsets.{IsBoundary}
 use Rattle.regex_meaning.specs.Text.{Text}
 use Rattle.regex_meaning.specs.Tree.{Tree}
-use Rattle.regress_search.specs.CostsOfSearches.{Failures, IfWorkIsCounted, LeavesWorkWithoutResult, SearchCosts, TakesExactCost}
+use Rattle.regress_search.specs.CostsOfSearches.{Failures, IfWorkIsCounted, LeavesWorkWithoutResult, SearchCosts, TakesExactCost, WorkCosts}
 use Rattle.regress_search.specs.SearchEffects.{IsNextStartAfterFirstMatch}
 use Rattle.regress_search.specs.declared.exec.Match.{Match}
 use Rattle.regress_search.specs.MatchesAsSpecAnswers.{answer_of}
@@ -63,7 +63,7 @@ returns-in-Err-clause-gives g c =
 -- ---- Costs
 
 -- a call searches from where the list continues
-costs-of : (b : Bool) {P : Type 0} (offset : P → ℕ) (costs : Tree → Text → (before : Failures) → (at cost : ℕ) → (after : Option Failures) → Type 0) (tree : Tree) (text : Text) (before : Failures)
+costs-of : (b : Bool) {P : Type 0} (offset : P → ℕ) (costs : WorkCosts) (tree : Tree) (text : Text) (before : Failures)
     (position : Option P) (pos : P) → position ≡ Some pos → (Spends : ((cost : ℕ) → (after : Option Failures) → Type 0) → Type 0)
     → IfWorkIsCounted b (Spends (SearchCosts costs tree text before (Some (offset pos)))) → IfWorkIsCounted b (Spends (SearchCosts costs tree text before (option_map offset position)))
 costs-of b offset costs tree text before position pos was Spends h =
@@ -74,7 +74,7 @@ returns-in-Ok-Some-clause-cost g c =
     let p = g.P.MatchProducer in
     let producer = c.args.producer.now in
     let new = c.next_match.new.self in
-    costs-of p.counts_work g.P.Position.PositionType.offset p.attempt_costs (p.tree producer) (p.text producer) (p.failures producer) c.args.position.now c.in_ok-pos.pos c.in_ok-pos.was
+    costs-of p.counts_work g.P.Position.PositionType.offset p.costs (p.tree producer) (p.text producer) (p.failures producer) c.args.position.now c.in_ok-pos.pos c.in_ok-pos.was
     (λ costs. TakesExactCost costs (p.left producer) (p.left new) (p.failures new)) c.in-Ok-Some.ensures.cost
 
 pub returns-in-Ok-None-clause-cost : goal.returns-in-Ok-None-clause-cost
@@ -82,7 +82,7 @@ returns-in-Ok-None-clause-cost g c =
     let p = g.P.MatchProducer in
     let producer = c.args.producer.now in
     let new = c.next_match.new.self in
-    costs-of p.counts_work g.P.Position.PositionType.offset p.attempt_costs (p.tree producer) (p.text producer) (p.failures producer) c.args.position.now c.in_ok-pos.pos c.in_ok-pos.was
+    costs-of p.counts_work g.P.Position.PositionType.offset p.costs (p.tree producer) (p.text producer) (p.failures producer) c.args.position.now c.in_ok-pos.pos c.in_ok-pos.was
     (λ costs. TakesExactCost costs (p.left producer) (p.left new) (p.failures new)) c.in-Ok-None.ensures.cost
 
 pub returns-in-Err-clause-cost : goal.returns-in-Err-clause-cost
@@ -90,7 +90,7 @@ returns-in-Err-clause-cost g c =
     let p = g.P.MatchProducer in
     let producer = c.args.producer.now in
     let new = c.next_match.new.self in
-    costs-of p.counts_work g.P.Position.PositionType.offset p.attempt_costs (p.tree producer) (p.text producer) (p.failures producer) c.args.position.now c.in_ok-pos.pos c.in_ok-pos.was
+    costs-of p.counts_work g.P.Position.PositionType.offset p.costs (p.tree producer) (p.text producer) (p.failures producer) c.args.position.now c.in_ok-pos.pos c.in_ok-pos.was
     (λ costs. LeavesWorkWithoutResult costs (p.left producer) (p.out_of_work new) (p.left new)) c.in-Err.ensures.cost
 
 pub returns-in-Ok-Some-clause-continues : goal.returns-in-Ok-Some-clause-continues
@@ -107,5 +107,5 @@ returns-in_err-pos-clause-cost g c =
     let producer = c.args.producer.now in
     let offset = option_map g.P.Position.PositionType.offset in
     counted p.counts_work
-    (nothing-costs p.attempt_costs (p.tree producer) (p.text producer) (p.failures producer) (offset c.args.position.now) (p.left producer) (p.out_of_work producer) c.from_residual.result c.from_residual.ensures
+    (nothing-costs p.costs (p.tree producer) (p.text producer) (p.failures producer) (offset c.args.position.now) (p.left producer) (p.out_of_work producer) c.from_residual.result c.from_residual.ensures
     (ap offset c.in_err-pos.was))

@@ -1,4 +1,4 @@
-use Rattle.std.proofs.Common.{◌+◌, ◌<◌, Option, Some, None, ap, sym, refl, subst, ◌∙◌, arith, option_map}
+use Rattle.std.proofs.Common.{◌+◌, ◌<◌, Option, Some, None, ap, ap₂, sym, refl, subst, ◌∙◌, arith, option_map}
 use Rattle.regex_meaning.specs.CodeUnitOffsets.{IsBoundary}
 use Rattle.regex_meaning.specs.Tree.{Tree}
 use Rattle.regex_meaning.specs.MatchGroupsByNumberAndName.{group_names_by_id}
@@ -9,36 +9,48 @@ use Rattle.regress_search.specs.CostsOfSearches.{SearchCosts}
 use Rattle.regress_search.specs.declared.exec.Match.{Match}
 use Rattle.regress_search.specs.MatchesWithinWork.{is_work_enough}
 use Rattle.regress_search.specs.declared.exec.SearchError.TheVariants.{Memory}
-use Rattle.regress_search.proofs.StepBudgetLemmas.{handed, refused-last, spent-begins}
+use Rattle.regress_search.proofs.StepBudgetLemmas.{IsSpent, handed, refused-last, spent-begins}
 use Rattle.regress_search.proofs.SkippedStartLemmas.{untried, walk-begins}
-use Rattle.regress_search.proofs.SearchCostLemmas.{counted₁, counted₂, counted₃, failing-begins, failing-ends, failing-finds, failing-goes, failing-stops, handed-cost, stops-without}
+use Rattle.regress_search.proofs.SearchCostLemmas.{Failing, counted₁, counted₂, counted₃, failing-begins, failing-ends, failing-finds, failing-goes, failing-skips, failing-stops, handed-cost, stops-without}
 use Rattle.regress_search.proofs.MatchesWithinWorkLemmas.{enough-behind, enough-next, turn-behind}
-use Rattle.regress_search.proofs.SearchLoopLemmas.{walk-at, attempt-refused, found-there, goes-there}
+use Rattle.regress_search.proofs.SearchLoopLemmas.{Walk, walk-at, attempt-refused, found-there, goes-there}
 use Rattle.regress_search.proofs.search_loop.AnyMatchProducer.next_match.Goals as goal
 
 pub places-init : goal.places-init
-places-init g c = record {
-  walk = record {
-    walks = walk-begins _ _ (g.met.A.SingleAttemptExecutor.is_text c.args.self.now) _ _ c.requires c.first_start_to_try_from-next.ensures.next;
-    spent = spent-begins _ _ (g.met.A.SingleAttemptExecutor.is_text c.args.self.now) _ _ _ c.requires c.first_start_to_try_from-next.ensures.counted;
-  };
-  same_tree = refl;
-  same_text = refl;
-  turn =
-      let a = g.A.SingleAttemptExecutor in
-      let offset = g.A.Input.Position.PositionType.offset in
-      let self = c.args.self.now in
-      enough-next (a.enough self) (a.ahead self) (a.tree self) (a.text self) (offset c.args.pos) (option_map offset c.first_start_to_try_from-next.result) c.first_start_to_try_from-next.ensures.next;
-  next_start = refl;
-  left = omega arith;
-  progress =
-      let a = g.A.SingleAttemptExecutor in
-      let offset = g.A.Input.Position.PositionType.offset in
-      let self = c.args.self.now in
-      counted₁ a.counts_work
-      (failing-begins a.attempt_costs (a.tree self) (a.text self) (a.failures self) (offset c.args.pos) (a.left self) (option_map offset c.first_start_to_try_from-next.result))
-      c.first_start_to_try_from-next.ensures.next_if_work_counted;
-}
+places-init g c =
+    let a = g.A.SingleAttemptExecutor in
+    let offset = g.A.Input.Position.PositionType.offset in
+    let is = g.met.A.SingleAttemptExecutor.is_text c.args.self.now in
+    let tree = a.tree c.args.self.now in
+    let text = a.text c.args.self.now in
+    let budget = a.budget c.args.self.now in
+    let enough = a.enough c.args.self.now in
+    let ahead = a.ahead c.args.self.now in
+    let pos = offset c.args.pos in
+    let first = c.first_start_to_try_from-first in
+    let skip = c.skip_from-next in
+    let next = option_map offset skip.result in
+    let skips = skip.ensures.next pos first.ensures.next in
+    record {
+      walk = record {
+        walks = walk-begins tree text is pos next c.requires skips;
+        spent = subst (λ b. IsSpent tree text budget b (need_from tree text pos) next) (sym skip.ensures.same.2)
+            (spent-begins tree text is budget pos next c.requires (λ some. skip.ensures.counted some ∙ first.ensures.counted some));
+      };
+      same_tree = skip.ensures.same.0;
+      same_text = skip.ensures.same.1;
+      turn = λ begins. ap₂ (λ e h. is_work_enough e h next) skip.ensures.same.3 skip.ensures.same.4 ∙ enough-next enough ahead tree text pos next skips begins;
+      next_start = refl;
+      left = skip.ensures.left;
+      progress =
+          let left = a.left c.args.self.now in
+          let failures = a.failures c.args.self.now in
+          let behind = a.left skip.new.executor in
+          counted₂ a.counts_work
+          (λ begins paid. subst (λ f. Failing a.costs tree text failures pos left f behind next) (sym skip.ensures.same.5)
+          (failing-skips a.costs tree text refl refl failures left behind offset first.result next (failing-begins a.costs tree text failures pos left (option_map offset first.result) begins) paid skip.ensures.candidate))
+          first.ensures.next_if_work_counted skip.ensures.paid;
+    }
 
 pub next_search_pos-requires : goal.next_search_pos-requires
 next_search_pos-requires g c =
@@ -85,43 +97,56 @@ returns-in-Some-2-clause-work g c = λ begins.
 
 pub places-smaller : goal.places-smaller
 places-smaller g c =
-    let goes = goes-there g.A.Input.Position.PositionType.offset (g.A.SingleAttemptExecutor.groups c.attempt.new.self) (g.met.A.SingleAttemptExecutor.is_text c.args.self.now)
-    c.places.invariant.walk c.in-Some.is c.places.invariant.same_tree c.places.invariant.same_text c.in_ok-end.ensures.found c.in_ok-end.ensures.steps
-    c.in_default-2.is c.in_ok-end.ensures.same.0 c.in_ok-end.ensures.same.1 c.next_start_after_failure-next.ensures.next c.next_start_after_failure-next.ensures.counted in
     let offset = g.A.Input.Position.PositionType.offset in
+    let further = c.next_start_after_failure-further in
+    let skip = c.skip_from-next-in-Some in
+    let goes = goes-there offset (g.A.SingleAttemptExecutor.groups c.attempt.new.self) (g.met.A.SingleAttemptExecutor.is_text c.args.self.now)
+    c.places.invariant.walk c.in-Some.is c.places.invariant.same_tree c.places.invariant.same_text c.in_ok-end.ensures.found c.in_ok-end.ensures.steps
+    c.in_default-2.is c.in_ok-end.ensures.same.0 c.in_ok-end.ensures.same.1 (skip.ensures.next (offset c.in-Some.start + 1) further.ensures.next)
+    (λ some. skip.ensures.counted some ∙ further.ensures.counted some) in
     let text = g.A.SingleAttemptExecutor.text c.args.self.now in
-    subst (λ o. untried text (option_map offset c.next_start_after_failure-next.result) < untried text (option_map offset o)) (sym c.in-Some.is) goes.less
+    subst (λ o. untried text (option_map offset skip.result) < untried text (option_map offset o)) (sym c.in-Some.is) goes.less
 
 pub places-preserved : goal.places-preserved
 places-preserved g c =
+    let a = g.A.SingleAttemptExecutor in
+    let offset = g.A.Input.Position.PositionType.offset in
     let invariant = c.places.invariant in
-    let goes = goes-there g.A.Input.Position.PositionType.offset (g.A.SingleAttemptExecutor.groups c.attempt.new.self) (g.met.A.SingleAttemptExecutor.is_text c.args.self.now)
-    c.places.invariant.walk c.in-Some.is c.places.invariant.same_tree c.places.invariant.same_text c.in_ok-end.ensures.found c.in_ok-end.ensures.steps
-    c.in_default-2.is c.in_ok-end.ensures.same.0 c.in_ok-end.ensures.same.1 c.next_start_after_failure-next.ensures.next c.next_start_after_failure-next.ensures.counted in
+    let self = c.args.self.now in
+    let old = c.places.self in
+    let new = c.attempt.new.self in
+    let further = c.next_start_after_failure-further in
+    let skip = c.skip_from-next-in-Some in
+    let next = option_map offset skip.result in
+    let start = offset c.in-Some.start in
+    let skips = skip.ensures.next (start + 1) further.ensures.next in
+    let same_tree = c.in_ok-end.ensures.same.0 ∙ invariant.same_tree in
+    let same_text = c.in_ok-end.ensures.same.1 ∙ invariant.same_text in
+    let goes = goes-there offset (a.groups new) (g.met.A.SingleAttemptExecutor.is_text self)
+    invariant.walk c.in-Some.is invariant.same_tree invariant.same_text c.in_ok-end.ensures.found c.in_ok-end.ensures.steps
+    c.in_default-2.is c.in_ok-end.ensures.same.0 c.in_ok-end.ensures.same.1 skips (λ some. skip.ensures.counted some ∙ further.ensures.counted some) in
     record {
-      walk = goes.walk;
-      same_tree = c.in_ok-end.ensures.same.0 ∙ invariant.same_tree;
-      same_text = c.in_ok-end.ensures.same.1 ∙ invariant.same_text;
+      walk = subst (λ b. Walk (a.tree self) (a.text self) (offset c.args.pos) (a.budget self) b next) (sym skip.ensures.same.2) goes.walk;
+      same_tree = skip.ensures.same.0 ∙ same_tree;
+      same_text = skip.ensures.same.1 ∙ same_text;
       turn = λ begins.
-          let a = g.A.SingleAttemptExecutor in
-          let offset = g.A.Input.Position.PositionType.offset in
-          let old = c.places.self in
-          let new = c.attempt.new.self in
-          enough-next (a.enough new) (a.ahead new) (a.tree new) (a.text new) (offset c.in-Some.start + 1) (option_map offset c.next_start_after_failure-next.result) c.next_start_after_failure-next.ensures.next
+          ap₂ (λ e h. is_work_enough e h next) skip.ensures.same.3 skip.ensures.same.4
+          ∙ enough-next (a.enough new) (a.ahead new) (a.tree new) (a.text new) (start + 1) next skips
           (turn-behind (a.enough old) (a.ahead old) (a.enough new) (a.ahead new) (a.out_of_work new) offset c.places.next _ None c.in-Some.start
           c.in-Some.is (invariant.turn begins) c.in_ok-end.ensures.work c.in_default-2.is);
       next_start = invariant.next_start;
-      left = omega (arith, c.in_ok-end.ensures.left, invariant.left);
+      left = omega (arith, skip.ensures.left, c.in_ok-end.ensures.left, invariant.left);
       progress =
-          let a = g.A.SingleAttemptExecutor in
-          let offset = g.A.Input.Position.PositionType.offset in
-          let old = c.places.self in
-          let new = c.attempt.new.self in
-          counted₃ a.counts_work
-          (λ f takes on. failing-goes a.attempt_costs offset c.places.next c.in-Some.start c.in-Some.is (a.tree old) (a.text old) invariant.same_tree invariant.same_text (a.failures old) (a.left old) f
-          (a.groups new) _ c.in_ok-end.ensures.found c.in_default-2.is (option_map offset c.next_start_after_failure-next.result) (a.tree new) (a.text new)
+          let behind = a.left skip.new.executor in
+          counted₂ a.counts_work
+          (λ f paid. subst (λ x. Failing a.costs (a.tree self) (a.text self) (a.failures self) (offset c.args.pos) (a.left self) x behind next) (sym skip.ensures.same.5)
+          (failing-skips a.costs (a.tree new) (a.text new) same_tree same_text (a.failures new) (a.left new) behind offset further.result next f paid skip.ensures.candidate))
+          (counted₃ a.counts_work
+          (λ f takes on. failing-goes a.costs offset c.places.next c.in-Some.start c.in-Some.is (a.tree old) (a.text old) invariant.same_tree invariant.same_text (a.failures old) (a.left old) f
+          (a.groups new) _ c.in_ok-end.ensures.found c.in_default-2.is (option_map offset further.result) (a.tree new) (a.text new)
           c.in_ok-end.ensures.same.0 c.in_ok-end.ensures.same.1 (a.failures new) (a.left new) takes on)
-          invariant.progress c.in_ok-end.ensures.cost c.next_start_after_failure-next.ensures.next_if_work_counted;
+          invariant.progress c.in_ok-end.ensures.cost further.ensures.next_if_work_counted)
+          skip.ensures.paid;
     }
 
 pub returns-in_err-end-clause-steps : goal.returns-in_err-end-clause-steps
@@ -150,7 +175,7 @@ returns-in-Some-2-clause-cost g c =
     let old = c.places.self in
     let new = c.attempt.new.self in
     counted₂ a.counts_work
-    (λ f takes. failing-finds a.attempt_costs g.A.Input.Position.PositionType.offset c.places.next c.in-Some.start c.in-Some.is (a.tree old) (a.text old) invariant.same_tree invariant.same_text
+    (λ f takes. failing-finds a.costs g.A.Input.Position.PositionType.offset c.places.next c.in-Some.start c.in-Some.is (a.tree old) (a.text old) invariant.same_tree invariant.same_text
     (a.failures old) (a.left old) f (a.groups new) _ c.in_ok-end.ensures.found c.in-Some-2.end c.in-Some-2.is (a.failures new) (a.left new) takes)
     invariant.progress c.in_ok-end.ensures.cost
 
@@ -163,9 +188,9 @@ returns-in_err-end-clause-cost g c =
     let old = c.places.self in
     let new = c.attempt.new.self in
     counted₂ a.counts_work
-    (λ f stops. handed-cost (SearchCosts a.attempt_costs (a.tree self) (a.text self) (a.failures self) (Some (offset c.args.pos))) (a.left self) c.from_residual.result c.in_err-end.field-0.0
+    (λ f stops. handed-cost (SearchCosts a.costs (a.tree self) (a.text self) (a.failures self) (Some (offset c.args.pos))) (a.left self) c.from_residual.result c.in_err-end.field-0.0
     (a.out_of_work new) (a.left new) (a.failures new) c.from_residual.ensures.1
-    (failing-stops a.attempt_costs offset c.places.next c.in-Some.start c.in-Some.is (a.tree old) (a.text old) invariant.same_tree invariant.same_text (a.failures old) (a.left old) f
+    (failing-stops a.costs offset c.places.next c.in-Some.start c.in-Some.is (a.tree old) (a.text old) invariant.same_tree invariant.same_text (a.failures old) (a.left old) f
     (a.out_of_work new) (a.left new) stops))
     invariant.progress c.in_err-end.ensures.cost
 
@@ -175,7 +200,7 @@ returns-in_err-found-clause-cost g c =
     let offset = g.A.Input.Position.PositionType.offset in
     let self = c.args.self.now in
     let new = c.attempt.new.self in
-    let costs = SearchCosts a.attempt_costs (a.tree self) (a.text self) (a.failures self) (Some (offset c.args.pos)) in
+    let costs = SearchCosts a.costs (a.tree self) (a.text self) (a.failures self) (Some (offset c.args.pos)) in
     counted₁ a.counts_work
     (λ within. handed-cost costs (a.left self) c.from_residual-in_err-found.result Memory (a.out_of_work new) (a.left new) (a.failures new) c.from_residual-in_err-found.ensures.1
     (stops-without costs (a.left self) (a.out_of_work new) (a.left new) within (omega (arith, c.in_ok-end.ensures.left, c.places.invariant.left))))
@@ -186,6 +211,6 @@ returns-clause-cost g c =
     let a = g.A.SingleAttemptExecutor in
     let last = c.places in
     counted₁ a.counts_work
-    (failing-ends a.attempt_costs (a.failures last.self) (a.left last.self) (option_map g.A.Input.Position.PositionType.offset last.next)
+    (failing-ends a.costs (a.failures last.self) (a.left last.self) (option_map g.A.Input.Position.PositionType.offset last.next)
     (ap (option_map g.A.Input.Position.PositionType.offset) c.in_default.is))
     last.invariant.progress

@@ -11,16 +11,16 @@ invariant-places g l =
     let a = g.A.SingleAttemptExecutor in
     let offset = g.A.Input.Position.PositionType.offset in
     record {
-      walk : Walk (a.tree l.initial.self) (a.text l.initial.self) (offset l.fn.pos) (a.budget l.initial.self) (a.budget l.self) (option_map offset l.next);
-      same_tree : a.tree l.self ≡ a.tree l.initial.self;
-      same_text : a.text l.self ≡ a.text l.initial.self;
-      turn : IsOrderedAttempt (a.enough l.initial.self) (a.ahead l.initial.self) (offset l.fn.pos) → is_work_enough (a.enough l.self) (a.ahead l.self) (option_map offset l.next) ≡ true;
+      walk : Walk (a.tree l.fn.self) (a.text l.fn.self) (offset l.fn.pos) (a.budget l.fn.self) (a.budget l.self) (option_map offset l.next);
+      same_tree : a.tree l.self ≡ a.tree l.fn.self;
+      same_text : a.text l.self ≡ a.text l.fn.self;
+      turn : IsOrderedAttempt (a.enough l.fn.self) (a.ahead l.fn.self) (offset l.fn.pos) → is_work_enough (a.enough l.self) (a.ahead l.self) (option_map offset l.next) ≡ true;
       next_start : l.next_start ≡ l.initial.next_start;
-      left : a.left l.self ≤ a.left l.initial.self;
+      left : a.left l.self ≤ a.left l.fn.self;
       progress :
-          IfWorkIsCounted a.counts_work (Failing a.attempt_costs (a.tree l.initial.self) (a.text l.initial.self) (a.failures l.initial.self) (offset l.fn.pos) (a.left l.initial.self)
+          IfWorkIsCounted a.counts_work (Failing a.costs (a.tree l.fn.self) (a.text l.fn.self) (a.failures l.fn.self) (offset l.fn.pos) (a.left l.fn.self)
           (a.failures l.self) (a.left l.self) (option_map offset l.next));
     }
 
 abbrev pub decreases-places : goal.decreases-places
-decreases-places g l = untried (g.A.SingleAttemptExecutor.text l.initial.self) (option_map g.A.Input.Position.PositionType.offset l.next)
+decreases-places g l = untried (g.A.SingleAttemptExecutor.text l.fn.self) (option_map g.A.Input.Position.PositionType.offset l.next)

@@ -21,7 +21,7 @@ returns-clause-steps g c =
       same_tree = found.ensures.same.0;
       same_text = found.ensures.same.1;
     } in
-    subst (λ s. NextYieldsAtCost p.attempt_costs p.tree p.text p.failures s result (view-of p offset found.new.producer found.new.position)) c.self.view_is
+    subst (λ s. NextYieldsAtCost p.costs p.tree p.text p.failures s result (view-of p offset found.new.producer found.new.position)) c.self.view_is
     (elim c.match-branch-2.branch [
       | in-Ok w ↦
           gives-Ok p offset c.self.inside.producer c.self.inside.position found.new.producer found.new.position found.result called result w.in-Ok.found

@@ -329,6 +329,49 @@ static void limits(void)
     regress_c_free(&heavy);
 }
 
+/* A call for the next match in so much work, what it leaves, and where the search continues. */
+static void print_next_in_work(const char *what, regress_c_pattern *pattern, regress_c_search *search, uint64_t *work,
+                               size_t room)
+{
+    regress_c_span spans[ROOM];
+    size_t ranges = regress_c_range_count(pattern).count;
+    regress_c_reply reply = regress_c_next_in_work(pattern, search, work, spans, room);
+    print_reply(what, reply);
+    printf(" %" PRIu64 " left, next %zu\n", *work, search->next);
+    for (size_t i = 0; reply.code != REGRESS_C_SHORT_BUFFER && i < reply.count; i++) {
+        print_spans(spans + i * ranges, ranges);
+    }
+}
+
+static void next_in_work(void)
+{
+    static const char text[] = "aaaaaaaaaaaaaaaaaaaaaaaaac";
+    static const uint16_t units[] = {'a'};
+    regress_c_search search = REGRESS_C_SEARCH_INIT;
+    regress_c_pattern heavy = compiled("(?:a|a)*b", "");
+    regress_c_pattern twice = compiled("(a)\\1", "");
+    regress_c_pattern nothing = REGRESS_C_PATTERN_INIT;
+    uint64_t work = 1000;
+    print_next_in_work("not open", &twice, &search, &work, 2);
+    print_code("open", regress_c_search_utf8(&search, bytes(text), strlen(text), 0));
+    print_next_in_work("in 1000 work", &heavy, &search, &work, 1);
+    work = 1000;
+    print_next_in_work("one match", &twice, &search, &work, 3);
+    work = 1000 - work;
+    print_next_in_work("in as much", &twice, &search, &work, 2);
+    print_next_in_work("in none", &twice, &search, &work, 2);
+    work = 1000;
+    print_next_in_work("two matches", &twice, &search, &work, 4);
+    print_next_in_work("no room", &twice, &search, &work, 1);
+    print_next_in_work("by nothing", &nothing, &search, &work, 2);
+    search.next = strlen(text) + 1;
+    print_next_in_work("past the end", &twice, &search, &work, 2);
+    print_code("in UCS-2", regress_c_search_ucs2(&search, units, 1, 0));
+    print_next_in_work("with a limit", &twice, &search, &work, 2);
+    regress_c_free(&twice);
+    regress_c_free(&heavy);
+}
+
 /* A search for the first match in so much work, and what it leaves. */
 static void print_in_work(const char *what, regress_c_pattern *pattern, const char *text, size_t start, uint64_t work)
 {
@@ -469,6 +512,7 @@ int main(void)
     limits();
     work();
     all_in_work();
+    next_in_work();
     texts();
     messages();
     return 0;

@@ -280,6 +280,38 @@ static void check_in_work(regress_c_pattern *pattern, text t, size_t start, matc
     free_matches(found);
 }
 
+/* All matches by calls within a work limit, and in as much work as these took; in less, the first of them. */
+static void check_next_in_work(regress_c_pattern *pattern, text t, size_t start, matches all, size_t ranges)
+{
+    regress_c_search search = REGRESS_C_SEARCH_INIT, opened;
+    check(regress_c_search_utf8(&search, t.bytes, t.len, start) == REGRESS_C_DONE, "opening once more");
+    opened = search;
+    size_t room = (all.count + 1) * ranges;
+    regress_c_span *spans = malloc(room * sizeof *spans);
+    check(spans != NULL, "memory");
+    uint64_t left = UINT64_MAX;
+    regress_c_reply reply = regress_c_next_in_work(pattern, &search, &left, spans, room);
+    check(reply.code == REGRESS_C_NO_MATCH && search.next > t.len, "work without end");
+    check_same((matches){spans, reply.count, 0, 0}, all, ranges, "matches in work without end");
+    /* A limit that exceeds what was taken by the length of the text changes nothing. */
+    uint64_t taken = UINT64_MAX - left, again = taken + t.len;
+    search = opened;
+    reply = regress_c_next_in_work(pattern, &search, &again, spans, room);
+    check(reply.code == REGRESS_C_NO_MATCH && again == t.len, "as much work as the calls took");
+    uint64_t half = taken / 2;
+    search = opened;
+    reply = regress_c_next_in_work(pattern, &search, &half, spans, room);
+    check_same((matches){spans, reply.count, 0, 0}, (matches){all.spans, reply.count, 0, 0}, ranges, "the first ones");
+    if (reply.code == REGRESS_C_WORK_LIMIT) {
+        check(half == 0 && search.next <= t.len, "half of the work");
+        half = UINT64_MAX;
+        reply = regress_c_next_in_work(pattern, &search, &half, spans + reply.count * ranges, room - reply.count * ranges);
+        check_same((matches){spans, all.count, 0, 0}, all, ranges, "matches in two calls");
+    }
+    check(reply.code == REGRESS_C_NO_MATCH, "the others");
+    free(spans);
+}
+
 /* The names of groups have the numbers of these groups. */
 static void check_numbers(regress_c_pattern *pattern, size_t ranges)
 {
@@ -362,6 +394,7 @@ static int search_by(regress_c_pattern *pattern, text t)
     check_first(pattern, t, start, all, ranges);
     check_at(pattern, t, start, all, ranges);
     check_in_work(pattern, t, start, all, ranges);
+    check_next_in_work(pattern, t, start, all, ranges);
     check_numbers(pattern, ranges);
     if (start == 0) {
         check_wide(pattern, t, all, ranges);

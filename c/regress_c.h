@@ -20,8 +20,9 @@
  * Searches, texts and buffers belong to the caller.
  *
  * Time: the searches backtrack, so some patterns take exponential time. regress_c_next_within limits the steps of a
- * search, and regress_c_find_utf8_in_work and regress_c_find_all_utf8_in_work limit its work. One step may compare a
- * long group with the text, so a step limit is not a time limit. docs/LIMITS.md and docs/LINEAR.md have the details.
+ * search. regress_c_next_in_work, regress_c_find_utf8_in_work and regress_c_find_all_utf8_in_work limit its work. One
+ * step may compare a long group with the text, so a step limit is not a time limit. docs/LIMITS.md and docs/LINEAR.md
+ * have the details.
  *
  * Stack and memory: the functions that compile take stack in proportion to the depth of the pattern, up to 100 bytes a
  * level (measured); the functions with `within` in their names refuse deep patterns. A search takes none (measured). It
@@ -33,8 +34,8 @@
  * Not offered:
  *
  * - A limit for replacements, and replacements in UTF-16. The engine defines replacements of UTF-8 texts, without a
- *   limit. Find the matches with a limit (regress_c_next_within, regress_c_find_all_utf8_in_work) or in UTF-16, and
- *   copy the text between them.
+ *   limit. Find the matches with a limit (regress_c_next_within, regress_c_next_in_work) or in UTF-16, and copy the
+ *   text between them.
  * - A limit for a match at one offset, and limits in UTF-16 and UCS-2. Steps and work are counted in UTF-8 only.
  * - A limit of the memory, other than that of the process. If an allocation fails, MEMORY is returned.
  * - A pattern that two threads use at the same time. Use a clone for each.
@@ -90,7 +91,7 @@ enum regress_c_code {
     REGRESS_C_NO_GROUP = 16,
     /* The search is not open. */
     REGRESS_C_NOT_OPEN = 17,
-    /* Steps are counted in UTF-8 only. */
+    /* Steps and work are counted in UTF-8 only. */
     REGRESS_C_NOT_COUNTED = 18,
     /* No bound of the work of the pattern's searches is known, since the pattern has a lookaround. */
     REGRESS_C_UNBOUNDED_LOOKAROUND = 19,
@@ -386,6 +387,22 @@ regress_c_reply regress_c_next(regress_c_pattern *pattern, regress_c_search *sea
 regress_c_reply regress_c_next_within(regress_c_pattern *pattern, regress_c_search *search, uint64_t *steps,
                                       regress_c_span *spans, size_t spans_len);
 
+/*
+ * The same with at most `*work` work. Sets `*work` to the work that is left, which is never more than before, so one
+ * number may serve many calls. Any pattern may be searched for: no work bound is needed.
+ *
+ * A unit of work is one executed operation, one character that a loop over characters tries, one code unit that a
+ * backreference compares or a prefilter skips, or one resumed choice point. Each search for a match takes exactly what
+ * it costs. No number suffices for every text, since a search may take exponential work.
+ * regress_c_find_all_utf8_in_work has a number that suffices, but it counts another kind of work.
+ *
+ * Returns WORK_LIMIT if the search for the next match costs more than is left. Then no work is left, the matches before
+ * it are written, and the next call continues there with the work that it is given. Work is counted in UTF-8; in
+ * another encoding, NOT_COUNTED is returned. A refused call takes no work.
+ */
+regress_c_reply regress_c_next_in_work(regress_c_pattern *pattern, regress_c_search *search, uint64_t *work,
+                                       regress_c_span *spans, size_t spans_len);
+
 /* Closes the search: no call uses its text from then on. */
 void regress_c_close(regress_c_search *search);
 
@@ -443,7 +460,7 @@ static inline const char *regress_c_message(uint32_t code)
     case REGRESS_C_TOO_DEEP: return "the pattern is nested too deeply";
     case REGRESS_C_NO_GROUP: return "no such group";
     case REGRESS_C_NOT_OPEN: return "the search is not open";
-    case REGRESS_C_NOT_COUNTED: return "steps are counted in UTF-8 only";
+    case REGRESS_C_NOT_COUNTED: return "steps and work are counted in UTF-8 only";
     case REGRESS_C_WORK_LIMIT: return "the work limit is reached";
     case REGRESS_C_UNKNOWN_SYNTAX: return "unknown syntax";
     case REGRESS_C_UNBOUNDED_LOOKAROUND: return "no work bound is known: the pattern has a lookaround";

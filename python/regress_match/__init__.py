@@ -12,7 +12,7 @@ differences from `re`.
 import functools
 import itertools
 
-from ._errors import StepLimitError, error
+from ._errors import StepLimitError, WorkLimitError, error
 from ._library import library as _calls
 from ._library import written as _written
 from ._patterns import Match, Pattern, RegexFlag
@@ -21,14 +21,14 @@ __version__ = "0.2.0"
 
 __all__ = [
     "DOTALL", "I", "IGNORECASE", "M", "MULTILINE", "Match", "NOFLAG", "PROFILE", "Pattern", "PatternError",
-    "RegexFlag", "S", "StepLimitError", "U", "UNICODE", "UNICODESETS", "V", "compile", "error", "escape", "findall",
-    "finditer", "fullmatch", "library_version", "match", "purge", "search", "split", "sub", "subn",
+    "RegexFlag", "S", "StepLimitError", "U", "UNICODE", "UNICODESETS", "V", "WorkLimitError", "compile", "error",
+    "escape", "findall", "finditer", "fullmatch", "library_version", "match", "purge", "search", "split", "sub", "subn",
 ]  # fmt: skip
 
 PatternError = error
 
 # Show and pickle these classes by the names that users import.
-for _public in (Match, Pattern, RegexFlag, StepLimitError, error):
+for _public in (Match, Pattern, RegexFlag, StepLimitError, WorkLimitError, error):
     _public.__module__ = __name__
 
 NOFLAG = RegexFlag.NOFLAG

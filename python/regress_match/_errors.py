@@ -29,3 +29,7 @@ class error(Exception):
 
 class StepLimitError(Exception):
     """The step limit of a search is reached."""
+
+
+class WorkLimitError(Exception):
+    """The work limit of a search is reached."""

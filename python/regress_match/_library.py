@@ -18,6 +18,7 @@ SHORT_BUFFER = 6
 MEMORY = 7
 STEP_LIMIT = 8
 SYNTAX = 9
+WORK_LIMIT = 20
 
 # The languages of patterns.
 PROFILE = 0
@@ -74,6 +75,7 @@ _SEARCH = POINTER(RawSearch)
 _TEXT = [c_char_p, c_size_t]
 _ROOM = [POINTER(c_size_t), c_size_t]
 _FIND = (RawReply, [_PATTERN, *_TEXT, c_size_t, *_ROOM])
+_NEXT_LIMITED = (RawReply, [_PATTERN, _SEARCH, POINTER(c_uint64), *_ROOM])
 _OPEN = (c_uint32, [_SEARCH, *_TEXT, c_size_t])
 _COMPILE = (c_uint32, [_PATTERN, *_TEXT, *_TEXT, c_uint32, POINTER(RawBounds)])
 _DIAGNOSE = (RawReply, [*_TEXT, *_TEXT, c_uint32, POINTER(c_size_t), c_char_p, c_size_t])
@@ -96,7 +98,8 @@ _CALLS = {
     "search_utf8": _OPEN,
     "search_utf16": _OPEN,
     "next": (RawReply, [_PATTERN, _SEARCH, *_ROOM]),
-    "next_within": (RawReply, [_PATTERN, _SEARCH, POINTER(c_uint64), *_ROOM]),
+    "next_within": _NEXT_LIMITED,
+    "next_in_work": _NEXT_LIMITED,
     "escape_utf8": (RawReply, [*_TEXT, c_char_p, c_size_t]),
     "message_utf8": (RawReply, [c_uint32, c_char_p, c_size_t]),
 }
@@ -200,10 +203,14 @@ class Handle:
         check(reply.code)
         return spans[:]
 
-    def next(self, search, steps, spans):
-        """Writes the next matches to `spans`, with a step limit if `steps` is not None. Returns the reply."""
+    def next(self, search, limit, spans):
+        """Writes the next matches to `spans`. Returns the reply.
+
+        `limit` is None, or a function of the type `_NEXT_LIMITED` and the number that it limits and changes.
+        """
         ranges = len(spans) // 2
         with self._lock:
-            if steps is None:
+            if limit is None:
                 return library.regress_c_next(self._raw, search, spans, ranges)
-            return library.regress_c_next_within(self._raw, search, steps, spans, ranges)
+            call, left = limit
+            return call(self._raw, search, left, spans, ranges)

@@ -6,7 +6,7 @@ from ctypes import c_size_t, c_uint64
 from types import MappingProxyType
 
 from . import _library as lib
-from ._errors import StepLimitError, error
+from ._errors import StepLimitError, WorkLimitError, error
 from ._templates import pieces_of
 from ._texts import text_of
 
@@ -114,37 +114,41 @@ class Pattern:
             self._whole = _compiled(before + self.pattern + behind, self.flags)
         return self._whole
 
-    def finditer(self, string, pos=0, endpos=sys.maxsize, *, steps=None):
+    def finditer(self, string, pos=0, endpos=sys.maxsize, *, steps=None, work=None):
         """Returns an iterator over the matches from `pos` on.
 
         `steps` limits the steps of the search for all matches together. If more are needed, StepLimitError is raised
-        after the matches that were found. The number of steps depends on the pattern and the string only, not on
-        time. Steps are not counted in a string with surrogates.
+        after the matches that were found. `work` limits the work in the same way, and WorkLimitError is raised: a unit
+        is an operation, a character that a loop tries, a code unit that a backreference compares or a prefilter skips,
+        or a resumed choice point. Neither number depends on time. They are not counted in a string with surrogates, and
+        one call counts one of them.
         """
         place = _Place(self, string, pos, endpos)
-        left = None
+        if steps is not None and work is not None:
+            raise ValueError("a search limits either steps or work")
+        limit = None
         if steps is not None:
-            if steps < 0:
-                raise ValueError("steps must not be negative")
-            if not place.text.counts_steps:
-                raise ValueError("steps are not counted in a str with surrogates")
-            left = c_uint64(min(steps, 2**64 - 1))
+            limit = (lib.library.regress_c_next_within, _left(steps, "steps", "are", place))
+        if work is not None:
+            limit = (lib.library.regress_c_next_in_work, _left(work, "work", "is", place))
         text, search = place.text, lib.closed_search()
         lib.check(text.open(search, *place.arguments))
-        return map(place.match, self._spans(place, search, left))
+        return map(place.match, self._spans(place, search, limit))
 
-    def _spans(self, place, search, steps):
+    def _spans(self, place, search, limit):
         """Yields the ranges of each match as a list of numbers. `place` keeps the text of the search alive."""
         width, at_once, code = 2 * self._handle.range_count, 1, lib.DONE
         while code == lib.DONE:
             spans = (c_size_t * (at_once * width))()
-            reply = self._handle.next(search, steps, spans)
+            reply = self._handle.next(search, limit, spans)
             code = reply.code
             for at in range(0, reply.count * width, width):
                 yield spans[at : at + width]
             at_once = min(2 * at_once, _MOST_AT_ONCE)
         if code == lib.STEP_LIMIT:
             raise StepLimitError(lib.message(code))
+        if code == lib.WORK_LIMIT:
+            raise WorkLimitError(lib.message(code))
         if code != lib.NO_MATCH:
             lib.check(code)
 
@@ -225,6 +229,15 @@ class Pattern:
 def _shown(flags):
     """Returns flags as they are written in code."""
     return "|".join(f"regress_match.{flag.name}" for flag in [*_LETTERS, RegexFlag.PROFILE] if flags & flag)
+
+
+def _left(limit, what, verb, place):
+    """Returns the number of `what` that a search may take."""
+    if limit < 0:
+        raise ValueError(f"{what} must not be negative")
+    if not place.text.counts_steps:
+        raise ValueError(f"{what} {verb} not counted in a str with surrogates")
+    return c_uint64(min(limit, 2**64 - 1))
 
 
 def _part(string, start, end):

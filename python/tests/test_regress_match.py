@@ -357,6 +357,31 @@ class Refusals(unittest.TestCase):
         for text, steps, reason in [("a", -1, "negative"), ("\ud800", 5, "surrogates"), ("\ud800", -1, "negative")]:
             self.assertRaisesRegex(ValueError, reason, light.finditer, text, steps=steps)
 
+    def test_work_is_limited_for_each_pattern(self):
+        twice = regress_match.compile(r"([ab])\1")
+        self.assertEqual(spans(twice.finditer("aabbc", work=1000)), [[(0, 2), (0, 1)], [(2, 4), (2, 3)]])
+        # The least work that suffices gives all matches, and each smaller number the first ones.
+        counts = []
+        for work in range(1000):
+            counts.append(0)
+            try:
+                for _ in twice.finditer("aabbc", work=work):
+                    counts[-1] += 1
+            except regress_match.WorkLimitError:
+                pass
+        self.assertEqual(counts, sorted(counts))
+        self.assertEqual(sorted(set(counts)), [0, 1, 2])
+        self.assertEqual(counts[0], 0)
+        heavy = regress_match.compile("b|(?:a|a)*c")
+        search = heavy.finditer("b" + "a" * 60, work=100_000)
+        self.assertEqual(next(search).span(), (0, 1))
+        self.assertRaises(regress_match.WorkLimitError, next, search)
+        self.assertRaises(StopIteration, next, search)
+        self.assertEqual(len(list(twice.finditer("é" + "aa" * 100, work=1 << 70))), 100)
+        for text, work, reason in [("a", -1, "negative"), ("\ud800", 5, "surrogates"), ("\ud800", -1, "negative")]:
+            self.assertRaisesRegex(ValueError, reason, twice.finditer, text, work=work)
+        self.assertRaisesRegex(ValueError, "either", twice.finditer, "a", steps=1, work=1)
+
     def test_memory_that_is_refused_is_a_memory_error(self):
         pattern = regress_match.compile("a")
         refused = mock.Mock(return_value=RawReply(MEMORY, 0))

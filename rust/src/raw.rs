@@ -164,6 +164,13 @@ extern "C" {
         spans: *mut Span,
         spans_len: usize,
     ) -> Reply;
+    fn regress_c_next_in_work(
+        pattern: *mut RawPattern,
+        search: *mut RawSearch,
+        work: *mut u64,
+        spans: *mut Span,
+        spans_len: usize,
+    ) -> Reply;
     fn regress_c_match_at_utf8(
         pattern: *mut RawPattern,
         text: *const u8,
@@ -449,6 +456,14 @@ pub fn escape(text: &str, escaped: &mut [u8]) -> Reply {
     }
 }
 
+/// What limits a search, and how much of it is left.
+#[derive(Clone, Copy, Debug)]
+pub enum Limit {
+    Nothing,
+    Steps(u64),
+    Work(u64),
+}
+
 /// A search over a text that is borrowed for `'t`.
 pub struct Search<'t> {
     raw: RawSearch,
@@ -489,21 +504,16 @@ impl<'t> Search<'t> {
         done(code, search)
     }
 
-    /// Writes the next matches, with a step limit if `steps` is given, which becomes the number of steps that are left.
-    pub fn next(
-        &mut self,
-        pattern: &mut Handle,
-        steps: Option<&mut u64>,
-        spans: &mut [Span],
-    ) -> Reply {
+    /// Writes the next matches within the limit, which becomes what is left of it.
+    pub fn next(&mut self, pattern: &mut Handle, limit: &mut Limit, spans: &mut [Span]) -> Reply {
+        let (raw, search) = (&mut pattern.raw, &mut self.raw);
         let (room, len) = (spans.as_mut_ptr(), spans.len());
-        // SAFETY: the handle, the search, `steps` and `spans` are exclusive, and the text of the search is still valid.
+        // SAFETY: the handle, the search, the limit and `spans` are exclusive, and the text of the search is still valid.
         unsafe {
-            match steps {
-                Some(steps) => {
-                    regress_c_next_within(&mut pattern.raw, &mut self.raw, steps, room, len)
-                }
-                None => regress_c_next(&mut pattern.raw, &mut self.raw, room, len),
+            match limit {
+                Limit::Nothing => regress_c_next(raw, search, room, len),
+                Limit::Steps(steps) => regress_c_next_within(raw, search, steps, room, len),
+                Limit::Work(work) => regress_c_next_in_work(raw, search, work, room, len),
             }
         }
     }

@@ -4,7 +4,7 @@ use crate::bounded::BoundedRegex;
 use crate::error::{Cause, Error, Place, SearchError, Unbounded};
 use crate::flags::Flags;
 use crate::found::{Match, Names};
-use crate::raw::{self, code, Handle, RawBounds, Reading, Reply, Text};
+use crate::raw::{self, code, Handle, Limit, RawBounds, Reading, Reply, Text};
 use crate::search::{make_room, match_of, out_of_memory, splits_character};
 use crate::search::{AsciiMatches, Matches, TryMatches};
 use std::fmt;
@@ -321,7 +321,7 @@ impl Regex {
     ///
     /// If the start splits a character.
     pub fn try_find_from<'r, 't>(&'r self, text: &'t str, start: usize) -> TryMatches<'r, 't> {
-        TryMatches::new(self, Text::Utf8(text), start, None)
+        TryMatches::new(self, Text::Utf8(text), start, Limit::Nothing)
     }
 
     /// Like `try_find_from`, with at most `steps` steps for all items together. If more steps are needed, the last item is `StepLimit`.
@@ -336,7 +336,36 @@ impl Regex {
         start: usize,
         steps: u64,
     ) -> TryMatches<'r, 't> {
-        TryMatches::new(self, Text::Utf8(text), start, Some(steps))
+        TryMatches::new(self, Text::Utf8(text), start, Limit::Steps(steps))
+    }
+
+    /// Like `try_find_from`, with at most `work` units of work for all items together. If more work is needed, the last item is
+    /// `WorkLimit`.
+    ///
+    /// A unit of work is one executed operation, one character that a loop over characters tries, one code unit that a backreference
+    /// compares or a prefilter skips, or one resumed choice point. Each item takes exactly the work of its search. Any pattern may be searched for,
+    /// but no number suffices for every text, since a search may take exponential work; see `bounded` for one that does.
+    ///
+    /// ```
+    /// use regress_match::{Regex, SearchError};
+    ///
+    /// let re = Regex::new(r"(a+)+\1b").unwrap();
+    /// let mut matches = re.find_from_in_work("aab, aaaaaaaaaaaaaaaaaaaaaaaaaaaaaaaaaaaaaaaa", 0, 10_000);
+    /// assert_eq!(matches.next().unwrap().unwrap().range(), 0..3);
+    /// assert_eq!(matches.next(), Some(Err(SearchError::WorkLimit)));
+    /// assert_eq!(matches.work_left(), Some(0));
+    /// ```
+    ///
+    /// # Panics
+    ///
+    /// If the start splits a character.
+    pub fn find_from_in_work<'r, 't>(
+        &'r self,
+        text: &'t str,
+        start: usize,
+        work: u64,
+    ) -> TryMatches<'r, 't> {
+        TryMatches::new(self, Text::Utf8(text), start, Limit::Work(work))
     }
 
     /// Like `find_from_utf16`, but yields an error as the last item if an allocation fails.
@@ -349,7 +378,7 @@ impl Regex {
         text: &'t [u16],
         start: usize,
     ) -> TryMatches<'r, 't> {
-        TryMatches::new(self, Text::Utf16(text), start, None)
+        TryMatches::new(self, Text::Utf16(text), start, Limit::Nothing)
     }
 
     /// Like `find_from_ucs2`, but yields an error as the last item if an allocation fails.
@@ -358,7 +387,7 @@ impl Regex {
         text: &'t [u16],
         start: usize,
     ) -> TryMatches<'r, 't> {
-        TryMatches::new(self, Text::Ucs2(text), start, None)
+        TryMatches::new(self, Text::Ucs2(text), start, Limit::Nothing)
     }
 
     /// Returns the match that begins at byte offset `at`, as JavaScript does with the flag `y`. No other place is searched.

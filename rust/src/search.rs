@@ -2,7 +2,7 @@
 
 use crate::error::SearchError;
 use crate::found::Match;
-use crate::raw::{code, Reply, Search, Span, Text, UNMATCHED};
+use crate::raw::{code, Limit, Reply, Search, Span, Text, UNMATCHED};
 use crate::regex::Regex;
 use std::fmt;
 use std::iter::FusedIterator;
@@ -13,11 +13,11 @@ const MOST_AT_ONCE: usize = 32;
 
 /// An iterator over the matches in a text. If the search fails, the error is its last item.
 ///
-/// Without a step limit the library finds up to 32 matches a call, so the search may be ahead of the items that were yielded.
+/// Without a limit the library finds up to 32 matches a call, so the search may be ahead of the items that were yielded.
 pub struct TryMatches<'r, 't> {
     re: &'r Regex,
     search: Search<'t>,
-    steps: Option<u64>,
+    limit: Limit,
     // the ranges of the matches that the last call found, and how many of these were yielded
     spans: Vec<Span>,
     found: usize,
@@ -31,14 +31,14 @@ impl<'r, 't> TryMatches<'r, 't> {
     /// # Panics
     ///
     /// If the start splits a character.
-    pub(crate) fn new(re: &'r Regex, text: Text<'t>, start: usize, steps: Option<u64>) -> Self {
+    pub(crate) fn new(re: &'r Regex, text: Text<'t>, start: usize, limit: Limit) -> Self {
         let Ok(search) = Search::open(text, start) else {
             splits_character(start);
         };
         TryMatches {
             re,
             search,
-            steps,
+            limit,
             spans: Vec::new(),
             found: 0,
             yielded: 0,
@@ -52,7 +52,21 @@ impl<'r, 't> TryMatches<'r, 't> {
     /// With a limit, each call of `next` searches for one match and no further. The number is therefore the limit minus the steps of
     /// the items that were yielded. After a `StepLimit` it is 0.
     pub fn steps_left(&self) -> Option<u64> {
-        self.steps
+        match self.limit {
+            Limit::Steps(left) => Some(left),
+            _ => None,
+        }
+    }
+
+    /// Returns how much work is left, or `None` if it is not limited.
+    ///
+    /// With a limit, each call of `next` searches for one match and no further. The number is therefore the limit minus the work of
+    /// the items that were yielded. After a `WorkLimit` it is 0.
+    pub fn work_left(&self) -> Option<u64> {
+        match self.limit {
+            Limit::Work(left) => Some(left),
+            _ => None,
+        }
     }
 
     fn fill(&mut self) {
@@ -61,16 +75,16 @@ impl<'r, 't> TryMatches<'r, 't> {
             Err(_) => (code::MEMORY, 0),
         };
         (self.code, self.found, self.yielded) = (code, found, 0);
-        // With a limit, one match is searched for at a time, so that no step is spent on matches that nobody asked for.
-        if self.steps.is_none() {
+        // With a limit, one match is searched for at a time, so that nothing is spent on matches that nobody asked for.
+        if let Limit::Nothing = self.limit {
             self.at_once = MOST_AT_ONCE.min(2 * self.at_once);
         }
     }
 
     fn next_reply(&mut self) -> Result<Reply, SearchError> {
         make_room(&mut self.spans, self.at_once * self.re.ranges())?;
-        let (search, steps, spans) = (&mut self.search, self.steps.as_mut(), &mut self.spans);
-        self.re.with(|handle| search.next(handle, steps, spans))
+        let (search, limit, spans) = (&mut self.search, &mut self.limit, &mut self.spans);
+        self.re.with(|handle| search.next(handle, limit, spans))
     }
 
     // Drops the matches that were not yielded, and ends the iteration.
@@ -150,6 +164,7 @@ impl Iterator for TryMatches<'_, '_> {
         let told = match self.code {
             code::MEMORY => Some(Err(SearchError::Memory)),
             code::STEP_LIMIT => Some(Err(SearchError::StepLimit)),
+            code::WORK_LIMIT => Some(Err(SearchError::WorkLimit)),
             _ => None,
         };
         self.stop();
@@ -163,7 +178,7 @@ impl fmt::Debug for TryMatches<'_, '_> {
     fn fmt(&self, f: &mut fmt::Formatter<'_>) -> fmt::Result {
         f.debug_struct("TryMatches")
             .field("re", self.re)
-            .field("steps_left", &self.steps)
+            .field("limit", &self.limit)
             .finish_non_exhaustive()
     }
 }

@@ -134,7 +134,8 @@ fn searches_are_debug_and_fused() {
     let ascii: AsciiMatches = re.find_iter_ascii("a");
     assert!(shown(matches).contains("Regex(/a/)"));
     assert!(shown(ascii).contains("Regex(/a/)"));
-    assert!(shown(re.find_from_limited("a", 0, 7)).contains("Some(7)"));
+    assert!(shown(re.find_from_limited("a", 0, 7)).contains("Steps(7)"));
+    assert!(shown(re.find_from_in_work("a", 0, 7)).contains("Work(7)"));
     assert!(shown(re.bounded().unwrap().find_from("", 0, 9)).contains("work_left"));
 }
 
@@ -369,6 +370,40 @@ fn steps_are_limited() {
     };
     assert_eq!(left_after_two("aabbcaabbc"), Some(990));
     assert_eq!(left_after_two(&"aabbc".repeat(50)), Some(990));
+}
+
+#[test]
+fn work_is_limited_for_each_pattern() {
+    let twice = Regex::new(r"([ab])\1").unwrap();
+    let text = "aabbc";
+    let mut ample = twice.find_from_in_work(text, 0, 1000);
+    assert_eq!(ample.steps_left(), None);
+    let taken_until = [0..2, 2..4].map(|range| {
+        assert_eq!(ample.next().unwrap().unwrap().range(), range);
+        1000 - ample.work_left().unwrap()
+    });
+    assert_eq!(ample.next(), None);
+    let taken = 1000 - ample.work_left().unwrap();
+    assert!(0 < taken_until[0] && taken_until[0] < taken_until[1] && taken_until[1] <= taken);
+    // Exactly as much work is enough for the first match, and not for the second.
+    let mut exact = twice.find_from_in_work(text, 0, taken_until[0]);
+    assert_eq!(exact.next().unwrap().unwrap().range(), 0..2);
+    assert_eq!(exact.work_left(), Some(0));
+    assert_eq!(exact.next(), Some(Err(SearchError::WorkLimit)));
+    assert_eq!((exact.next(), exact.work_left()), (None, Some(0)));
+    let mut short = twice.find_from_in_work(text, 0, taken_until[0] - 1);
+    assert_eq!(short.next(), Some(Err(SearchError::WorkLimit)));
+    assert_eq!(short.next(), None);
+    // A start past the end takes no work.
+    let mut past = twice.find_from_in_work(text, 6, 0);
+    assert_eq!((past.next(), past.work_left()), (None, Some(0)));
+    let heavy = Regex::new("(?:a|a)*b").unwrap();
+    let text = "a".repeat(40) + "c";
+    assert_eq!(
+        heavy.find_from_in_work(&text, 0, 100_000).next(),
+        Some(Err(SearchError::WorkLimit))
+    );
+    assert_eq!(heavy.try_find_from("b", 0).work_left(), None);
 }
 
 #[test]

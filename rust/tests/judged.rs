@@ -1,5 +1,5 @@
 //! The cases that another engine judged (`crates/test_trials/data`): all matches with their groups, in UTF-8, in UTF-16, and with
-//! ample steps.
+//! ample steps and work.
 
 use regress_match::{Bounds, Match, Regex, Syntax};
 use std::fmt::Write;
@@ -92,6 +92,10 @@ fn count_agreeing(file: &str, syntax: Syntax) -> usize {
                 .find_from_limited(&text, 0, u64::MAX)
                 .map(|item| item.expect("ample steps"));
             assert_eq!(lines(limited, |at| at), stdout, "with ample steps: {line}");
+            let limited = re
+                .find_from_in_work(&text, 0, u64::MAX)
+                .map(|item| item.expect("ample work"));
+            assert_eq!(lines(limited, |at| at), stdout, "with ample work: {line}");
             let units: Vec<u16> = text.encode_utf16().collect();
             let bytes = offsets(&text);
             assert_eq!(

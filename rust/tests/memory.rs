@@ -80,6 +80,7 @@ fn refused_allocations_are_errors_of_try_calls() {
     // Each match has an allocation of its own, and the buffer of a search has some.
     assert!(refusals(&wanted, || re.try_find_from(&text, 0)) > wanted.len());
     assert!(refusals(&wanted, || re.find_from_limited(&text, 0, u64::MAX)) > wanted.len());
+    assert!(refusals(&wanted, || re.find_from_in_work(&text, 0, u64::MAX)) > wanted.len());
     let units: Vec<u16> = text.encode_utf16().collect();
     assert!(refusals(&wanted, || re.try_find_from_utf16(&units, 0)) > wanted.len());
     let bounded = re.bounded().unwrap();

@@ -1,5 +1,5 @@
 -- A backreference continues after the characters of its group, or at the same offset if the group is unset.
-use Rattle.std.proofs.Common.{◌≡◌, ℕ, ◌+◌, ◌≤◌, List, length, Option, Some, None, Bool, true, false, ap, sym, ◌∙◌, subst, arith, slice_get}
+use Rattle.std.proofs.Common.{◌≡◌, ℕ, ◌+◌, ◌≤◌, List, [], ◌∷◌, length, Option, Some, None, Bool, true, false, ap, sym, ◌∙◌, subst, arith, slice_get}
 use Rattle.std.specs.Prelude.{◌&&◌, nat_le, option_map, if◌then◌else◌}
 use lib.Pointwise.{pointwise}
 use Rattle.regex_meaning.specs.Tree.{Sameness}
@@ -13,9 +13,9 @@ use Rattle.regress_machine.specs.Machine.{State, with_some, read_group, act, act
 use Rattle.regress_machine.specs.InsnEffects.{IsNotStuck}
 use Rattle.regress_machine.proofs.OffsetsInsideText.{offset-inside}
 use Rattle.regress_search.proofs.TextReadLemmas.{nothing-read, group-read}
-use Rattle.regress_machine.proofs.ThreadSimulationLemmas.{simulates-goes}
 use Rattle.regress_backtrack.specs.State.{StateModel, current_thread_state_of}
 use Rattle.regress_backtrack.specs.StateTransitions.{SearchModel, TakesThreadTransition}
+use Rattle.regress_backtrack.proofs.LeftThreadLemmas.{replaces-goes}
 use Rattle.regress_backtrack.proofs.StateTransitionLemmas.{unchanged}
 
 -- ---- Backreferences
@@ -44,16 +44,16 @@ module _ (r : SearchModel) (is : HasRisingPlaceOffsets r.text) (ip at : ℕ) (h 
     pub reads-nothing : slice_get here.groups g ≡ Some None → TakesThreadTransition r 1 ip at h h (Some (record { ip = ip + 1; at = at }))
     reads-nothing known =
         unchanged r 1 ip at h (Some (record { ip = ip + 1; at = at })) (omega arith)
-        (simulates-goes r.program r.text r.exact r.direction here _ (reads None known ∙ sym (nothing-read r.text is sameness r.direction here (can-read None known))))
+        (replaces-goes r here (current_thread_state_of h (ip + 1) at ∷ []) (reads None known ∙ sym (nothing-read r.text is sameness r.direction here (can-read None known))))
 
     pub reads-again : (from to : ℕ) → slice_get here.groups g ≡ Some (Some (from, to)) → (found : Option ℕ)
         → found ≡ past_spelled_if_next r.text (is_same r.text sameness) (characters_between r.text from to) r.direction at
         → TakesThreadTransition r 1 ip at h h (option_map (λ at. record { ip = ip + 1; at = at }) found)
     reads-again from to known None e =
         unchanged r 1 ip at h None (omega arith)
-        (simulates-goes r.program r.text r.exact r.direction here _
+        (replaces-goes r here []
         (reads (Some (from, to)) known ∙ sym (group-read r.text is sameness r.direction from to here false 0 (can-read (Some (from, to)) known) e)))
     reads-again from to known (Some at') e =
         unchanged r 1 ip at h (Some (record { ip = ip + 1; at = at' })) (omega arith)
-        (simulates-goes r.program r.text r.exact r.direction here _
+        (replaces-goes r here (current_thread_state_of h (ip + 1) at' ∷ [])
         (reads (Some (from, to)) known ∙ sym (group-read r.text is sameness r.direction from to here true at' (can-read (Some (from, to)) known) e)))

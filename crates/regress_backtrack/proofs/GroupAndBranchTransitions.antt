@@ -5,12 +5,11 @@ use Rattle.regex_meaning.specs.CompilationRelation.{Insn, Jump, Alt, BeginCaptur
 use Rattle.regress_machine.specs.Machine.{State, Thread, Next, running, goes, go, with_some, range_swapped_if_leftwards, act, act_on}
 use Rattle.regress_machine.specs.InsnEffects.{IsNotStuck}
 use Rattle.regress_machine.proofs.InsnsNotStuck.{by-only}
-use Rattle.regress_machine.specs.ThreadSimulation.{Simulates}
-use Rattle.regress_machine.proofs.ThreadSimulationLemmas.{simulates-goes}
 use Rattle.regress_backtrack.specs.declared.state.ChoicePoint.{ChoicePoint}
 use Rattle.regress_backtrack.specs.State.{StateModel, current_thread_state_of, ChangesStateUndoably, with_group_open, state_with_group_unset, with_group_range, with_choice_point_list}
 use Rattle.regress_backtrack.specs.PendingThreads.{ResumePoint, pending_thread}
 use Rattle.regress_backtrack.specs.StateTransitions.{SearchModel, TakesThreadTransition}
+use Rattle.regress_backtrack.proofs.LeftThreadLemmas.{Replaces, replaces-goes}
 use Rattle.regress_backtrack.proofs.StateTransitionLemmas.{unchanged, changed, only-choice_point_pushed}
 
 module _ (r : SearchModel) (ip at : ℕ) (h : StateModel) where
@@ -31,14 +30,14 @@ module _ (r : SearchModel) (ip at : ℕ) (h : StateModel) where
   pub jumps : (target : ℕ) → slice_get r.program.insns ip ≡ Some (Jump target) → TakesThreadTransition r 1 ip at h h (on_at target)
   jumps target is =
       unchanged r 1 ip at h (on_at target) (omega arith)
-      (simulates-goes r.program r.text r.exact r.direction here _ (went (Jump target) is _ refl))
+      (replaces-goes r here (current_thread_state_of h target at ∷ []) (went (Jump target) is _ refl))
 
   -- A state that was changed continues at the next instruction.
   becomes-next : (change : State → State) (h' : StateModel) → ChangesStateUndoably change h h' → act r.program r.text r.direction here ≡ go (record (change here) { ip = ip + 1 })
       → ((s : State) → change (record s { ip = ip + 1 }) ≡ record (change s) { ip = ip + 1 }) → TakesThreadTransition r 1 ip at h h' (on_at (ip + 1))
   becomes-next change h' b e apart =
       changed r 1 ip at h change h' (on_at (ip + 1)) b (omega arith)
-      (simulates-goes r.program r.text r.exact r.direction here _
+      (replaces-goes r here (current_thread_state_of h' (ip + 1) at ∷ [])
       (e ∙ ap (λ s. goes (running s ∷ [])) (sym (b.state (ip + 1) at ∙ apart here))))
 
   pub opens : (g : ℕ) (h' : StateModel) → slice_get r.program.insns ip ≡ Some (BeginCaptureGroup g) → IsNotStuck (act r.program r.text r.direction here)
@@ -67,5 +66,5 @@ module _ (r : SearchModel) (ip at : ℕ) (h : StateModel) where
       → r.branches mark ≡ record { ip = secondary; at = at } ∷ [] → TakesThreadTransition r 1 ip at h (with_choice_point_list (h.choice_points ++ mark ∷ []) h) (on_at (ip + 1))
   forks secondary mark is now fits branches =
       only-choice_point_pushed r 1 ip at h mark now fits (record { ip = ip + 1; at = at }) (omega arith)
-      (subst (λ ws. Simulates r.program r.text r.exact r.direction 1 (running (current_thread_state_of h (ip + 1) at) ∷ map (pending_thread h.groups h.slots) ws) (running here ∷ [])) (sym branches)
-      (simulates-goes r.program r.text r.exact r.direction here _ (went (Alt secondary) is _ refl)))
+      (subst (λ ws. Replaces r 1 here (running (current_thread_state_of h (ip + 1) at) ∷ map (pending_thread h.groups h.slots) ws)) (sym branches)
+      (replaces-goes r here (current_thread_state_of h (ip + 1) at ∷ current_thread_state_of h secondary at ∷ []) (went (Alt secondary) is _ refl)))

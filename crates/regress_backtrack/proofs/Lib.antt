@@ -11,6 +11,8 @@ pub mod UndoLogLemmas
 pub mod LogicalSlotLemmas
 mod LogCompactionLemmas
 mod SlotChangeLemmas
+pub mod LeftThreadLemmas
+pub mod LookaroundContinuationLemmas
 pub mod StateTransitionLemmas
 pub mod GroupAndBranchTransitions
 pub mod LoopTurnLemmas
@@ -28,6 +30,10 @@ pub mod OpExecutionLemmas
 pub mod PaidScanLemmas
 pub mod OpWorkLemmas
 pub mod PaidResumptionLemmas
+pub mod SearchCostLemmas
+pub mod PaidSearchLemmas
+pub mod PaidAttemptLemmas
+pub mod WorkBoundLemmas
 pub mod LookaheadVerdictTurns
 pub mod PossessiveLoopTurns
 mod BackreferenceMismatch

@@ -3,6 +3,7 @@ pub mod State
 pub mod UndoLog
 pub mod PendingThreads
 pub mod BudgetAccounting
+pub mod ThreadsLeftByOps
 pub mod StateTransitions
 pub mod ChoicePoints
 pub mod OpExecution
@@ -13,14 +14,17 @@ pub mod OffsetPastBackreference
 pub mod CharLoopScans
 pub mod CharLoopChoicePoints
 pub mod SearchProgress
+pub mod WorkOfSearches
 pub mod TextsReadAsTreeRequires
 pub mod LimitedStarts
 pub mod Interpreter
-pub mod SuspendedSearches
 pub mod AttemptResults
 pub mod RecordsAmongChoicePoints
 pub mod FailureMemo
 pub mod MemoizedExecution
+pub mod WorkOfAttempts
+pub mod PaidSearches
+pub mod SuspendedSearches
 pub mod FailuresInMemoTable
 pub mod MemoizedCharLoops
 pub mod KnownEnds

@@ -1,6 +1,6 @@
 //! A single attempt at one start position.
 
-ghost use Rattle.std.specs.Prelude.{◌≡◌, IfOk, None, false, map, option_map};
+ghost use Rattle.std.specs.Prelude.{true, ◌≡◌, IfOk, None, false, map, option_map};
 ghost use Rattle.regex_meaning.specs.CodeUnitOffsets.{IsBoundary};
 ghost use Rattle.regress_search.specs.AttemptsAndStarts.{ticks_of_attempt_at};
 ghost use Rattle.regress_search.specs.SearchEffects.{SpendsNeedOrReachesLimit, cause_of_error, TellsIfStepLimitReached};
@@ -9,6 +9,7 @@ ghost use Rattle.regress_search.specs.TreePlanAndText.{program_of};
 ghost use Rattle.regress_backtrack.specs.AttemptResults.{HasFirstOutcomeEndAndGroups, CostsStepsAt, AllocFailureCostsStepIfSlots};
 ghost use Rattle.regress_backtrack.specs.{MemoizedExecution.{IsMemoSound, KeepsMemoSound}, Interpreter.{IfResultStored}, FailuresInMemoTable.{IsMemoRight}};
 ghost use Rattle.regress_backtrack.specs.TextsReadAsTreeRequires.{TreeCanSearchText};
+ghost use Rattle.regress_backtrack.specs.PaidSearches.{PaysForAttempt};
 
 use crate::failure_memo::{FailureMemo, StepsAndMemo, StoredOrStopped};
 use crate::failures_in_memo_table::{CounterAndMemoForRetries, enable_memo};
@@ -70,6 +71,8 @@ pub(crate) fn attempt<W: SearchContext, S: StepCounter, M: FailureMemo>(
     ensures cause { TellsIfStepLimitReached result (S.budget progress.new.steps).out }
     ensures sound { KeepsMemoSound S.StepCounter M.FailureMemo (W.searching context.now) progress.old.memo
         progress.new.memo }
+    ensures paid { PaysForAttempt S.StepCounter M.FailureMemo (W.searching context.now) true
+        (W.Input.Position.offset pos) progress.old.steps result progress.new.steps }
 {
     let at = context.input().pos_to_offset(pos);
     let groups = context.program().groups() as usize;

@@ -26,3 +26,4 @@ pub mod state;
 pub mod step_and_work_budgets;
 mod step_limited;
 mod surplus_required_iterations;
+mod work_limited;

@@ -57,6 +57,15 @@ pub trait StepCounter: Copy {
         ensures taken { OnOk result (IsTakenFromBudget COUNTS steps (budget self.old) (budget self.new)) }
         ensures refused { OnErr result (IsRefusedByBudget COUNTS steps (budget self.old) (budget self.new)) };
 
+    /// Charges one operation before it is executed: takes one step and pays one unit of work.
+    /// Returns `Err` if no step or no work is left.
+    fn begin_operation(&mut self) -> Result<(), SearchStoppedWithoutResult>
+        ensures taken { OnOk result (IsTakenFromBudget COUNTS 1 (budget self.old) (budget self.new)) }
+        ensures stopped { OnErr result (IsRefusedByBudget COUNTS 1 (budget self.old) (budget self.new)
+            ⊎ (IsTrue PAYS × IsTakenFromBudget COUNTS 1 (budget self.old) (budget self.new))) }
+        ensures paid { OnOk result (IsTakenFromBudget PAYS 1 (work self.old) (work self.new)) }
+        ensures short { OnErr result (IsTrue PAYS → IsRefusedByBudget PAYS 1 (work self.old) (work self.new)) };
+
     /// Charges one backtrack: takes one step, pays one unit of work (`PAYS`), and counts towards
     /// the work after which failures are memoized. Returns `Err` if too much work was done, or if
     /// no step or no work is left.
@@ -160,6 +169,11 @@ impl<const BOUND: bool> StepCounter for WorkCounterWithoutStepLimit<BOUND> {
     }
 
     #[inline(always)]
+    fn begin_operation(&mut self) -> Result<(), SearchStoppedWithoutResult> {
+        Ok(())
+    }
+
+    #[inline(always)]
     fn backtrack(&mut self) -> Result<(), SearchStoppedWithoutResult> {
         if !BOUND {
             return Ok(());
@@ -242,8 +256,13 @@ impl StepCounter for LimitedStepCounter {
     }
 
     #[inline(always)]
-    fn backtrack(&mut self) -> Result<(), SearchStoppedWithoutResult> {
+    fn begin_operation(&mut self) -> Result<(), SearchStoppedWithoutResult> {
         self.take(1)
+    }
+
+    #[inline(always)]
+    fn backtrack(&mut self) -> Result<(), SearchStoppedWithoutResult> {
+        self.begin_operation()
     }
 
     #[inline(always)]
@@ -311,8 +330,13 @@ impl StepCounter for WorkBudget {
     }
 
     #[inline(always)]
-    fn backtrack(&mut self) -> Result<(), SearchStoppedWithoutResult> {
+    fn begin_operation(&mut self) -> Result<(), SearchStoppedWithoutResult> {
         self.pay(1)
+    }
+
+    #[inline(always)]
+    fn backtrack(&mut self) -> Result<(), SearchStoppedWithoutResult> {
+        self.begin_operation()
     }
 
     #[inline(always)]

@@ -5,6 +5,7 @@ mod SearchingLemmas
 mod InWorkLemmas
 mod FlagLetters
 mod NextCallLemmas
+mod NextInWorkLemmas
 mod GroupNumberLemmas
 mod HandleOwnership
 mod ReplyLemmas

@@ -28,7 +28,7 @@ pub fills-utf16 : (re : Regex) (s : Search) (e : Encoding) (steps : Option ℕ) 
 fills-utf16 re s e steps before after r is none h =
     subst (λ e. FillsInEncoding re s e steps before after r) (sym is) (subst (λ n. FillsInEncoding re s Utf16 n before after r) (sym none) (in-utf16 re s before after r h))
 
-not-moved : (s : Search) → HasSameText s s
+pub not-moved : (s : Search) → HasSameText s s
 not-moved s = record { bytes = refl; units = refl; encoding = refl }
 
 pub not-held : (held : Option Regex) (s : Search) (steps left : Option ℕ) (before : List Span) (reply : Reply) → None ≡ held

@@ -6,6 +6,7 @@ pub mod Replies
 pub mod Searching
 pub mod Opening
 pub mod NextMatches
+pub mod NextInWork
 pub mod Texts
 pub mod FirstMatchInWork
 pub mod MatchesAt

@@ -10,6 +10,7 @@ ghost use Rattle.std.specs.Prelude.{◌≡◌, IsUtf8, None, Some, chars, length
 ghost use Rattle.std.specs.Char.{len_utf8};
 ghost use Rattle.regex_meaning.specs.Text.{utf16_characters, utf16_width};
 ghost use Rattle.regress_c.specs.Compiling.{RepliesCloned, RepliesCompileResult, RepliesCompileResultWithSyntax, given, given_with_syntax, unbounded};
+ghost use Rattle.regress_c.specs.NextInWork.{RepliesNextInWork};
 ghost use Rattle.regress_c.specs.NextMatches.{RepliesNext};
 ghost use Rattle.regress_c.specs.{FirstMatchInWork.{RepliesInWork, RepliesWorkBound}, Opening.{OpensUcs2, OpensUtf8, OpensUtf16, RepliesOpened}, AllMatchesInWork.{RepliesAllInWork}, Codes.{done}};
 ghost use Rattle.regress_c.specs.GroupNumbers.{group_number_reply_of_handle};
@@ -28,6 +29,7 @@ mod first_match;
 mod first_match_in_work;
 mod flags;
 mod message;
+mod next_in_work;
 mod next_matches;
 mod opening;
 mod pattern;
@@ -45,6 +47,7 @@ use crate::anchored::{AnchoredUcs2, AnchoredUtf8, AnchoredUtf16};
 use crate::compiling::{Bounds, compile, compile_with_syntax};
 use crate::first_match::search;
 use crate::first_match_in_work::{find, write_work_bound};
+use crate::next_in_work::write_next_matches_in_work;
 use crate::next_matches::write_next_matches;
 use crate::opening::open;
 use crate::pattern::Pattern;
@@ -580,6 +583,26 @@ pub extern "C" fn regress_c_next_within(
         *steps = left;
     }
     went.reply
+}
+
+/// Writes the next matches of a search in UTF-8, with at most `work` work. Sets `work` to the work
+/// that is left.
+///
+/// Each search takes exactly its cost (`work_costs`) from `work`. No bound of the pattern is
+/// needed, and no number suffices for every text.
+#[unsafe(no_mangle)]
+pub extern "C" fn regress_c_next_in_work(
+    alloc: Global,
+    pattern: &mut Pattern,
+    search: &mut Search<'_>,
+    work: &mut u64,
+    spans: &mut [Span],
+) -> Reply
+    ensures replies { RepliesNextInWork pattern.old.held search.old search.new work.old work.new spans.old spans.new
+        result }
+    ensures kept { pattern.new.held ≡ pattern.old.held }
+{
+    write_next_matches_in_work(alloc, pattern, search, work, spans)
 }
 
 /// Closes a search. Then it no longer borrows a text.

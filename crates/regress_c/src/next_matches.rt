@@ -2,9 +2,11 @@
 
 ghost use Rattle.std.specs.Prelude.{◌≡◌, ◌<◌, ◌≤◌, ◌+◌, ◌++◌, None, Some, drop, length, take};
 ghost use Rattle.regress_c.specs.Codes.{code_of_refusal};
+ghost use Rattle.regress_c.specs.NextInWork.{TakesWorkOfMatches, code_of_stop_in_work};
 ghost use Rattle.regress_c.specs.NextMatches.{Fills, FillsFrom, FillsInEncoding, RepliesNext, code_of_stop_reason, number_of_ranges as spec_number_of_ranges, tree_for_encoding};
 ghost use Rattle.regress_c.specs.{Searching.{can_start_utf8, can_start_utf16}, Replies.{spans_of}};
 ghost use Rattle.regex_meaning.specs.CodeUnitOffsets.{units, IsBoundaryOrPastEnd};
+ghost use Rattle.regress_search.specs.CostsOfSearches.{IfWorkIsCounted};
 ghost use Rattle.regress_search.specs.MatchesAsSpecAnswers.{answer_of};
 ghost use Rattle.regress_match.specs.ProgramTreesAndAnswers.{units_as_ucs2_text, units_as_utf16_text, bytes_as_utf8_text, tree_for_byte_units, tree_for_16_bit_units};
 
@@ -37,6 +39,17 @@ impl Stop {
             Stop::Full => DONE,
             Stop::Over => NO_MATCH,
             Stop::Refused(error) => Refusal::from(error).code(),
+        }
+    }
+
+    /// Returns the code that reports why a call with a work limit wrote no further match. `out` says
+    /// whether the last search reached the limit.
+    pub(crate) fn code_in_work(self, out: bool) -> u32
+        ensures { result ≡ code_of_stop_in_work self out }
+    {
+        match self {
+            Stop::Refused(_) if out => Refusal::WorkLimit.code(),
+            _ => self.code(),
         }
     }
 }
@@ -128,8 +141,8 @@ fn refused(refusal: Refusal, steps: Option<u64>) -> CallOutcome
     CallOutcome { reply, left: steps }
 }
 
-// Returns the number of ranges of a match.
-fn number_of_ranges(re: &Regex, encoding: Encoding) -> usize
+/// Returns the number of ranges of a match.
+pub(crate) fn number_of_ranges(re: &Regex, encoding: Encoding) -> usize
     ensures { result ≡ spec_number_of_ranges (tree_for_encoding re.now encoding) }
 {
     match encoding {
@@ -219,8 +232,9 @@ fn in_ucs2(re: &Regex, units: &[u16], start: usize, spans: &mut [Span]) -> Resul
     Ok(fill(&mut executor, start, re.unit_group_count() + 1, spans))
 }
 
-// Writes matches from an offset on, as many as there is room for. Each match has `ranges` ranges.
-fn fill<E: SingleAttemptExecutor>(
+/// Writes matches from an offset on, as many as there is room for. Each match has `ranges` ranges.
+/// The clause `cost` says which work is taken, if the search counts work.
+pub(crate) fn fill<E: SingleAttemptExecutor>(
     search: &mut E,
     start: usize,
     ranges: usize,
@@ -230,6 +244,9 @@ fn fill<E: SingleAttemptExecutor>(
     requires ranges { ranges ≡ spec_number_of_ranges (E.tree search.old) }
     ensures fills { Fills (E.tree search.old) (E.text search.old) (E.budget search.old) start spans.old
         spans.new result (E.budget search.new) }
+    ensures cost { IfWorkIsCounted E.counts_work (TakesWorkOfMatches E.costs (E.tree search.old)
+        (E.text search.old) (E.failures search.old) start (E.left search.old) result.matches result.stop
+        (E.out_of_work search.new) (E.left search.new)) }
     ensures unset { result.left ≡ None }
 {
     let mut filled = Filled {

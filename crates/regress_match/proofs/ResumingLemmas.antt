@@ -17,13 +17,15 @@ use Rattle.regex_meaning.proofs.MatchOrderLemmas.{answers-IsWellFormedAnswerFor}
 use Rattle.regex_meaning.proofs.StepBudgetLemmas.{within-some, within-none, beyond}
 use Rattle.regex_meaning.proofs.CodeUnitOffsetsLemmas.{place_at-past}
 use Rattle.regress_search.specs.MatchesAsSpecAnswers.{answer_of}
+use Rattle.regress_search.specs.CostsOfSearches.{AttemptsFail, Failures, IfWorkIsCounted, SearchCosts, TakesExactCost, finds_none, no_attempt, WorkCosts}
 use Rattle.regress_search.specs.SearchEffects.{SpendsNeedOrReachesLimit}
 use Rattle.regress_search.specs.declared.exec.Match.{Match}
 use Rattle.regress_search.specs.declared.exec.SearchError.{SearchError}
 use Rattle.regress_search.specs.declared.exec.SearchError.TheVariants.{Memory, StepLimit}
+use Rattle.regress_search.proofs.SearchCostLemmas.{counted}
 use Rattle.regress_search.proofs.StepBudgetLemmas.{handed}
 use Rattle.regress_search.proofs.RemainingAnswerLemmas.{new-comes}
-use Rattle.regress_match.specs.Resuming.{IsResultOfNextFrom, IsExhaustedFrom, AreFoundInOrder, FindsNext, step_budget_after_first_match}
+use Rattle.regress_match.specs.Resuming.{IsResultOfNextFrom, IsExhaustedFrom, AreFoundInOrder, FindsNext, offset_after_first_match, step_budget_after_first_match}
 use Rattle.regress_match.specs.declared.api.searches_resumed_at_offsets.Step.{Step}
 
 abbrev pub greatest : ℕ
@@ -41,6 +43,27 @@ place-is offset found p last start e at = offset-is (nat_le start last) (offset 
 pub place-none : {P : Type 0} (offset : P → ℕ) (found : Option P) (last start : ℕ) → found ≡ None
     → option_map offset found ≡ (if nat_le start last then Some start else None) → None ≡ (if nat_le start last then Some start else None)
 place-none offset found last start e at = sym (ap (option_map offset) e) ∙ at
+
+-- The list of matches continues at the next start, or past the end.
+pub next-is : (tree : Tree) (text : Text) (at start n : ℕ) (next : Option ℕ) → n ≡ unwrap_or next greatest → next ≡ next_start tree.root text at → at ≡ start
+    → n ≡ offset_after_first_match tree text start
+next-is tree text at start n next e on here = e ∙ ap (λ p. unwrap_or p greatest) on ∙ ap (offset_after_first_match tree text) here
+
+-- ---- Work
+
+module _ (b : Bool) {P : Type 0} (offset : P → ℕ) (costs : WorkCosts)
+    (tree : Tree) (text : Text) (before : Failures) (found : Option P) (first : Option ℕ) (at : option_map offset found ≡ first) where
+  -- A search from a position costs what a search from its offset costs.
+  pub costs-from : (pos : P) → found ≡ Some pos → (Spends : ((cost : ℕ) → (after : Option Failures) → Type 0) → Type 0)
+      → IfWorkIsCounted b (Spends (SearchCosts costs tree text before (Some (offset pos)))) → IfWorkIsCounted b (Spends (SearchCosts costs tree text before first))
+  costs-from pos was Spends h = subst (λ p. IfWorkIsCounted b (Spends (SearchCosts costs tree text before p))) (sym (ap (option_map offset) was) ∙ at) h
+
+  -- A search past the end costs nothing.
+  pub past-costs : (left : ℕ) → found ≡ None → IfWorkIsCounted b (TakesExactCost (SearchCosts costs tree text before first) left left before)
+  past-costs left none =
+      counted b (0, finds_none 0 before (subst (λ p. AttemptsFail costs tree text before first 0 before p) (sym at ∙ ap (option_map offset) none) no_attempt), omega arith)
+
+-- ---- Steps
 
 module _ (tree : Tree) (text : Text) (is : HasRisingPlaceOffsets text) where
   -- Past the end no step is taken.

@@ -1,7 +1,8 @@
 -- Searches that resume at an offset.
 use Rattle.regex_meaning.specs.CodeUnitOffsets.{IsBoundaryOrPastEnd}
-use Rattle.std.specs.Prelude.{◌≡◌, ℕ, true, false, List, [], ◌∷◌, length, Option, Some, None, Result, Ok, Err}
+use Rattle.std.specs.Prelude.{◌≡◌, ◌-◌, ◌^◌, ℕ, unwrap_or, true, false, List, [], ◌∷◌, length, Option, Some, None, Result, Ok, Err}
 use Rattle.regex_meaning.specs.MatchGroupsByNumberAndName.{Answer}
+use Rattle.regex_meaning.specs.SearchAnswers.{next_start}
 use Rattle.regex_meaning.specs.Tree.{Tree, group_ids}
 use Rattle.regex_meaning.specs.Text.{Text}
 use Rattle.regex_meaning.specs.StepBudget.{IsBudgetAtMost, answers_within, finishes_within, need_from, remaining_budget}
@@ -11,6 +12,11 @@ use Rattle.regress_search.specs.declared.exec.SearchError.TheVariants.{Memory, S
 use Rattle.regress_match.specs.declared.api.searches_resumed_at_offsets.Step.{Step}
 
 module _ (tree : Tree) (text : Text) where
+  -- The offset at which the list of matches continues after the first match from `start` on. If the
+  -- list ends, it is the greatest `usize`, which is past the end of every text.
+  abbrev pub offset_after_first_match : (start : ℕ) → ℕ
+  offset_after_first_match start = unwrap_or (next_start tree.root text start) (2 ^ 64 - 1)
+
   -- The steps that are left when the first match from an offset on is found, or is known not to
   -- exist. The search takes exactly the steps that this needs. Past the end of the text it takes
   -- none.

@@ -22,7 +22,7 @@ pub use self::laws::{
     searches_return_matches_in_order, searches_return_matches_of_pattern,
     searches_return_matches_within_work, work_per_unit_limit_suffices,
 };
-pub use self::regex::{AsciiMatches, LimitedMatches, Matches, Regex};
+pub use self::regex::{AsciiMatches, LimitedMatches, Matches, Regex, WorkLimitedMatches};
 pub use self::replace::replacing_by_match_keeps_text;
 pub use self::searches_resumed_at_offsets::{Step, next_from};
 pub use self::work_budget_searches::{BoundedRegex, MatchesInWork};

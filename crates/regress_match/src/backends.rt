@@ -9,7 +9,7 @@ use crate::api::{Regex, SearchError};
 use crate::executor_aliases::search_with_executor_from;
 pub use crate::executor_aliases::{
     BacktrackExecutor, DefaultAsciiExecutor, DefaultExecutor, DefaultUcs2Executor,
-    DefaultUtf16Executor, LimitedExecutor,
+    DefaultUtf16Executor, LimitedExecutor, WorkLimitedExecutor,
 };
 pub use regex_parser::parse::{diagnose, diagnose_in, try_parse, try_parse_in};
 pub use regex_pattern_front::optimizer::optimize;

@@ -5,7 +5,9 @@ ghost use Rattle.regex_meaning.specs.CodeUnitOffsets.{units, IsBoundaryOrPastEnd
 ghost use Rattle.regex_pattern_front.specs.AstToSpecTree.{tree_of};
 ghost use Rattle.regress_match.specs.{CompileErrors.{IsOutOfMemory}, SearchResults.{YieldsMatches}};
 
-pub use regress_backtrack::classicalbacktrack::{BacktrackExecutor, LimitedExecutor};
+pub use regress_backtrack::classicalbacktrack::{
+    BacktrackExecutor, LimitedExecutor, WorkLimitedExecutor,
+};
 use regress_input::indexing::{AsciiInput, Ucs2Input, Utf8Input, Utf16Input};
 use regress_program::insn::CompiledRegex;
 use regress_search::exec::{Matches, ProducerFromProgramAndText, SearchError};

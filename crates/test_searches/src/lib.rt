@@ -27,6 +27,8 @@ mod memoization;
 #[cfg(test)]
 mod padded_texts;
 #[cfg(test)]
+mod paid_work;
+#[cfg(test)]
 mod patterns;
 #[cfg(test)]
 mod profile;

@@ -9,6 +9,7 @@ use crate::flags::{FLAGS, check_flags};
 use crate::groups::{MATCHES, check_match};
 use crate::memoization::{MEMOIZED, check_memoized};
 use crate::padded_texts::{PADDED_TEXTS, check_padded_text};
+use crate::paid_work::{PAID_WORK, check_paid_work};
 use crate::profile::{PROFILE, PROFILE_UNITS};
 use crate::replace::{REPLACEMENTS, check_replacement};
 use crate::rows::{Row, row_of};
@@ -33,6 +34,7 @@ enum Table {
     StepLimits,
     Memoized,
     WorkLimits,
+    PaidWork,
     Matches,
     Replacements,
     Closures,
@@ -57,6 +59,7 @@ fn check_row(
         Table::StepLimits => check_step_limits(alloc, differing, row)?,
         Table::Memoized => check_memoized(alloc, differing, row)?,
         Table::WorkLimits => check_work_limit(alloc, differing, row)?,
+        Table::PaidWork => check_paid_work(alloc, differing, row)?,
         Table::Matches => check_match(alloc, differing, row)?,
         Table::Replacements => check_replacement(alloc, differing, row)?,
         Table::Closures => check_closure_row(alloc, differing, row)?,
@@ -125,6 +128,11 @@ fn searches_that_end_only_with_memoization(rt: HostRuntime) -> Result<(), Fail> 
 #[test]
 fn searches_within_work_limits(rt: HostRuntime) -> Result<(), Fail> {
     check_table(&rt, rt.alloc(), Table::WorkLimits, WORK_LIMITS)
+}
+
+#[test]
+fn searches_that_pay_for_their_work(rt: HostRuntime) -> Result<(), Fail> {
+    check_table(&rt, rt.alloc(), Table::PaidWork, PAID_WORK)
 }
 
 #[test]

@@ -95,7 +95,7 @@ struct Search<'a> {
 }
 
 // Writes the matches, and the work that is left.
-fn write_all<P: WorkLimitedProducer + Drop>(
+pub fn write_all<P: WorkLimitedProducer + Drop>(
     line: &mut String,
     mut matches: WorkMatches<P>,
 ) -> Result<(), SearchError> {

@@ -12,6 +12,13 @@ pub fn enough(bounded: &BoundedRegex<'_>, units: usize) -> u64 {
     bounded.work_per_unit().saturating_mul(places)
 }
 
+// A pattern that is searched within a work limit.
+#[derive(Clone, Copy)]
+enum WorkLimitedPattern<'a> {
+    Bounded(&'a BoundedRegex<'a>),
+    Any(&'a Regex),
+}
+
 // A text and its matches, which were found without a bound.
 #[derive(Clone, Copy)]
 struct Known<'a> {
@@ -76,34 +83,76 @@ fn all<P: WorkLimitedProducer + Drop>(
 // Returns the result of a search in bytes.
 fn all_in_bytes(
     alloc: Global,
-    bounded: &BoundedRegex<'_>,
+    pattern: WorkLimitedPattern<'_>,
     text: &str,
     work: u64,
 ) -> Result<WorkLimitedResult, ParseFault> {
-    all(alloc, bounded.find_from(text, 0, work)?)
+    match pattern {
+        WorkLimitedPattern::Bounded(bounded) => all(alloc, bounded.find_from(text, 0, work)?),
+        WorkLimitedPattern::Any(re) => all(alloc, re.find_from_in_work(text, 0, work)?),
+    }
 }
 
 // Checks whether finding these matches takes exactly this much work: none is left, and one unit
 // less does not suffice.
 fn is_taken(
     alloc: Global,
-    bounded: &BoundedRegex<'_>,
+    pattern: WorkLimitedPattern<'_>,
     known: Known<'_>,
     work: u64,
 ) -> Result<bool, ParseFault> {
-    let whole = all_in_bytes(alloc, bounded, known.text, work)?;
+    let whole = all_in_bytes(alloc, pattern, known.text, work)?;
     if !whole.has_exactly_these_matches(known.list) || whole.left != 0 {
         return Ok(false);
     }
     match work.checked_sub(1) {
         Some(less) => Ok(all_in_bytes(
-            alloc, bounded, known.text, less,
+            alloc, pattern, known.text, less,
         )?.is_prefix_until_work_ran_out(known.list)),
         None => Ok(true),
     }
 }
 
-// Checks whether all matches in bytes are found with the counted work.
+// Returns the work that finding these matches takes. Returns `None` if a search with this work
+// finds other matches, or what it takes is not exact.
+fn exact_work_taken(
+    alloc: Global,
+    pattern: WorkLimitedPattern<'_>,
+    known: Known<'_>,
+    work: u64,
+) -> Result<Option<u64>, ParseFault> {
+    let found = all_in_bytes(alloc, pattern, known.text, work)?;
+    let taken = work.saturating_sub(found.left);
+    let is_exact = found.has_exactly_these_matches(known.list)
+        && is_taken(alloc, pattern, known, taken)?;
+    Ok(if is_exact { Some(taken) } else { None })
+}
+
+/// Checks whether the default executor finds the same matches within a work limit. A limit that
+/// exceeds the work by the length of the text changes nothing; half of the work suffices for a
+/// prefix of the matches.
+pub fn do_work_limits_agree(
+    alloc: Global,
+    re: &Regex,
+    text: &str,
+    list: &[Match],
+) -> Result<bool, ParseFault> {
+    let pattern = WorkLimitedPattern::Any(re);
+    let found = all_in_bytes(alloc, pattern, text, u64::MAX)?;
+    let taken = u64::MAX - found.left;
+    let spare = text.len() as u64;
+    let again = all_in_bytes(alloc, pattern, text, taken.saturating_add(spare))?;
+    let half = all_in_bytes(alloc, pattern, text, taken / 2)?;
+    let is_prefix = half.has_exactly_these_matches(list) || half.is_prefix_until_work_ran_out(list);
+    Ok(
+        is_prefix
+            && found.has_exactly_these_matches(list)
+            && again.has_exactly_these_matches(list)
+            && again.left == spare,
+    )
+}
+
+// Checks whether all matches in bytes are found with the work that the bound requires.
 fn is_found(
     alloc: Global,
     bounded: &BoundedRegex<'_>,
@@ -111,16 +160,15 @@ fn is_found(
 ) -> Result<bool, ParseFault> {
     let text = known.text;
     let work = enough(bounded, text.len());
-    let found = all_in_bytes(alloc, bounded, text, work)?;
-    let taken = work.saturating_sub(found.left);
-    if !found.has_exactly_these_matches(known.list) || !is_taken(alloc, bounded, known, taken)? {
+    let pattern = WorkLimitedPattern::Bounded(bounded);
+    let Some(taken) = exact_work_taken(alloc, pattern, known, work)? else {
         return Ok(false);
-    }
+    };
     if !text.is_ascii() {
         return Ok(true);
     }
     let others = all(alloc, bounded.find_from_ascii(text, 0, work)?)?;
-    Ok(others.has_exactly_these_matches(known.list) && others.left == found.left)
+    Ok(others.has_exactly_these_matches(known.list) && work.saturating_sub(others.left) == taken)
 }
 
 // Checks the same in UTF-16.

@@ -2,7 +2,7 @@
 
 ghost use Rattle.std.specs.Prelude.{IsAscii};
 
-use crate::bounded::do_work_bounds_suffice;
+use crate::bounded::{do_work_bounds_suffice, do_work_limits_agree};
 use crate::fault::ParseFault;
 use crate::limits::{do_step_limits_agree, program_of};
 use crate::lists::{all, are_same, is_start, match_same_places};
@@ -177,7 +177,8 @@ fn check(alloc: Global, re: &Regex, case: Case<'_>, list: &[Match]) -> Result<bo
         ParseFault::Resumed,
     )?;
     fault_unless(
-        do_step_limits_agree(alloc, re, case, list)?,
+        do_step_limits_agree(alloc, re, case, list)?
+            && do_work_limits_agree(alloc, re, text, list)?,
         ParseFault::Limited,
     )?;
     fault_unless(

@@ -25,7 +25,7 @@ pub enum ParseFault {
     Utf16,
     /// A search from the end of a match finds other matches.
     Resumed,
-    /// A step limit is not exact.
+    /// A step limit is not exact, or a search within a work limit differs.
     Limited,
     /// The work that is said to suffice does not, or leads to other matches.
     Bounded,

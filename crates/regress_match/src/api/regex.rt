@@ -6,6 +6,7 @@ ghost use Rattle.regex_meaning.specs.FlagLettersAndEscaping.{flags_from_letters}
 ghost use Rattle.regex_parser.specs.SyntaxDialects.{spec_syntax_of};
 ghost use Rattle.regex_pattern_front.specs.AstToSpecTree.{tree_of};
 ghost use Rattle.regress_search.specs.MatchesAsSpecAnswers.{answer_of};
+ghost use Rattle.regress_bounded.specs.CostsOfAttempts.{IteratorBeginsSearches};
 ghost use Rattle.regress_match.specs.CompileErrors.{IsOutOfMemory, IsPatternRefusedWith, IsPatternRefusedWithSyntax};
 ghost use Rattle.regress_match.specs.ExpansionsAndMatchRanges.{MatchFitsText, MatchesFitTextInOrderFrom};
 ghost use Rattle.regress_match.specs.SearchResults.{YieldsMatches};
@@ -13,7 +14,8 @@ ghost use Rattle.regress_match.specs.SearchResults.{YieldsMatches};
 use crate::api::diagnosis::code_points;
 use crate::api::{Error, Flags, Syntax};
 use crate::executor_aliases::{
-    DefaultAsciiExecutor, DefaultExecutor, LimitedExecutor, search_with_executor_from,
+    DefaultAsciiExecutor, DefaultExecutor, LimitedExecutor, WorkLimitedExecutor,
+    search_with_executor_from,
 };
 use regex_parser::parse::try_parse_in;
 use regress_program::emit::emit_both;
@@ -31,6 +33,10 @@ pub type AsciiMatches<'r, 't> = exec::Matches<DefaultAsciiExecutor<'r, 't>>;
 /// An iterator over the matches of a pattern in a UTF-8 text, within a step budget. Contracts see
 /// the remaining answers, and whether `StepLimit` follows them instead of the end.
 pub type LimitedMatches<'r, 't> = exec::Matches<LimitedExecutor<'r, 't>>;
+
+/// An iterator over the matches of a pattern in a UTF-8 text, within a work limit. Contracts see
+/// the remaining answers, how much work is left, and what determines the cost of the next call.
+pub type WorkLimitedMatches<'r, 't> = exec::WorkMatches<WorkLimitedExecutor<'r, 't>>;
 
 /// A compiled pattern.
 #[derive(Drop)]
@@ -321,6 +327,53 @@ impl Regex {
     {
         let executor = LimitedExecutor::new(&self.byte_program, text, steps)?;
         let matches = exec::Matches::new(executor, start);
+        Ok(matches)
+    }
+
+    /// Like `find_from`, but all items together take at most `work` units of work.
+    ///
+    /// A unit of work is an executed operation, a character that a loop over one character tries, a
+    /// code unit that a backreference compares, a resumed choice point, or a code unit that a
+    /// prefilter skips: a skip from offset p to offset q costs q - p. No clause says when a
+    /// prefilter is used: it is if the work left is at least the number of code units to the end of
+    /// the text. Each call of `next` takes exactly the cost of its search. If a search needs more
+    /// work than is left, its item is `WorkLimit`, no work is left, and no item follows. The
+    /// iterator's `work_left` returns how much work is left.
+    ///
+    /// No number suffices for all texts, because a search may take exponential work: failures are
+    /// not recorded. `BoundedRegex` has a number that suffices, for patterns with a known bound.
+    ///
+    /// Finding the first match of `a*b` in `aab` takes 6 units of work. With 5, the first item is
+    /// `WorkLimit` (tested in `test_searches`).
+    ///
+    /// The clauses `answers` and `left` say which matches the iterator has to yield, and how much
+    /// work is left. The clause `begins` says what determines the cost of its first call; what each
+    /// call returns and costs is `NextYieldsAtCost` of its `next`. The clauses `in_text`, `ended`
+    /// and `refused` say that the matches are in the text and ordered, whether the iterator has
+    /// ended at once, and what an error means.
+    ///
+    /// # Errors
+    ///
+    /// `Memory` if an allocation for the search fails.
+    pub fn find_from_in_work<'r, 't>(
+        &'r self,
+        text: &'t str,
+        start: usize,
+        work: u64,
+    ) -> Result<WorkLimitedMatches<'r, 't>, SearchError>
+        requires { IsCharBoundary text.now start ⊎ (length text.now < start) }
+        ensures answers { IfOk result (λ it. YieldsMatches (tree_for_byte_units self.now)
+            (bytes_as_utf8_text self.now text.now) start it.remaining) }
+        ensures left { IfOk result (λ it. it.left ≡ work) }
+        ensures begins { let e = ⟦<WorkLimitedExecutor<'r, 't> as MatchProducer>⟧ in
+            IfOk result (IteratorBeginsSearches e (tree_for_byte_units self.now)
+            (bytes_as_utf8_text self.now text.now) start) }
+        ensures in_text { IfOk result (λ it. MatchesFitTextInOrderFrom text.now start it.remaining.answers) }
+        ensures ended { IfOk result (λ it. it.remaining.ended ≡ is_past start (length text.now)) }
+        ensures refused { IfErr result IsOutOfMemory }
+    {
+        let executor = WorkLimitedExecutor::new(&self.byte_program, text, work)?;
+        let matches = exec::WorkMatches::new(executor, start);
         Ok(matches)
     }
 

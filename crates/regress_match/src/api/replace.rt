@@ -61,6 +61,8 @@ impl Regex {
 }
 
 /// A law: replacing the first match, or all matches, by `$0` does not change the text.
+///
+/// Statement: `specs/Laws`.
 pub fn replacing_by_match_keeps_text()
     ensures { ReplacingByMatchKeepsText }
 {}

@@ -1,13 +1,15 @@
 //! Searches that resume at an offset, for callers that cannot hold an iterator between two matches.
 
-ghost use Rattle.std.specs.Prelude.{◌≡◌, ◌<◌, IfErr, IfOk, None, Some, option_map, unwrap_or};
-ghost use Rattle.regex_meaning.specs.CodeUnitOffsets.{units, IsBoundaryOrPastEnd};
+ghost use Rattle.std.specs.Prelude.{◌≡◌, ◌<◌, IfErr, IfOk, IfSome, None, Some, option_map, unwrap_or};
+ghost use Rattle.regex_meaning.specs.CodeUnitOffsets.{offset_within, units, IsBoundaryOrPastEnd};
 ghost use Rattle.regress_match.specs.ProgramTreesAndAnswers.{units_as_ucs2_text, units_as_utf16_text, bytes_as_utf8_text, tree_for_byte_units, tree_for_16_bit_units};
-ghost use Rattle.regress_match.specs.{CompileErrors.{IsOutOfMemory}, Resuming.{IsResultOfNextFrom}};
+ghost use Rattle.regress_search.specs.CostsOfSearches.{IfWorkIsCounted, SearchCosts, SpendsExactCost};
+ghost use Rattle.regress_match.specs.{CompileErrors.{IsOutOfMemory}, Resuming.{IsResultOfNextFrom, offset_after_first_match}};
 
 use crate::api::{Match, Regex, SearchError};
 use crate::executor_aliases::{
     DefaultExecutor, DefaultUcs2Executor, DefaultUtf16Executor, LimitedExecutor,
+    WorkLimitedExecutor,
 };
 use regress_input::indexing::InputIndexer;
 use regress_search::exec::{MatchProducer, ProducerFromProgramAndText};
@@ -19,7 +21,7 @@ pub struct Step {
     /// The match.
     pub found: Match,
     /// The offset in units from which the list continues. If the list ends, it is past the end of
-    /// the text (tested).
+    /// the text.
     pub next: usize,
 }
 
@@ -62,6 +64,31 @@ impl Regex {
         ensures refused { IfErr result IsOutOfMemory }
     {
         Ok(LimitedExecutor::new(self.byte_program(), text, steps)?)
+    }
+
+    /// Like `utf8_search`, but all calls together take at most `work` units of work
+    /// (`find_from_in_work` says what a unit is). The search's `work_left` returns how many are
+    /// left.
+    ///
+    /// If `next_from` needs more than are left, it returns `Memory`, and no work is left. After
+    /// such an error, `is_work_exhausted` tells whether the work limit was reached.
+    ///
+    /// # Errors
+    ///
+    /// `Memory` if an allocation for the search fails.
+    pub fn utf8_search_in_work<'r, 't>(
+        &'r self,
+        text: &'t str,
+        work: u64,
+    ) -> Result<WorkLimitedExecutor<'r, 't>, SearchError>
+        ensures tree { IfOk result (λ e. ⟦<WorkLimitedExecutor<'r, 't> as MatchProducer>⟧.tree e ≡
+            tree_for_byte_units self.now) }
+        ensures text { IfOk result (λ e. ⟦<WorkLimitedExecutor<'r, 't> as MatchProducer>⟧.text e
+            ≡ bytes_as_utf8_text self.now text.now) }
+        ensures left { IfOk result (λ e. ⟦<WorkLimitedExecutor<'r, 't> as MatchProducer>⟧.left e ≡ work) }
+        ensures refused { IfErr result IsOutOfMemory }
+    {
+        Ok(WorkLimitedExecutor::new(self.byte_program(), text, work)?)
     }
 
     /// Returns a search for the matches in a UTF-16 text. `next_from` finds them one after another.
@@ -112,12 +139,14 @@ impl Regex {
 /// yields, and no iterator has to be held between them.
 ///
 /// A call takes exactly the steps that are needed to find the match, or to find that there is none.
-/// Past the end of the text, it takes none.
+/// Past the end of the text, it takes none. The clause `cost` says the same of work, if the search
+/// counts work.
 ///
 /// # Errors
 ///
 /// - `StepLimit` if more steps are needed than are left; then none is left.
-/// - `Memory` if an allocation for the search fails. The steps taken until then stay spent.
+/// - `Memory` if an allocation for the search fails, or if more work is needed than is left. What
+///   was taken until then stays spent.
 pub fn next_from<E: SingleAttemptExecutor>(
     search: &mut E,
     start: usize,
@@ -125,6 +154,12 @@ pub fn next_from<E: SingleAttemptExecutor>(
     requires { IsBoundaryOrPastEnd (E.text search.old) start }
     ensures continues { IsResultOfNextFrom (E.tree search.old) (E.text search.old) (E.budget search.old) start result
         (E.budget search.new) }
+    ensures next { IfOk result (λ s. IfSome s (λ step. step.next
+        ≡ offset_after_first_match (E.tree search.old) (E.text search.old) start)) }
+    ensures cost { let costs = SearchCosts E.costs (E.tree search.old) (E.text search.old)
+        (E.failures search.old) (offset_within (E.text search.old) start) in
+        IfWorkIsCounted E.counts_work (SpendsExactCost costs (E.left search.old) result (E.out_of_work search.new)
+        (E.left search.new) (E.failures search.new)) }
     ensures same_tree { E.tree search.new ≡ E.tree search.old }
     ensures same_text { E.text search.new ≡ E.text search.old }
 {

@@ -17,6 +17,7 @@ use Rattle.regress_machine.specs.SearchFindsFirstOutcomeAtPlace.{state_before_fi
 use Rattle.regress_machine.specs.Machine.{running}
 use Rattle.regress_backtrack.proofs.AttemptResultLemmas.{Begins, first-state, begins, attempt-ends, attempt-spends, attempt-stops, found-with, spends-none, stopped-takes, takes-none, tells-memory}
 use Rattle.regress_backtrack.proofs.PushedRecordLemmas.{sound-same}
+use Rattle.regress_backtrack.proofs.PaidAttemptLemmas.{ends-from, stops-from, attempt-paid, attempt-short, attempt-unbegun}
 use Rattle.regress_backtrack.proofs.attempts.attempt.Given.{Over}
 use Rattle.regress_backtrack.proofs.attempts.attempt.Goals.{In_ok-begin}
 use Rattle.regress_backtrack.proofs.attempts.attempt.Goals as goal
@@ -123,3 +124,23 @@ run_thread-requires-clause-sound g c = c.requires.sound
 
 pub returns-in_err-begin-clause-sound : goal.returns-in_err-begin-clause-sound
 returns-in_err-begin-clause-sound g c = sound-same c.requires.sound
+
+-- ---- The work
+
+pub returns-in-Ok-clause-paid : goal.returns-in-Ok-clause-paid
+returns-in-Ok-clause-paid g c = λ pays off fresh.
+    let w = g.W.SearchContext.searching c.args.context.now in
+    let first = state-here g (goal.at.returns-in-Ok-clause-paid g c).In_ok-begin in
+    let ended = ends-from g.S.StepCounter g.M.FailureMemo w first c.run_thread.new.memory c.in-Ok.end c.in-Ok.ensures.paid in
+    attempt-paid w (g.W.Input.Position.PositionType.offset c.args.pos) fresh (ended.1 pays off)
+
+pub returns-in-Err-clause-paid : goal.returns-in-Err-clause-paid
+returns-in-Err-clause-paid g c = λ pays off fresh.
+    let w = g.W.SearchContext.searching c.args.context.now in
+    let first = state-here g (goal.at.returns-in-Err-clause-paid g c).In_ok-begin in
+    attempt-short w (g.W.Input.Position.PositionType.offset c.args.pos) fresh (stops-from g.S.StepCounter g.M.FailureMemo w first c.in-Err.ensures.short pays off)
+
+pub returns-in_err-begin-clause-paid : goal.returns-in_err-begin-clause-paid
+returns-in_err-begin-clause-paid g c = λ pays off fresh.
+    let w = g.W.SearchContext.searching c.args.context.now in
+    attempt-unbegun w (g.W.Input.Position.PositionType.offset c.args.pos) _ fresh c.from_residual.result c.from_residual.ensures.1

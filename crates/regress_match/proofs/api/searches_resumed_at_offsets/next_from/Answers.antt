@@ -1,9 +1,11 @@
 use Rattle.std.proofs.Common.{◌≡◌, ◌<◌, ◌-◌, ◌^◌, Option, Some, None, Ok, subst, option_map}
-use Rattle.regex_meaning.specs.CodeUnitOffsets.{units}
+use Rattle.regex_meaning.specs.CodeUnitOffsets.{offset_within, units}
 use Rattle.regress_search.specs.MatchesAsSpecAnswers.{answer_of}
 use Rattle.regress_search.specs.declared.exec.Match.{Match}
 use Rattle.regress_match.specs.Resuming.{IsResultOfNextFrom, FindsNext}
-use Rattle.regress_match.proofs.ResumingLemmas.{none-over, past-over, place-is, place-none, refused-from, steps-to}
+use Rattle.regress_search.specs.CostsOfSearches.{LeavesWorkWithoutResult, SearchCosts, TakesExactCost}
+use Rattle.regress_search.proofs.SearchCostLemmas.{counted₁, handed-cost}
+use Rattle.regress_match.proofs.ResumingLemmas.{costs-from, next-is, none-over, past-costs, past-over, place-is, place-none, refused-from, steps-to}
 use Rattle.regress_match.proofs.api.searches_resumed_at_offsets.next_from.Goals as goal
 
 pub returns-in_default-clause-continues : goal.returns-in_default-clause-continues
@@ -50,3 +52,53 @@ returns-clause-continues g c =
     (subst (λ t. units t < 2 ^ 64 - 1) c.in_ok-found.ensures.same.1 c.offset_of_position-next.ensures.fits)
     (g.E.SingleAttemptExecutor.budget search) (offset c.in-Some.pos) found c.in_ok-found.field-0 next after c.offset_of_position-next.result c.offset_of_position-next.ensures.offset
     (rw c.in-Some-2.is at c.in_ok-found.ensures.found.0) (rw c.in-Some-2.is at c.in_ok-found.ensures.found.1) c.in_ok-found.ensures.steps)
+
+pub returns-clause-next : goal.returns-clause-next
+returns-clause-next g c =
+    let search = c.args.search.now in
+    let offset = g.E.Input.Position.PositionType.offset in
+    let tree = g.E.SingleAttemptExecutor.tree search in
+    let text = g.E.SingleAttemptExecutor.text search in
+    next-is tree text (offset c.in-Some.pos) c.args.start c.offset_of_position-next.result (option_map offset c.next_match.new.next_start)
+    c.offset_of_position-next.ensures.offset (rw c.in-Some-2.is at c.in_ok-found.ensures.found.1)
+    (place-is offset c.initial_position.result c.in-Some.pos (units text) c.args.start c.in-Some.is c.initial_position.ensures)
+
+-- ---- Costs
+
+pub returns-in_default-clause-cost : goal.returns-in_default-clause-cost
+returns-in_default-clause-cost g c =
+    let e = g.E.SingleAttemptExecutor in
+    let search = c.args.search.now in
+    past-costs e.counts_work g.E.Input.Position.PositionType.offset e.costs (e.tree search) (e.text search) (e.failures search) c.initial_position.result
+    (offset_within (e.text search) c.args.start)
+    c.initial_position.ensures (e.left search) c.in_default.is
+
+pub returns-in_err-found-clause-cost : goal.returns-in_err-found-clause-cost
+returns-in_err-found-clause-cost g c =
+    let e = g.E.SingleAttemptExecutor in
+    let search = c.args.search.now in
+    let new = c.next_match.new.self in
+    counted₁ e.counts_work
+    (handed-cost (SearchCosts e.costs (e.tree search) (e.text search) (e.failures search) (offset_within (e.text search) c.args.start)) (e.left search)
+    c.from_residual.result c.in_err-found.field-0.0 (e.out_of_work new) (e.left new) (e.failures new) c.from_residual.ensures.1)
+    (costs-from e.counts_work g.E.Input.Position.PositionType.offset e.costs (e.tree search) (e.text search) (e.failures search) c.initial_position.result
+    (offset_within (e.text search) c.args.start) c.initial_position.ensures c.in-Some.pos c.in-Some.is
+    (λ costs. LeavesWorkWithoutResult costs (e.left search) (e.out_of_work new) (e.left new)) c.in_err-found.ensures.cost)
+
+pub returns-in_default-2-clause-cost : goal.returns-in_default-2-clause-cost
+returns-in_default-2-clause-cost g c =
+    let e = g.E.SingleAttemptExecutor in
+    let search = c.args.search.now in
+    let new = c.next_match.new.self in
+    costs-from e.counts_work g.E.Input.Position.PositionType.offset e.costs (e.tree search) (e.text search) (e.failures search) c.initial_position.result
+    (offset_within (e.text search) c.args.start)
+    c.initial_position.ensures c.in-Some.pos c.in-Some.is (λ costs. TakesExactCost costs (e.left search) (e.left new) (e.failures new)) c.in_ok-found.ensures.cost
+
+pub returns-clause-cost : goal.returns-clause-cost
+returns-clause-cost g c =
+    let e = g.E.SingleAttemptExecutor in
+    let search = c.args.search.now in
+    let new = c.next_match.new.self in
+    costs-from e.counts_work g.E.Input.Position.PositionType.offset e.costs (e.tree search) (e.text search) (e.failures search) c.initial_position.result
+    (offset_within (e.text search) c.args.start)
+    c.initial_position.ensures c.in-Some.pos c.in-Some.is (λ costs. TakesExactCost costs (e.left search) (e.left new) (e.failures new)) c.in_ok-found.ensures.cost

@@ -26,7 +26,8 @@
  *
  * Stack and memory: the functions that compile take stack in proportion to the depth of the pattern, up to 100 bytes a
  * level (measured); the functions with `within` in their names refuse deep patterns. A search takes none (measured). It
- * takes memory for what it may have to go back to, up to 100 bytes a step (measured).
+ * takes memory for what it may have to go back to: at most 316 MB for 10,000,000 steps of 2,204 patterns on texts of up
+ * to 1,000 characters (measured, docs/LIMITS.md).
  *
  * To link: -lregress_c (pkg-config: regress_c), static or shared. Both need malloc, realloc, free, memcpy, memmove,
  * memset and memcmp of the C library, and nothing else.
@@ -305,8 +306,8 @@ uint32_t regress_c_work_per_unit(regress_c_pattern *pattern, uint64_t *per_unit)
  * codes if no bound is known. These and refusals of the handle, the text or the start take no work.
  *
  * A loop over characters examines no more of them than the work that is left pays for. The clauses of this call do not
- * say how much work it did, only that the work left never rises; those of the iterator below say exactly what each
- * search costs.
+ * say how much work it did, only that the work left never rises; those of regress_c_next_in_work say exactly what each
+ * search costs, in a unit of their own.
  *
  * Each call computes the bound again and takes memory for the failures that it records: some bits for each byte of the
  * text.
@@ -392,13 +393,15 @@ regress_c_reply regress_c_next_within(regress_c_pattern *pattern, regress_c_sear
  * number may serve many calls. Any pattern may be searched for: no work bound is needed.
  *
  * A unit of work is one executed operation, one character that a loop over characters tries, one code unit that a
- * backreference compares or a prefilter skips, or one resumed choice point. Each search for a match takes exactly what
- * it costs. No number suffices for every text, since a search may take exponential work.
- * regress_c_find_all_utf8_in_work has a number that suffices, but it counts another kind of work.
+ * backreference compares or a prefilter skips, or one resumed choice point. Each search for a match takes exactly a
+ * cost that the definition allows; no clause says which prefilter is used. One is used only if the work left is at
+ * least the number of bytes to the end of the text, so add that number to the work that a search took if you search
+ * again. No number suffices for every text, since a search may take exponential work. regress_c_find_all_utf8_in_work
+ * has a number that suffices, but it counts another kind of work.
  *
- * Returns WORK_LIMIT if the search for the next match costs more than is left. Then no work is left, the matches before
- * it are written, and the next call continues there with the work that it is given. Work is counted in UTF-8; in
- * another encoding, NOT_COUNTED is returned. A refused call takes no work.
+ * Returns WORK_LIMIT only if a beginning of the search for the next match costs more than is left. Then no work is
+ * left, the matches before it are written, and the next call continues there with the work that it is given. Work is
+ * counted in UTF-8; in another encoding, NOT_COUNTED is returned. A refused call takes no work.
  */
 regress_c_reply regress_c_next_in_work(regress_c_pattern *pattern, regress_c_search *search, uint64_t *work,
                                        regress_c_span *spans, size_t spans_len);

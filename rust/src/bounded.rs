@@ -66,7 +66,7 @@ impl<'r> BoundedRegex<'r> {
         }
     }
 
-    /// Returns an iterator over all matches in `text`, with as much work as the bound says. It never yields a `WorkLimit`.
+    /// Returns an iterator over all matches in `text`, with as much work as the bound says. It never yields a `WorkLimit` (tested).
     pub fn find_iter(&self, text: &str) -> MatchesInWork<'r> {
         let units = (text.len() as u64).saturating_add(1);
         self.find_from(text, 0, self.per_unit.saturating_mul(units))

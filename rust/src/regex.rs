@@ -83,7 +83,8 @@ impl Regex {
     /// # Errors
     ///
     /// `Syntax` if the pattern has a syntax error, `TooManyGroups`, `TooManyLoops` or `TooManyInstructions` if it is too large, and
-    /// `Memory` if an allocation fails.
+    /// `Memory` if an allocation of the C library fails. If one of this crate fails, which copies the pattern and its names, the process
+    /// ends.
     pub fn new(pattern: &str) -> Result<Regex, Error> {
         Regex::with_flags(pattern, Flags::default())
     }
@@ -266,7 +267,7 @@ impl Regex {
     ///
     /// # Panics
     ///
-    /// If an allocation fails, as in all searches except those whose names begin with `try_`.
+    /// If an allocation fails, as in all searches that have neither `try_` in their names nor a limit.
     pub fn find(&self, text: &str) -> Option<Match> {
         self.find_iter(text).next()
     }
@@ -343,8 +344,10 @@ impl Regex {
     /// `WorkLimit`.
     ///
     /// A unit of work is one executed operation, one character that a loop over characters tries, one code unit that a backreference
-    /// compares or a prefilter skips, or one resumed choice point. Each item takes exactly the work of its search. Any pattern may be searched for,
-    /// but no number suffices for every text, since a search may take exponential work; see `bounded` for one that does.
+    /// compares or a prefilter skips, or one resumed choice point. Prefilters are used only if the work left is at least the length of
+    /// the rest of the text, so add that length to the work that a search took if you search again (tested, not proved). Any pattern
+    /// may be searched for, but no number suffices for every text, since a search may take exponential work; see `bounded` for one that
+    /// does.
     ///
     /// ```
     /// use regress_match::{Regex, SearchError};

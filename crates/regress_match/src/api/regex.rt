@@ -336,9 +336,9 @@ impl Regex {
     /// code unit that a backreference compares, a resumed choice point, or a code unit that a
     /// prefilter skips: a skip from offset p to offset q costs q - p. No clause says when a
     /// prefilter is used: it is if the work left is at least the number of code units to the end of
-    /// the text. Each call of `next` takes exactly the cost of its search. If a search needs more
-    /// work than is left, its item is `WorkLimit`, no work is left, and no item follows. The
-    /// iterator's `work_left` returns how much work is left.
+    /// the text. Each call of `next` takes exactly a cost of its search. The item is `WorkLimit` only
+    /// if a beginning of the search costs more than is left; then no work is left, and no item
+    /// follows. The iterator's `work_left` returns how much work is left.
     ///
     /// No number suffices for all texts, because a search may take exponential work: failures are
     /// not recorded. `BoundedRegex` has a number that suffices, for patterns with a known bound.

@@ -7,7 +7,8 @@ use Rattle.regress_search.specs.declared.exec.SearchError.{SearchError}
 use Rattle.regress_match.specs.Resuming.{offset_after_first_match}
 use Rattle.regress_match.specs.declared.api.regex.Regex.{Regex}
 use Rattle.regress_c.specs.Codes.{code_of_refusal}
-use Rattle.regress_c.specs.NextInWork.{FillsInWork, IsOutcomeInWork, IsOutcomeInWorkIfOpen, IsOutcomeInWorkOfHandle, MatchesCost, OutcomeInWork, RepliesNextInWork, SearchFromCosts, StopLeavesWork, TakesWorkOfCall, TakesWorkOfMatches}
+use Rattle.regress_c.specs.NextInWork.{FillsInWork, IsOutcomeInWork, IsOutcomeInWorkIfOpen, IsOutcomeInWorkOfHandle, MatchesCost, OutcomeInWork}
+use Rattle.regress_c.specs.NextInWork.{RepliesNextInWork, SearchFromCosts, StopLeavesWork, TakesWorkOfCall, TakesWorkOfMatches}
 use Rattle.regress_c.specs.NextInWork.{code_of_stop_in_work, no_matches, one_more, ran, refused, short}
 use Rattle.regress_c.specs.NextMatches.{HasSameText, number_of_ranges, tree_for_encoding}
 use Rattle.regress_c.specs.Opening.{encoding_of}

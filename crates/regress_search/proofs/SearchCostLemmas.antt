@@ -6,7 +6,8 @@ use Rattle.regex_meaning.specs.Tree.{Tree}
 use Rattle.regex_meaning.specs.Text.{Text}
 use Rattle.regex_meaning.specs.Outcomes.{Groups}
 use Rattle.regress_search.specs.AttemptsAndStarts.{NextStartSkipsNoMatch, NoMatchAt, end_with_groups, match_end_and_groups_at}
-use Rattle.regress_search.specs.CostsOfSearches.{AttemptsFail, CallSpendsExactCost, CostsMoreThanLeft, Failures, IfWorkIsCounted, LeavesWorkWithoutResult, PaysForSkip, PaysForSkipFrom, SearchCosts, SpendsExactCost, WorkCosts}
+use Rattle.regress_search.specs.CostsOfSearches.{AttemptsFail, CallSpendsExactCost, CostsMoreThanLeft, Failures, IfWorkIsCounted, LeavesWorkWithoutResult}
+use Rattle.regress_search.specs.CostsOfSearches.{PaysForSkip, PaysForSkipFrom, SearchCosts, SpendsExactCost, WorkCosts}
 use Rattle.regress_search.specs.CostsOfSearches.{TakesExactCost, no_attempt, one_more, skips, finds_none, finds_match, is_begun, next_attempt_offset, units_skipped}
 
 -- ---- Statements of producers that count work

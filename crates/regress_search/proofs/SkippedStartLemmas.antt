@@ -19,22 +19,6 @@ module _ (tree : Tree) (text : Text) where
   Walks first None = first_found tree.root text first ≡ None
   Walks first (Some at) = GoesFrom tree text first at
 
--- No match begins between the first offset and the last if none begins before or after one between.
-pub skips-compose : (tree : Tree) (text : Text) (from at : ℕ) (next : Option ℕ) → NextStartSkipsNoMatch tree text from (Some at) → NextStartSkipsNoMatch tree text at next
-    → NextStartSkipsNoMatch tree text from next
-skips-compose tree text from at None first then = λ x on le less. elim (cases_lt x at) [
-  | inl before ↦ first.2 x on le before
-  | inr past ↦ then x on past less
-]
-skips-compose tree text from at (Some to) first then = (
-  then.0,
-  (let a = first.1 in let b = then.1 in omega (arith, a, b)),
-  λ x on le less. elim (cases_lt x at) [
-    | inl before ↦ first.2 x on le before
-    | inr past ↦ then.2 x on past less
-  ],
-)
-
 -- `untried` is the number of offsets from the next one to the end of the text.
 abbrev pub untried : Text → (next : Option ℕ) → ℕ
 untried text next = option_map_or (λ at. units text + 1 - at) next 0

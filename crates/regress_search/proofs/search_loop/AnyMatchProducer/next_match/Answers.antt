@@ -11,7 +11,8 @@ use Rattle.regress_search.specs.MatchesWithinWork.{is_work_enough}
 use Rattle.regress_search.specs.declared.exec.SearchError.TheVariants.{Memory}
 use Rattle.regress_search.proofs.StepBudgetLemmas.{IsSpent, handed, refused-last, spent-begins}
 use Rattle.regress_search.proofs.SkippedStartLemmas.{untried, walk-begins}
-use Rattle.regress_search.proofs.SearchCostLemmas.{Failing, counted₁, counted₂, counted₃, failing-begins, failing-ends, failing-finds, failing-goes, failing-skips, failing-stops, handed-cost, stops-without}
+use Rattle.regress_search.proofs.SearchCostLemmas.{Failing, counted₁, counted₂, counted₃, failing-begins, failing-ends}
+use Rattle.regress_search.proofs.SearchCostLemmas.{failing-finds, failing-goes, failing-skips, failing-stops, handed-cost, stops-without}
 use Rattle.regress_search.proofs.MatchesWithinWorkLemmas.{enough-behind, enough-next, turn-behind}
 use Rattle.regress_search.proofs.SearchLoopLemmas.{Walk, walk-at, attempt-refused, found-there, goes-there}
 use Rattle.regress_search.proofs.search_loop.AnyMatchProducer.next_match.Goals as goal

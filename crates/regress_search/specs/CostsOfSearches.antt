@@ -1,5 +1,5 @@
 -- What searches cost in units of work, given the cost of each attempt.
-use Rattle.std.specs.Prelude.{◌≡◌, ◌<◌, ◌≤◌, ◌+◌, ◌-◌, ℕ, Bool, true, false, Option, Some, None, Result, Ok, Err, IfSome, IsSome}
+use Rattle.std.specs.Prelude.{◌≡◌, ◌<◌, ◌≤◌, ◌+◌, ◌-◌, ℕ, Bool, true, false, Option, Some, None, Result, Ok, Err, IfSome, IsOkAnd, IsSome, option_map}
 use Rattle.regex_meaning.specs.Tree.{Tree}
 use Rattle.regex_meaning.specs.Text.{Text}
 use Rattle.regress_program.specs.StartPredicates.{is_anchored_tree}
@@ -33,10 +33,26 @@ abbrev pub PaysForSkip : (may_skip : Bool) → Text → (at : ℕ) → (next : O
 PaysForSkip may_skip text at next left left' =
     (may_skip ≡ false → next ≡ Some at) × (left ≡ units_skipped text at next + left')
 
--- The same, for a search that continues at offset `from`, or has ended.
-abbrev pub PaysForSkipFrom : (may_skip : Bool) → Text → (from next : Option ℕ) → (left left' : ℕ) → Type 0
-PaysForSkipFrom may_skip text None next left left' = (next ≡ None) × (left ≡ left')
-PaysForSkipFrom may_skip text (Some at) next left left' = PaysForSkip may_skip text at next left left'
+-- A skip from an offset that costs more than the work that was left.
+abbrev pub SkipCostsMoreThanLeft : (may_skip : Bool) → Tree → Text → (at left : ℕ) → Type 0
+SkipCostsMoreThanLeft may_skip tree text at left = (may_skip ≡ true)
+    × ∥ ((next : Option ℕ) × NextStartSkipsNoMatch tree text at next × (left < units_skipped text at next)) ∥₁
+
+-- How much work a skip takes from the work that was left. An error is returned only if the skip
+-- costs more than that.
+abbrev pub SkipSpendsExactCost : {P E : Type 0} → (offset : P → ℕ) → (may_skip : Bool) → Tree → Text → (at left : ℕ)
+    → Result (Option P) E → (left' : ℕ) → Type 0
+SkipSpendsExactCost offset may_skip tree text at left (Ok next) left' =
+    PaysForSkip may_skip text at (option_map offset next) left left'
+SkipSpendsExactCost offset may_skip tree text at left (Err e) left' = SkipCostsMoreThanLeft may_skip tree text at left
+
+-- The same, for a search that continues at position `from`, or has ended.
+abbrev pub SkipFromSpendsExactCost : {P E : Type 0} → (offset : P → ℕ) → (may_skip : Bool) → Tree → Text
+    → (from : Option P) → (left : ℕ) → Result (Option P) E → (left' : ℕ) → Type 0
+SkipFromSpendsExactCost offset may_skip tree text None left result left' =
+    IsOkAnd result (λ next. next ≡ None) × (left ≡ left')
+SkipFromSpendsExactCost offset may_skip tree text (Some at) left result left' =
+    SkipSpendsExactCost offset may_skip tree text (offset at) left result left'
 
 -- A statement that holds only for producers that count work.
 abbrev pub IfWorkIsCounted : (counts_work : Bool) → Type 0 → Type 0
@@ -71,6 +87,9 @@ module _ (costs : WorkCosts) (tree : Tree) (text : Text) where
         → SearchCosts before first (done + cost) (Some after)
     is_begun : (done cost at : ℕ) (now : Failures) → AttemptsFail before first done now (Some at)
         → costs.of_attempt tree text now at cost None → SearchCosts before first (done + cost) None
+    skip_is_begun : (done at : ℕ) (now : Failures) (next : Option ℕ) → AttemptsFail before first done now (Some at)
+        → costs.may_skip ≡ true → NextStartSkipsNoMatch tree text at next
+        → SearchCosts before first (done + units_skipped text at next) None
 
 -- A first part of the computation costs more than the work that was left.
 abbrev pub CostsMoreThanLeft : (costs : (cost : ℕ) → (after : Option Failures) → Type 0) → (left : ℕ) → Type 0

@@ -293,11 +293,16 @@ static void check_next_in_work(regress_c_pattern *pattern, text t, size_t start,
     regress_c_reply reply = regress_c_next_in_work(pattern, &search, &left, spans, room);
     check(reply.code == REGRESS_C_NO_MATCH && search.next > t.len, "work without end");
     check_same((matches){spans, reply.count, 0, 0}, all, ranges, "matches in work without end");
-    /* A limit that exceeds what was taken by the length of the text changes nothing. */
-    uint64_t taken = UINT64_MAX - left, again = taken + t.len;
+    uint64_t taken = UINT64_MAX - left, again = taken;
     search = opened;
     reply = regress_c_next_in_work(pattern, &search, &again, spans, room);
-    check(reply.code == REGRESS_C_NO_MATCH && again == t.len, "as much work as the calls took");
+    check(reply.code == REGRESS_C_NO_MATCH && again == 0, "as much work as the calls took");
+    if (taken > 0) {
+        uint64_t less = taken - 1;
+        search = opened;
+        reply = regress_c_next_in_work(pattern, &search, &less, spans, room);
+        check(reply.code == REGRESS_C_WORK_LIMIT && less == 0, "one unit less than the calls took");
+    }
     uint64_t half = taken / 2;
     search = opened;
     reply = regress_c_next_in_work(pattern, &search, &half, spans, room);

@@ -393,11 +393,10 @@ regress_c_reply regress_c_next_within(regress_c_pattern *pattern, regress_c_sear
  * number may serve many calls. Any pattern may be searched for: no work bound is needed.
  *
  * A unit of work is one executed operation, one character that a loop over characters tries, one code unit that a
- * backreference compares or a prefilter skips, or one resumed choice point. Each search for a match takes exactly a
- * cost that the definition allows; no clause says which prefilter is used. One is used only if the work left is at
- * least the number of bytes to the end of the text, so add that number to the work that a search took if you search
- * again. No number suffices for every text, since a search may take exponential work. regress_c_find_all_utf8_in_work
- * has a number that suffices, but it counts another kind of work.
+ * backreference compares or a search skips, or one resumed choice point. Each search for a match takes exactly a cost
+ * that the definition allows; no clause says which starts are skipped. The work that a search took suffices to search
+ * again (tested). No number suffices for every text, since a search may take exponential work.
+ * regress_c_find_all_utf8_in_work has a number that suffices, but it counts another kind of work.
  *
  * Returns WORK_LIMIT only if a beginning of the search for the next match costs more than is left. Then no work is
  * left, the matches before it are written, and the next call continues there with the work that it is given. Work is

@@ -11,6 +11,7 @@ cd "$(dirname "$0")/.."
 # An allocation failed while the program's file was read.
 # A search stopped, and not because of its steps: then an allocation failed.
 # A search has too few steps left, which its counter stores.
+# A search has too little work left for a skip, which its executor stores.
 # A failed allocation of a search is passed on as an error of another type.
 # A search in a lookaround stopped, which is passed on.
 # A bounded search stopped: whether the work was used up is stored beside, since this error is of memory alone; or it would
@@ -20,6 +21,7 @@ cd "$(dirname "$0")/.."
 allowed='crates/regress_tool/src/main.rt
 crates/regress_backtrack/src/attempts.rt
 crates/regress_backtrack/src/interpreter.rt
+crates/regress_backtrack/src/work_limited.rt
 crates/regress_bounded/src/executor.rt
 crates/regress_search/src/exec/work_matches.rt
 crates/regress_backtrack/src/step_and_work_budgets.rt

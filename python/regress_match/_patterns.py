@@ -119,7 +119,7 @@ class Pattern:
 
         `steps` limits the steps of the search for all matches together. If more are needed, StepLimitError is raised
         after the matches that were found. `work` limits the work in the same way, and WorkLimitError is raised: a unit
-        is an operation, a character that a loop tries, a code unit that a backreference compares or a prefilter skips,
+        is an operation, a character that a loop tries, a code unit that a backreference compares or a search skips,
         or a resumed choice point. Neither number depends on time. A string with surrogates has no limits, and a call
         takes one of the two.
         """

@@ -344,10 +344,9 @@ impl Regex {
     /// `WorkLimit`.
     ///
     /// A unit of work is one executed operation, one character that a loop over characters tries, one code unit that a backreference
-    /// compares or a prefilter skips, or one resumed choice point. Prefilters are used only if the work left is at least the length of
-    /// the rest of the text, so add that length to the work that a search took if you search again (tested, not proved). Any pattern
-    /// may be searched for, but no number suffices for every text, since a search may take exponential work; see `bounded` for one that
-    /// does.
+    /// compares or a search skips, or one resumed choice point. The work that a search took suffices to search again (tested, not
+    /// proved). Any pattern may be searched for, but no number suffices for every text, since a search may take exponential work; see
+    /// `bounded` for one that does.
     ///
     /// ```
     /// use regress_match::{Regex, SearchError};

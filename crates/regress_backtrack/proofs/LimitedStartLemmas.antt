@@ -19,12 +19,13 @@ use Rattle.regress_machine.proofs.AdjacentCharacterBytes.{bytes_near-side, offse
 use Rattle.regress_program.specs.StartPredicates.{is_anchored_predicate}
 use Rattle.regress_program.proofs.StartPredicatesLemmas.{anchored-predicate}
 use Rattle.regress_search.specs.AttemptsAndStarts.{NextStartSkipsNoMatch, NoMatchAt, offset_of_first_place, first_filtered_start, next_filtered_start, filtered_start_after}
-use Rattle.regress_search.proofs.SkippedStartLemmas.{untried, with-tried}
+use Rattle.regress_search.proofs.SkippedStartLemmas.{skips-compose, untried}
 use Rattle.regress_search.proofs.FirstMatchLemmas.{read-inside, read-end}
 use Rattle.regress_search.proofs.StartPredicateLemmas.{ruled-out, anchored-behind, one-on}
 use Rattle.regress_search.proofs.TextReadLemmas.{literal-read}
 use Rattle.regress_machine.specs.Machine.{State, go_if, occurs_beside_offset}
 use Rattle.regress_machine.proofs.FirstUnitsOfCharacters.{slice_get-drop}
+use Rattle.regress_backtrack.proofs.CandidateStartLemmas.{next-one}
 use Rattle.regress_backtrack.specs.LimitedStarts.{admits_start, IsFirstTriedStart, IsTriedStartAfterFailure}
 
 -- ---- The text at a place
@@ -205,24 +206,6 @@ module _ (tree : Tree) (text : Text) (is : HasRisingPlaceOffsets text) where
 
   -- ---- No match begins at a place that is skipped
 
-  composed : (from to : ℕ) (next : Option ℕ) → NextStartSkipsNoMatch tree text from (Some to) → NextStartSkipsNoMatch tree text to next → NextStartSkipsNoMatch tree text from next
-  composed from to None a b = λ x boundary le less. elim (cases_lt x to) [
-    | inl before ↦ a.2 x boundary le before
-    | inr behind ↦ b x boundary behind less
-  ]
-  composed from to (Some next) a b = (
-    b.0,
-    (let l = a.1 in let m = b.1 in omega (arith, l, m)),
-    λ x boundary le less. elim (cases_lt x to) [
-      | inl before ↦ a.2 x boundary le before
-      | inr behind ↦ b.2 x boundary behind less
-    ],
-  )
-
-  with-vain : (at : ℕ) (next : Option ℕ) → NoMatchAt tree text at → NextStartSkipsNoMatch tree text (at + 1) next → NextStartSkipsNoMatch tree text at next
-  with-vain at None vain none = with-tried tree text is at (units text + 1) vain none
-  with-vain at (Some to) vain n = (n.0, (let l = n.1 in omega (arith, l)), with-tried tree text is at to vain n.2)
-
   module _ (well_formed : IsTrue (is_well_formed tree.root)) (scalars : IsTrue (list_all is_scalar text.characters)) where
     not-let : (s : StartPredicate) → start_predicate tree ≡ s → (p : ℕ) → admits_start s text p ≡ false → IsTrue (may_start (start_predicate tree) text p) → ⊥
     not-let start_arbitrary e p h may = let m : may_start start_arbitrary text p ≡ true = subst (λ s. may_start s text p ≡ true) e may in cc
@@ -247,7 +230,7 @@ module _ (tree : Tree) (text : Text) (is : HasRisingPlaceOffsets text) where
         let none : first_filtered_start tree text (offset text p) ≡ None = on (start_predicate tree) refl p inside h ∙ ap (option_and_then (λ (r : ℕ × ℕ). first_filtered_start tree text r.1)) end in
         let behind : NextStartSkipsNoMatch tree text (offset text p + 1) None =
         subst (λ o. NextStartSkipsNoMatch tree text (offset text p + 1) (option_map (λ (r : ℕ × ℕ). r.1) o)) end (one-on tree text is (offset text p) (offset-IsBoundary text p is inside)) in
-        subst (NextStartSkipsNoMatch tree text (offset text p)) (sym none) (with-vain (offset text p) None (vain-there p inside h) behind)
+        subst (NextStartSkipsNoMatch tree text (offset text p)) (sym none) (next-one tree text (offset text p) None (vain-there p inside h) behind)
 
     left-out : (p : ℕ) → p < last_place text → admits_start (start_predicate tree) text p ≡ false
         → NextStartSkipsNoMatch tree text (offset text (p + 1)) (first_filtered_start tree text (offset text (p + 1))) → NextStartSkipsNoMatch tree text (offset text p) (first_filtered_start tree text (offset text p))
@@ -259,8 +242,8 @@ module _ (tree : Tree) (text : Text) (is : HasRisingPlaceOffsets text) where
         let step : NextStartSkipsNoMatch tree text (offset text p + 1) (Some (offset text (p + 1))) =
         subst (λ o. NextStartSkipsNoMatch tree text (offset text p + 1) (option_map (λ (r : ℕ × ℕ). r.1) o)) next.1 (one-on tree text is (offset text p) (offset-IsBoundary text p is inside)) in
         subst (NextStartSkipsNoMatch tree text (offset text p)) (sym same)
-        (with-vain (offset text p) (first_filtered_start tree text (offset text (p + 1))) (vain-there p inside h)
-        (composed (offset text p + 1) (offset text (p + 1)) (first_filtered_start tree text (offset text (p + 1))) step later))
+        (next-one tree text (offset text p) (first_filtered_start tree text (offset text (p + 1))) (vain-there p inside h)
+        (skips-compose tree text (offset text p + 1) (offset text (p + 1)) (first_filtered_start tree text (offset text (p + 1))) step later))
 
     by-cases : {X : Type 0} (b : Bool) → (b ≡ true → X) → (b ≡ false → X) → X
     by-cases true f g = f refl
@@ -285,7 +268,7 @@ module _ (tree : Tree) (text : Text) (is : HasRisingPlaceOffsets text) where
         after None q = subst (λ o. NextStartSkipsNoMatch tree text (at + 1) (option_map (λ (r : ℕ × ℕ). r.1) o)) q (one-on tree text is at b)
         after (Some r) q =
             let step : NextStartSkipsNoMatch tree text (at + 1) (Some r.1) = subst (λ o. NextStartSkipsNoMatch tree text (at + 1) (option_map (λ (r : ℕ × ℕ). r.1) o)) q (one-on tree text is at b) in
-            composed (at + 1) r.1 (first_filtered_start tree text r.1) step (tried-is_next r.1 step.0)
+            skips-compose tree text (at + 1) r.1 (first_filtered_start tree text r.1) step (tried-is_next r.1 step.0)
 
         open-by : (s : StartPredicate) → start_predicate tree ≡ s → filtered_start_after s tree text at ≡ option_and_then (λ (r : ℕ × ℕ). first_filtered_start tree text r.1) (read text rightwards at)
             → NextStartSkipsNoMatch tree text (at + 1) (next_filtered_start tree text at)

@@ -25,7 +25,7 @@ use Rattle.regress_search.specs.SearchEffects.{SpendsNeedOrReachesLimit}
 use Rattle.regress_search.specs.declared.exec.SearchError.{SearchError}
 use Rattle.regress_search.specs.declared.exec.SearchError.TheVariants.{Memory, StepLimit}
 use Rattle.regress_backtrack.specs.TextsReadAsTreeRequires.{TreeCanSearchText}
-use Rattle.regress_backtrack.proofs.CandidateStartLemmas.{next-further}
+use Rattle.regress_search.proofs.SkippedStartLemmas.{skips-compose}
 
 -- ---- Each tree can search the texts that the other can
 
@@ -121,7 +121,7 @@ next-tree wide t text h from next = next-same (planned_tree wide t) t text (end-
 pub next-context : {re run : Regex} (wide : Bool) (text : Text) → re ≡ run → IsTrue (is_well_formed (tree_of re).root) → (from next : ℕ) (to : Option ℕ)
     → NextStartSkipsNoMatch (tree_of run) text from (Some next) → NextStartSkipsNoMatch (planned_tree wide (tree_of re)) text next to → NextStartSkipsNoMatch (tree_of re) text from to
 next-context {re = re} wide text same well from next to first second =
-    next-further (tree_of re) text from next to (subst (λ re. NextStartSkipsNoMatch (tree_of re) text from (Some next)) (sym same) first)
+    skips-compose (tree_of re) text from next to (subst (λ re. NextStartSkipsNoMatch (tree_of re) text from (Some next)) (sym same) first)
     (next-tree wide (tree_of re) text well next to second)
 
 -- Without a step limit nothing is claimed about the steps needed.

@@ -1,12 +1,12 @@
 -- The cost of an attempt, in units of work.
 use Rattle.std.specs.Prelude.{◌≡◌, ◌≤◌, ℕ, ◌+◌, true, false, [], ◌∷◌, List, Option, Some, None, Result, IfOk, OnErr}
 use Rattle.regex_meaning.specs.Text.{Text, rightwards}
-use Rattle.regex_meaning.specs.CodeUnits.{Encoding, text_units_in_encoding}
+use Rattle.regex_meaning.specs.CodeUnits.{Encoding, text_units_in_encoding, utf8}
 use Rattle.regex_meaning.specs.Tree.{Tree}
 use Rattle.regress_machine.specs.Machine.{State, Thread, Found, running, search}
 use Rattle.regress_machine.specs.SearchFindsFirstOutcomeAtPlace.{state_before_first_insn}
 use Rattle.regress_program.specs.CompilationOfTreesAsFunction.{compiled}
-use Rattle.regress_search.specs.CostsOfSearches.{Failures, SpendsExactCost}
+use Rattle.regress_search.specs.CostsOfSearches.{Failures, SpendsExactCost, WorkCosts}
 use Rattle.regress_backtrack.specs.RepeatableLoopBodies.{HasNoBackreference}
 use Rattle.regress_backtrack.specs.BudgetAccounting.{Budget, IsTakenFromBudget}
 use Rattle.regress_backtrack.specs.WorkOfSearches.{HasCome, Course, Reaches}
@@ -59,6 +59,10 @@ abbrev pub AttemptCostsWork : Encoding → Tree → Text → (before : Failures)
     → (after : Option Failures) → Type 0
 AttemptCostsWork e tree text before at cost (Some after) = IsCostOfAttempt e tree text at cost × (after ≡ before)
 AttemptCostsWork e tree text before at cost None = IsCostOfBeginning e tree text at cost
+
+-- The costs of searches in UTF-8 by `WorkLimitedExecutor`.
+abbrev pub work_costs : WorkCosts
+work_costs = record { of_attempt = AttemptCostsWork utf8; may_skip = true }
 
 -- No failures are known.
 abbrev pub no_failures : Failures

@@ -1,11 +1,11 @@
 //! The backtracking executor, which keeps one state and undoes the changes of failed threads.
 
 ghost use Rattle.std.specs.Prelude.{◌≡◌, ◌≤◌, IsAscii, IfOk, option_map, ⊤};
-ghost use Rattle.std.proofs.Props.{props};
+ghost use Rattle.std.proofs.{Common.{refl}, Props.{props}};
 ghost use Rattle.regex_meaning.specs.{CodeUnitOffsets.{IsBoundary}, Text.{ascii_text, utf8_text, utf16_text, ucs2_text}};
 ghost use Rattle.regex_pattern_front.specs.AstToSpecTree.{tree_of};
 ghost use Rattle.regress_search.specs.AttemptsAndStarts.{NextStartSkipsNoMatch, NoMatchAt};
-ghost use Rattle.regress_search.specs.NewExecutorsAndAsciiTexts.{ReadsBytesAsAscii, IsNewExecutor, CanSearchAllAsciiTexts};
+ghost use Rattle.regress_search.specs.NewExecutorsAndAsciiTexts.{IsNewExecutor};
 ghost use Rattle.regress_machine.specs.SearchFindsFirstOutcomeAtPlace.{TreeProgramCanSearchText};
 ghost use Rattle.regress_program.specs.{TableKeysOfUnits.{is_16_bit_encoding}, LeadingCharLoops.{OnlyOpensGroups}};
 ghost use Rattle.regress_search.specs.TreePlanAndText.{program_of};
@@ -29,7 +29,7 @@ use regress_input::indexing::{AsciiInput, InputIndexer, Ucs2Input, Utf8Input, Ut
 use regress_input::position::PositionType;
 use regress_program::insn::{CompiledRegex, CompiledRegexFor16BitUnits, Program};
 use regress_program::leading_char_loop::LeadingCharLoop;
-use regress_search::exec::{Executor, MatchProducer, ProducerFromProgramAndText, SearchError};
+use regress_search::exec::{Executor, ProducerFromProgramAndText, SearchError, SearchState};
 use regress_search::leading_char_loop::skip_leading_char_loop;
 use regress_search::program_and_input::ProgramAndInput;
 use regress_search::search_context::{
@@ -55,7 +55,7 @@ pub struct BacktrackExecutor<'r, Input: InputIndexer> {
     last_retry_end: Option<Input::Position>,
     // The leading char loop, with which each match begins. It is scanned again after a failed
     // start, so that none of its positions is tried.
-    leading_loop: LeadingCharLoop,
+    pub(crate) leading_loop: LeadingCharLoop,
     // What is remembered of the last leap.
     leap: LeapMemory,
     // The memo is right: each key that it holds as failed fails, and each key that it holds as
@@ -126,13 +126,10 @@ impl<'r, Input: InputIndexer> BacktrackExecutor<'r, Input> {
         }
     }
 
-    // Checks whether the leading char loop is scanned again from the failed start `tried`. It is if
-    // `next`, the next start to try, may be the loop's next character. The next attempt is past the
-    // loop's end, so each character is scanned again only once.
+    // Checks whether the leading char loop is scanned again from the failed start `tried`.
     #[inline(always)]
     fn may_rescan_leading_loop(&self, tried: Input::Position, next: Input::Position) -> bool {
-        let most = self.leading_loop.max_char_units;
-        most != 0 && next.to_offset().wrapping_sub(tried.to_offset()) <= most
+        may_rescan_loop(self.leading_loop, tried.to_offset(), next.to_offset())
     }
 
     /// Makes all further attempts record failures, as they do when the work budget is spent. The
@@ -145,10 +142,22 @@ impl<'r, Input: InputIndexer> BacktrackExecutor<'r, Input> {
     }
 }
 
-// Returns the first candidate start of the plan at `from` or later. Returns `None` if no match
-// begins there.
+/// Checks whether the leading char loop is scanned again from the failed start `tried`. It is if
+/// `next`, the next start to try, may be the loop's next character. The next attempt is past the
+/// loop's end, so each character is scanned again only once.
 #[inline(always)]
-fn next_candidate_start<W: SearchContext>(context: &W, from: PositionOf<W>) -> Option<PositionOf<W>>
+pub(crate) fn may_rescan_loop(leading_loop: LeadingCharLoop, tried: usize, next: usize) -> bool {
+    let most = leading_loop.max_char_units;
+    most != 0 && next.wrapping_sub(tried) <= most
+}
+
+/// Returns the first candidate start of the plan at `from` or later. Returns `None` if no match
+/// begins there.
+#[inline(always)]
+pub(crate) fn next_candidate_start<W: SearchContext>(
+    context: &W,
+    from: PositionOf<W>,
+) -> Option<PositionOf<W>>
     requires at { IsBoundary (W.searching context.now).text (W.Input.Position.offset from) }
     requires executable { let w = W.searching context.now in TreeProgramCanSearchText (program_of w) w.tree w.text }
     ensures { let w = W.searching context.now in let at = W.Input.Position.offset in
@@ -200,12 +209,39 @@ fn next_candidate_by_remembered_leap<W: SearchContext>(
     next_candidate_start(context, position_in_searched_text(context, past))
 }
 
-// Returns the first candidate start at `from` or later. Each match opens `opens` groups and then
-// begins with a char loop, and no match begins at `tried`, so none of the loop's positions is
-// tried.
-// Contract: `opens`, `no_match` and `executable` are these assumptions, for a program that can
-// search the text. `tried`, `at` and `ahead` say that both positions are boundaries, in this order.
-// No match begins between `from` and the result, or at `from` or later if it is `None`.
+/// Returns the first position at `from` or later that is not in the leading loop. Each match opens
+/// `opens` groups and then begins with a char loop, and no match begins at `tried`, so none begins
+/// at the loop's positions.
+///
+/// Contract: `opens`, `no_match` and `executable` are these assumptions, for a program that can
+/// search the text. `tried`, `at` and `ahead` say that both positions are boundaries, in this order.
+#[inline(always)]
+pub(crate) fn end_of_leading_loop<W: SearchContext>(
+    context: &W,
+    opens: usize,
+    tried: PositionOf<W>,
+    from: PositionOf<W>,
+) -> PositionOf<W>
+    requires opens { OnlyOpensGroups (W.searching context.now).plan opens }
+    requires tried { IsBoundary (W.searching context.now).text (W.Input.Position.offset tried) }
+    requires at { IsBoundary (W.searching context.now).text (W.Input.Position.offset from) }
+    requires ahead { W.Input.Position.offset tried ≤ W.Input.Position.offset from }
+    requires executable { let w = W.searching context.now in TreeProgramCanSearchText (program_of w) w.tree w.text }
+    requires no_match { let w = W.searching context.now in
+        NoMatchAt w.tree w.text (W.Input.Position.offset tried) }
+    ensures { let w = W.searching context.now in let at = W.Input.Position.offset in
+        NextStartSkipsNoMatch w.tree w.text (at from) (Some (at result)) }
+{
+    let past = skip_leading_char_loop(context, opens, offset_in_searched_text(context, tried));
+    if past <= offset_in_searched_text(context, from) {
+        return from;
+    }
+    position_in_searched_text(context, past)
+}
+
+// Returns the first candidate start at `from` or later that is not in the leading loop. `from` is a
+// candidate start. The contract is that of `end_of_leading_loop`, except that the result is `None`
+// if no match begins at `from` or later.
 #[inline(never)]
 fn next_start_past_loop<W: SearchContext>(
     context: &W,
@@ -223,21 +259,21 @@ fn next_start_past_loop<W: SearchContext>(
     ensures { let w = W.searching context.now in let at = W.Input.Position.offset in
         NextStartSkipsNoMatch w.tree w.text (at from) (option_map at result) }
 {
-    context.lemma_plan_fits_program();
-    let past = skip_leading_char_loop(context, opens, offset_in_searched_text(context, tried));
-    let start = offset_in_searched_text(context, from);
-    if past <= start {
+    let past = end_of_leading_loop(context, opens, tried, from);
+    if offset_in_searched_text(context, past) == offset_in_searched_text(context, from) {
         return Some(from);
     }
-    next_candidate_start(context, position_in_searched_text(context, past))
+    next_candidate_start(context, past)
+}
+
+impl<'r, Input: InputIndexer> SearchState for BacktrackExecutor<'r, Input> {
+    ghost tree = { λ e. tree_of e.search.program.regex };
+
+    ghost text = { λ e. Input.text e.search.searched.input };
 }
 
 impl<'r, Input: InputIndexer> SingleAttemptExecutor for BacktrackExecutor<'r, Input> {
     type Input = Input;
-
-    ghost tree = { λ e. tree_of e.search.program.regex };
-
-    ghost text = { λ e. Input.text e.search.searched.input };
 
     ghost groups = { λ e. (current_thread_state_of e.memory 0 0).groups };
 
@@ -328,7 +364,7 @@ impl<'r, 't> BacktrackExecutor<'r, Utf16Input<'t>> {
         re: &'r CompiledRegexFor16BitUnits,
         text: &'t [u16],
     ) -> Result<Self, AllocError>
-        ensures { let producer = ⟦<BacktrackExecutor<'r, Utf16Input<'t>> as MatchProducer>⟧ in
+        ensures { let producer = ⟦<BacktrackExecutor<'r, Utf16Input<'t>> as SearchState>⟧ in
             IfOk result (IsNewExecutor producer (tree_of re.now) (utf16_text text.now)) }
     {
         let program = ProgramAndPlan::new_16_bit_program_and_plan(re);
@@ -344,7 +380,7 @@ impl<'r, 't> BacktrackExecutor<'r, Ucs2Input<'t>> {
     ///
     /// Never returns `Err` at present, because it allocates no memory.
     pub fn new_ucs2(re: &'r CompiledRegexFor16BitUnits, text: &'t [u16]) -> Result<Self, AllocError>
-        ensures { let producer = ⟦<BacktrackExecutor<'r, Ucs2Input<'t>> as MatchProducer>⟧ in
+        ensures { let producer = ⟦<BacktrackExecutor<'r, Ucs2Input<'t>> as SearchState>⟧ in
             IfOk result (IsNewExecutor producer (tree_of re.now) (ucs2_text text.now)) }
     {
         let program = ProgramAndPlan::new_16_bit_program_and_plan(re);
@@ -381,35 +417,16 @@ impl<'r, 't> ProducerFromProgramAndText<'r> for BacktrackExecutor<'r, AsciiInput
 
 impl<'r, 't> Executor<'r, 't> for BacktrackExecutor<'r, Utf8Input<'t>> {
     type AsAscii = BacktrackExecutor<'r, AsciiInput<'t>>;
+
+    ghost takes_ascii = { λ _ is_ascii. is_ascii };
+
+    ghost reads_ascii = { refl };
 }
 
 impl<'r, 't> Executor<'r, 't> for BacktrackExecutor<'r, AsciiInput<'t>> {
     type AsAscii = Self;
+
+    ghost takes_ascii = { λ _ is_ascii. is_ascii };
+
+    ghost reads_ascii = { refl };
 }
-
-// The executors for UTF-8 and for ASCII texts, and their `AsAscii` types.
-type OverUtf8 = BacktrackExecutor<'static, Utf8Input<'static>>;
-
-type OverAscii = BacktrackExecutor<'static, AsciiInput<'static>>;
-
-type AsciiExecutorForUtf8Backtracker = <OverUtf8 as Executor<'static, 'static>>::AsAscii;
-
-type AsciiExecutorForAsciiBacktracker = <OverAscii as Executor<'static, 'static>>::AsAscii;
-
-/// A law: the `AsAscii` type of the executor for UTF-8 accepts each ASCII text, and reads each byte
-/// as a character.
-pub fn ascii_is_read_in_bytes()
-    ensures takes { CanSearchAllAsciiTexts
-        ⟦<AsciiExecutorForUtf8Backtracker as ProducerFromProgramAndText<'static>>⟧.can_search }
-    ensures reads { ReadsBytesAsAscii
-        ⟦<AsciiExecutorForUtf8Backtracker as ProducerFromProgramAndText<'static>>⟧.text_of }
-{}
-
-/// A law: the `AsAscii` type of the executor for ASCII accepts each ASCII text, and reads each byte
-/// as a character.
-pub fn ascii_stays_in_bytes()
-    ensures takes { CanSearchAllAsciiTexts
-        ⟦<AsciiExecutorForAsciiBacktracker as ProducerFromProgramAndText<'static>>⟧.can_search }
-    ensures reads { ReadsBytesAsAscii
-        ⟦<AsciiExecutorForAsciiBacktracker as ProducerFromProgramAndText<'static>>⟧.text_of }
-{}

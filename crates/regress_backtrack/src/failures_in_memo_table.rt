@@ -50,7 +50,6 @@ fn is_loop_body<W: SearchContext>(context: &W, ip: usize) -> bool
     if ip == 0 {
         return false;
     }
-    context.lemma_plan_fits_program();
     match context.op_at(ip - 1) {
         Some(op) => op.as_char_loop().is_some(),
         None => false,

@@ -130,7 +130,6 @@ fn make_leap_after_first_attempt<W: SearchContext>(
     ensures sound { let w = W.searching context.now in NoMatchBeforeRememberedLeap w.tree w.text memory.old
         → NoMatchBeforeRememberedLeap w.tree w.text memory.new }
 {
-    context.lemma_plan_fits_program();
     let Some(leap) = &context.plan().leap else {
         return false;
     };

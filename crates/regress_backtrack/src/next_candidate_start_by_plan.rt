@@ -21,7 +21,6 @@ pub(crate) fn first_candidate_start_from<W: SearchContext>(
     ensures first { IsFirstCandidate (W.searching context.now) from result }
     ensures next { let w = W.searching context.now in NextStartSkipsNoMatch w.tree w.text from result }
 {
-    context.lemma_plan_fits_program();
     first_candidate(context, from)
 }
 
@@ -32,6 +31,5 @@ pub(crate) fn is_candidate_start<W: SearchContext>(context: &W, at: usize) -> bo
     requires executable { let w = W.searching context.now in TreeProgramCanSearchText (program_of w) w.tree w.text }
     ensures { let w = W.searching context.now in result ≡ false → NoMatchAt w.tree w.text at }
 {
-    context.lemma_plan_fits_program();
     is_candidate(context, at)
 }

@@ -229,6 +229,7 @@ fn grow_log_if_full(log: &mut Vec<UndoEntry>, used: usize) -> Result<(), AllocEr
     extend_with_copies(log, UNDO_ENTRY_PLACEHOLDER)
 }
 
+// Returns the smaller of two numbers. Proofs need only that it is at most the first.
 #[inline(always)]
 fn smaller_of(number: usize, most: usize) -> usize
     ensures { result ≤ number }

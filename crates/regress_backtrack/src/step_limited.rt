@@ -14,7 +14,7 @@ use crate::failure_memo::{NoMemo, StepsAndMemo};
 use crate::step_and_work_budgets::LimitedStepCounter;
 use regress_input::indexing::{InputIndexer, Utf8Input};
 use regress_program::insn::{CompiledRegex, Program, StartPredicate};
-use regress_search::exec::{MatchProducer, ProducerFromProgramAndText, SearchError};
+use regress_search::exec::{ProducerFromProgramAndText, SearchError, SearchState};
 use regress_search::search_loop::SingleAttemptExecutor;
 use std::alloc::AllocError;
 
@@ -38,11 +38,11 @@ impl<'r, 't> LimitedExecutor<'r, 't> {
     ///
     /// Returns `Err` if an allocation fails.
     pub fn new(re: &'r CompiledRegex, text: &'t str, steps: u64) -> Result<Self, AllocError>
-        ensures tree { IfOk result (λ e. ⟦<LimitedExecutor<'r, 't> as MatchProducer>⟧.tree e
+        ensures tree { IfOk result (λ e. ⟦<LimitedExecutor<'r, 't> as SearchState>⟧.tree e
             ≡ tree_of re.now) }
-        ensures text { IfOk result (λ e. ⟦<LimitedExecutor<'r, 't> as MatchProducer>⟧.text e
+        ensures text { IfOk result (λ e. ⟦<LimitedExecutor<'r, 't> as SearchState>⟧.text e
             ≡ utf8_text text.now (tree_of re.now).flags.unicode) }
-        ensures budget { IfOk result (λ e. ⟦<LimitedExecutor<'r, 't> as MatchProducer>⟧.budget e
+        ensures budget { IfOk result (λ e. ⟦<LimitedExecutor<'r, 't> as SearchState>⟧.budget e
             ≡ Some steps) }
     {
         let executor = BacktrackExecutor::<Utf8Input>::new(re, text)?;
@@ -58,15 +58,13 @@ impl<'r, 't> LimitedExecutor<'r, 't> {
 
     /// Returns the number of steps that are left.
     pub fn steps_left(&self) -> u64
-        ensures { ⟦<LimitedExecutor<'r, 't> as MatchProducer>⟧.budget self.now ≡ Some result }
+        ensures { ⟦<LimitedExecutor<'r, 't> as SearchState>⟧.budget self.now ≡ Some result }
     {
         self.steps.left
     }
 }
 
-impl<'r, 't> SingleAttemptExecutor for LimitedExecutor<'r, 't> {
-    type Input = Utf8Input<'t>;
-
+impl<'r, 't> SearchState for LimitedExecutor<'r, 't> {
     ghost tree = { λ e. tree_of e.executor.search.program.regex };
 
     ghost text = { λ e. ⟦<Utf8Input<'t> as InputIndexer>⟧.text e.executor.search.searched.input };
@@ -74,6 +72,10 @@ impl<'r, 't> SingleAttemptExecutor for LimitedExecutor<'r, 't> {
     ghost budget = { λ e. Some e.steps.left };
 
     ghost out_of_steps = { λ e. e.steps.out };
+}
+
+impl<'r, 't> SingleAttemptExecutor for LimitedExecutor<'r, 't> {
+    type Input = Utf8Input<'t>;
 
     ghost has_begun = { λ e. HasSlotPerGroupAndLoop (tree_of e.executor.search.program.regex) e.executor.memory };
 

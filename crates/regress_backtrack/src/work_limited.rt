@@ -1,25 +1,28 @@
 //! The executor with a limited amount of work.
 
-ghost use Rattle.std.specs.Prelude.{◌≡◌, ◌≤◌, IfOk, true, false, refl, option_map};
+ghost use Rattle.std.specs.Prelude.{◌≡◌, ◌≤◌, IfOk, IfSome, true, false, refl, option_map};
 ghost use Rattle.std.proofs.Props.{props};
 ghost use Rattle.regex_meaning.specs.Text.{utf8_text};
 ghost use Rattle.regex_meaning.proofs.CodeUnitOffsetsLemmas.{utf8_text-IsText};
-ghost use Rattle.regex_meaning.specs.CodeUnitOffsets.{IsBoundary};
-ghost use Rattle.regex_meaning.specs.CodeUnits.{utf8};
+ghost use Rattle.regex_meaning.specs.CodeUnitOffsets.{IsBoundary, units};
 ghost use Rattle.regex_pattern_front.specs.AstToSpecTree.{tree_of};
 ghost use Rattle.regress_machine.specs.SearchFindsFirstOutcomeAtPlace.{TreeProgramCanSearchText};
-ghost use Rattle.regress_search.specs.{AttemptsAndStarts.{NextStartSkipsNoMatch}, CostsOfSearches.{units_skipped}, TreePlanAndText.{program_of}};
-ghost use Rattle.regress_backtrack.specs.{State.{current_thread_state_of}, WorkOfAttempts.{AttemptCostsWork, AttemptsCostAtMostTheirSteps}};
+ghost use Rattle.regress_program.specs.LeadingCharLoops.{OnlyOpensGroups};
+ghost use Rattle.regress_search.specs.{AttemptsAndStarts.{NextStartSkipsNoMatch, NoMatchAt}, CostsOfSearches.{units_skipped}, TreePlanAndText.{program_of}};
+ghost use Rattle.regress_backtrack.specs.{State.{current_thread_state_of}, WorkOfAttempts.{AttemptsCostAtMostTheirSteps, work_costs}};
 
 use crate::attempts::attempt;
-use crate::classicalbacktrack::BacktrackExecutor;
+use crate::classicalbacktrack::{
+    BacktrackExecutor, end_of_leading_loop, may_rescan_loop, next_candidate_start,
+};
 use crate::failure_memo::{NoMemo, StepsAndMemo};
-use crate::next_candidate_start_by_plan::first_candidate_start_from;
-use crate::step_and_work_budgets::WorkBudget;
+use crate::next_candidate_start_by_plan::is_candidate_start;
+use crate::step_and_work_budgets::{StepCounter, WorkBudget};
 use regress_input::indexing::{InputIndexer, Utf8Input};
 use regress_program::insn::{CompiledRegex, Program};
+use regress_program::leading_char_loop::LeadingCharLoop;
 use regress_search::exec::{
-    MatchProducer, ProducerFromProgramAndText, SearchError, WorkLimitedProducer,
+    ProducerFromProgramAndText, SearchError, SearchState, WorkLimitedProducer,
 };
 use regress_search::search_context::{
     PositionOf, SearchContext, offset_in_searched_text, position_in_searched_text, text_end,
@@ -31,9 +34,9 @@ use std::alloc::AllocError;
 /// all matches together. It records no failures.
 ///
 /// Each attempt takes exactly what it costs (`AttemptCostsWork`) from the work that is left, before
-/// that work is done. A prefilter takes one unit for each code unit that it skips. It is used only
-/// while the work left is at least the number of code units to the end of the text, so it never
-/// reads more than is left.
+/// that work is done. Between attempts, a prefilter skips to the next candidate start. After a
+/// failed attempt, the leading loop is skipped too. A skip takes one unit for each code unit that
+/// is skipped. What a search costs does not depend on the work that is left.
 #[derive(Drop)]
 pub struct WorkLimitedExecutor<'r, 't> {
     executor: BacktrackExecutor<'r, Utf8Input<'t>>,
@@ -51,11 +54,11 @@ impl<'r, 't> WorkLimitedExecutor<'r, 't> {
     ///
     /// Returns `Err` if an allocation fails.
     pub fn new(re: &'r CompiledRegex, text: &'t str, work: u64) -> Result<Self, AllocError>
-        ensures tree { IfOk result (λ e. ⟦<WorkLimitedExecutor<'r, 't> as MatchProducer>⟧.tree e
+        ensures tree { IfOk result (λ e. ⟦<WorkLimitedExecutor<'r, 't> as SearchState>⟧.tree e
             ≡ tree_of re.now) }
-        ensures text { IfOk result (λ e. ⟦<WorkLimitedExecutor<'r, 't> as MatchProducer>⟧.text e
+        ensures text { IfOk result (λ e. ⟦<WorkLimitedExecutor<'r, 't> as SearchState>⟧.text e
             ≡ utf8_text text.now (tree_of re.now).flags.unicode) }
-        ensures left { IfOk result (λ e. ⟦<WorkLimitedExecutor<'r, 't> as MatchProducer>⟧.left e ≡ work) }
+        ensures left { IfOk result (λ e. ⟦<WorkLimitedExecutor<'r, 't> as SearchState>⟧.left e ≡ work) }
     {
         let executor = BacktrackExecutor::<Utf8Input>::new(re, text)?;
         Ok(WorkLimitedExecutor {
@@ -68,17 +71,10 @@ impl<'r, 't> WorkLimitedExecutor<'r, 't> {
     }
 }
 
-impl<'r, 't> SingleAttemptExecutor for WorkLimitedExecutor<'r, 't> {
-    type Input = Utf8Input<'t>;
-
+impl<'r, 't> SearchState for WorkLimitedExecutor<'r, 't> {
     ghost tree = { λ e. tree_of e.executor.search.program.regex };
 
     ghost text = { λ e. ⟦<Utf8Input<'t> as InputIndexer>⟧.text e.executor.search.searched.input };
-
-    ghost groups = { λ e. (current_thread_state_of e.executor.memory 0 0).groups };
-
-    ghost is_text = { λ e. utf8_text-IsText e.executor.search.searched.input.input.now
-        e.executor.search.searched.input.unicode };
 
     ghost enough = { λ _. false };
 
@@ -88,7 +84,16 @@ impl<'r, 't> SingleAttemptExecutor for WorkLimitedExecutor<'r, 't> {
 
     ghost counts_work = { true };
 
-    ghost costs = { record { of_attempt = AttemptCostsWork utf8; may_skip = true } };
+    ghost costs = { work_costs };
+}
+
+impl<'r, 't> SingleAttemptExecutor for WorkLimitedExecutor<'r, 't> {
+    type Input = Utf8Input<'t>;
+
+    ghost groups = { λ e. (current_thread_state_of e.executor.memory 0 0).groups };
+
+    ghost is_text = { λ e. utf8_text-IsText e.executor.search.searched.input.input.now
+        e.executor.search.searched.input.unicode };
 
     fn program(&self) -> &Program {
         self.executor.program()
@@ -147,46 +152,212 @@ impl<'r, 't> SingleAttemptExecutor for WorkLimitedExecutor<'r, 't> {
         self.executor.search.searched.position_after_failure(tried)
     }
 
+    // `SearchError` has no variant for the work limit. `is_work_exhausted` tells whether it was
+    // reached.
     fn skip_to_candidate(
         &mut self,
         from: <Utf8Input<'t> as InputIndexer>::Position,
-    ) -> Option<<Utf8Input<'t> as InputIndexer>::Position> {
+    ) -> Result<Option<<Utf8Input<'t> as InputIndexer>::Position>, SearchError> {
         if self.executor.search.searched.is_anchored() {
-            return Some(from);
+            return Ok(Some(from));
         }
-        let (next, skipped) = candidate_within_work(&self.executor.search, from, self.work.left);
-        self.work.left -= skipped;
-        next
+        let (next, skipped) = skip_by_prefilter(&self.executor.search, from, self.work.left);
+        if self.work.pay(skipped).is_err() {
+            return Err(SearchError::Memory);
+        }
+        Ok(next)
+    }
+
+    fn skip_after_failure(
+        &mut self,
+        tried: <Utf8Input<'t> as InputIndexer>::Position,
+        next: <Utf8Input<'t> as InputIndexer>::Position,
+    ) -> Result<Option<<Utf8Input<'t> as InputIndexer>::Position>, SearchError> {
+        let leading_loop = self.executor.leading_loop;
+        let work = self.work.left;
+        let (start, skipped) = skip_past_loop(
+            &self.executor.search,
+            leading_loop,
+            tried,
+            next,
+            work,
+        );
+        if self.work.pay(skipped).is_err() {
+            return Err(SearchError::Memory);
+        }
+        Ok(start)
     }
 }
 
-// Returns the next candidate start, and the number of code units that it skips. Skips nothing if
-// `work` is less than the number of code units to the end of the text.
-fn candidate_within_work<W: SearchContext>(
+// Returns the next candidate start at `from` or later, and the number of code units that it skips.
+// If this skip costs more than `work`, the result may be an earlier start that costs more too.
+#[inline(always)]
+fn skip_by_prefilter<W: SearchContext>(
     context: &W,
     from: PositionOf<W>,
     work: u64,
-) -> (Option<PositionOf<W>>, u64)
+) -> (Option<PositionOf<W>>, usize)
     requires at { IsBoundary (W.searching context.now).text (W.Input.Position.offset from) }
     requires executable { let w = W.searching context.now in TreeProgramCanSearchText (program_of w) w.tree w.text }
     ensures next { let w = W.searching context.now in let at = W.Input.Position.offset in
         NextStartSkipsNoMatch w.tree w.text (at from) (option_map at result.0) }
     ensures skipped { let at = W.Input.Position.offset in
         result.1 ≡ units_skipped (W.searching context.now).text (at from) (option_map at result.0) }
-    ensures within { result.1 ≤ work }
 {
     let at = offset_in_searched_text(context, from);
-    let rest = (text_end(context) - at) as u64;
-    if work < rest {
-        return (Some(from), 0);
+    let limit = last_affordable_offset(context, at, work);
+    let next = next_candidate_start_within(context, from, limit);
+    (next, units_to_start(context, at, next))
+}
+
+// Returns the next candidate start that is not in the leading loop, with which each match begins,
+// and the number of code units that it skips. No match begins at `tried`. If this skip costs more
+// than `work`, the result may be an earlier start that costs more too.
+#[inline(always)]
+fn skip_past_loop<W: SearchContext>(
+    context: &W,
+    leading_loop: LeadingCharLoop,
+    tried: PositionOf<W>,
+    next: PositionOf<W>,
+    work: u64,
+) -> (Option<PositionOf<W>>, usize)
+    requires opens { OnlyOpensGroups (W.searching context.now).plan leading_loop.opens }
+    requires tried { IsBoundary (W.searching context.now).text (W.Input.Position.offset tried) }
+    requires at { IsBoundary (W.searching context.now).text (W.Input.Position.offset next) }
+    requires ahead { W.Input.Position.offset tried ≤ W.Input.Position.offset next }
+    requires executable { let w = W.searching context.now in TreeProgramCanSearchText (program_of w) w.tree w.text }
+    requires no_match { let w = W.searching context.now in
+        NoMatchAt w.tree w.text (W.Input.Position.offset tried) }
+    ensures next { let w = W.searching context.now in let at = W.Input.Position.offset in
+        NextStartSkipsNoMatch w.tree w.text (at next) (option_map at result.0) }
+    ensures skipped { let at = W.Input.Position.offset in
+        result.1 ≡ units_skipped (W.searching context.now).text (at next) (option_map at result.0) }
+{
+    let at = offset_in_searched_text(context, next);
+    let limit = last_affordable_offset(context, at, work);
+    let start = candidate_past_loop(context, leading_loop, tried, next, limit);
+    (start, units_to_start(context, at, start))
+}
+
+// Returns the last offset to which a skip from offset `at` costs at most `work`.
+#[inline(always)]
+fn last_affordable_offset<W: SearchContext>(context: &W, at: usize, work: u64) -> usize
+    requires { at ≤ units (W.searching context.now).text }
+{
+    let end = text_end(context);
+    if work < (end - at) as u64 {
+        at + work as usize
+    } else {
+        end
     }
-    match first_candidate_start_from(context, at) {
-        Some(next) => {
-            let start = position_in_searched_text(context, next);
-            (Some(start), (next - at) as u64)
+}
+
+// Returns the number of code units from offset `at` to the next start, or to the end of the text.
+#[inline(always)]
+fn units_to_start<W: SearchContext>(context: &W, at: usize, next: Option<PositionOf<W>>) -> usize
+    requires end { at ≤ units (W.searching context.now).text }
+    requires ahead { IfSome next (λ p. at ≤ W.Input.Position.offset p) }
+    ensures { let offset = W.Input.Position.offset in
+        result ≡ units_skipped (W.searching context.now).text at (option_map offset next) }
+{
+    match next {
+        Some(start) => offset_in_searched_text(context, start) - at,
+        None => text_end(context) - at,
+    }
+}
+
+// Returns the first candidate start at `from` or later. If it is past `limit`, the result may be an
+// earlier start past `limit`.
+#[inline(always)]
+fn next_candidate_start_within<W: SearchContext>(
+    context: &W,
+    from: PositionOf<W>,
+    limit: usize,
+) -> Option<PositionOf<W>>
+    requires at { IsBoundary (W.searching context.now).text (W.Input.Position.offset from) }
+    requires executable { let w = W.searching context.now in TreeProgramCanSearchText (program_of w) w.tree w.text }
+    ensures { let w = W.searching context.now in let at = W.Input.Position.offset in
+        NextStartSkipsNoMatch w.tree w.text (at from) (option_map at result) }
+{
+    if limit == text_end(context) {
+        next_candidate_start(context, from)
+    } else {
+        next_start_by_single_tests(context, from, limit)
+    }
+}
+
+// Does what `next_candidate_start_within` does, and reads no code unit past the character at
+// `limit`.
+#[inline(never)]
+fn next_start_by_single_tests<W: SearchContext>(
+    context: &W,
+    from: PositionOf<W>,
+    limit: usize,
+) -> Option<PositionOf<W>>
+    requires at { IsBoundary (W.searching context.now).text (W.Input.Position.offset from) }
+    requires executable { let w = W.searching context.now in TreeProgramCanSearchText (program_of w) w.tree w.text }
+    ensures { let w = W.searching context.now in let at = W.Input.Position.offset in
+        NextStartSkipsNoMatch w.tree w.text (at from) (option_map at result) }
+{
+    let mut start = from;
+    'starts: while offset_in_searched_text(context, start) <= limit {
+        if is_candidate_start(context, offset_in_searched_text(context, start)) {
+            return Some(start);
         }
-        None => (None, rest),
+        start = context.input().next_right_pos(start)?;
     }
+    Some(start)
+}
+
+// Returns the first candidate start at `next` or later that is not in the leading loop. No match
+// begins at `tried`. If it is past `limit`, the result may be an earlier start past `limit`.
+#[inline(always)]
+fn candidate_past_loop<W: SearchContext>(
+    context: &W,
+    leading_loop: LeadingCharLoop,
+    tried: PositionOf<W>,
+    next: PositionOf<W>,
+    limit: usize,
+) -> Option<PositionOf<W>>
+    requires opens { OnlyOpensGroups (W.searching context.now).plan leading_loop.opens }
+    requires tried { IsBoundary (W.searching context.now).text (W.Input.Position.offset tried) }
+    requires at { IsBoundary (W.searching context.now).text (W.Input.Position.offset next) }
+    requires ahead { W.Input.Position.offset tried ≤ W.Input.Position.offset next }
+    requires executable { let w = W.searching context.now in TreeProgramCanSearchText (program_of w) w.tree w.text }
+    requires no_match { let w = W.searching context.now in
+        NoMatchAt w.tree w.text (W.Input.Position.offset tried) }
+    ensures { let w = W.searching context.now in let at = W.Input.Position.offset in
+        NextStartSkipsNoMatch w.tree w.text (at next) (option_map at result) }
+{
+    let to = next_candidate_start_within(context, next, limit)?;
+    let from = offset_in_searched_text(context, tried);
+    if !may_rescan_loop(leading_loop, from, offset_in_searched_text(context, to)) {
+        return Some(to);
+    }
+    next_start_past_loop_within(context, leading_loop.opens, tried, to, limit)
+}
+
+// Does what `candidate_past_loop` does, if `from` is a candidate start that may be in the loop.
+#[inline(always)]
+fn next_start_past_loop_within<W: SearchContext>(
+    context: &W,
+    opens: usize,
+    tried: PositionOf<W>,
+    from: PositionOf<W>,
+    limit: usize,
+) -> Option<PositionOf<W>>
+    requires opens { OnlyOpensGroups (W.searching context.now).plan opens }
+    requires tried { IsBoundary (W.searching context.now).text (W.Input.Position.offset tried) }
+    requires at { IsBoundary (W.searching context.now).text (W.Input.Position.offset from) }
+    requires ahead { W.Input.Position.offset tried ≤ W.Input.Position.offset from }
+    requires executable { let w = W.searching context.now in TreeProgramCanSearchText (program_of w) w.tree w.text }
+    requires no_match { let w = W.searching context.now in
+        NoMatchAt w.tree w.text (W.Input.Position.offset tried) }
+    ensures { let w = W.searching context.now in let at = W.Input.Position.offset in
+        NextStartSkipsNoMatch w.tree w.text (at from) (option_map at result) }
+{
+    let past = end_of_leading_loop(context, opens, tried, from);
+    next_candidate_start_within(context, past, limit)
 }
 
 impl<'r, 't> WorkLimitedProducer for WorkLimitedExecutor<'r, 't> {

@@ -16,7 +16,7 @@ use Rattle.regress_program.specs.CompilationOfTreesAsFunction.{compiled}
 use Rattle.regex_meaning.specs.CodeUnitOffsets.{offset_within}
 use Rattle.regress_search.specs.CostsOfSearches.{Failures}
 use Rattle.regress_search.specs.CostsOfCalls.{WorkMatchesView}
-use Rattle.regress_search.specs.declared.exec.MatchProducer.{Ghosts}
+use Rattle.regress_search.specs.declared.exec.search_state.SearchState.{Ghosts}
 use Rattle.regress_bounded.specs.CostsOfSearchEvents.{Costs}
 
 -- The failures known to a memo table.
@@ -67,7 +67,7 @@ pub record BeginsSearchesForTreeInText (tree : Tree) (text : Text) (start : ℕ)
   pub position : its_position ≡ offset_within text start
 
 -- `BeginsSearchesForTreeInText` for an iterator, stated by the ghost state of its producer.
-abbrev pub IteratorBeginsSearches : {E Q : Type 0} (e : Ghosts E Q) (tree : Tree) (text : Text) (start : ℕ)
+abbrev pub IteratorBeginsSearches : {E : Type 0} (e : Ghosts E) (tree : Tree) (text : Text) (start : ℕ)
     → WorkMatchesView E → Type 0
 IteratorBeginsSearches e tree text start it =
     BeginsSearchesForTreeInText tree text start (e.tree it.producer) (e.text it.producer) (e.failures it.producer)

@@ -11,7 +11,7 @@ use Rattle.regress_memo.specs.SkippedLookarounds.{lookaround_at}
 use Rattle.regress_program.specs.CompilationOfTreesAsFunction.{compiled}
 use Rattle.regress_search.specs.MatchesWithinWork.{RemainingAnswersAndWork}
 use Rattle.regress_search.specs.CostsOfSearches.{Failures}
-use Rattle.regress_search.specs.declared.exec.MatchProducer.{Ghosts}
+use Rattle.regress_search.specs.declared.exec.search_state.SearchState.{Ghosts}
 use Rattle.regress_memo.specs.declared.analysis_result.MemoAnalysis.{MemoAnalysis}
 use Rattle.regress_memo.specs.WorkBound.{IsWorkBounded, work_per_position}
 use Rattle.regress_memo.specs.AnalysisChecks.{unlimited}
@@ -75,7 +75,7 @@ pub record ExecutorIsAtStart (tree : Tree) (text : Text) (per_unit work : ℕ)
 
 -- `ExecutorIsAtStart` for an executor with the bound of a tree's program, stated by its ghost
 -- state. The flag `unicode` of the tree selects the text.
-abbrev pub HasMadeNoAttempt : {E Q : Type 0} (e : Ghosts E Q) (tree : Tree) (text_of : Bool → Text) (bound : WorkBound)
+abbrev pub HasMadeNoAttempt : {E : Type 0} (e : Ghosts E) (tree : Tree) (text_of : Bool → Text) (bound : WorkBound)
     (work : ℕ) → E → Type 0
 HasMadeNoAttempt e tree text_of bound work x =
     ExecutorIsAtStart tree (text_of tree.flags.unicode) bound.per_unit work

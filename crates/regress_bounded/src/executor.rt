@@ -25,7 +25,7 @@ use regress_input::indexing::{AsciiInput, InputIndexer, Ucs2Input, Utf8Input, Ut
 use regress_input::position::PositionType;
 use regress_pikevm::pikevm::states::{State, initial_state};
 use regress_program::insn::{CompiledRegex, CompiledRegexFor16BitUnits, Program};
-use regress_search::exec::{MatchProducer, SearchError, WorkLimitedProducer, WorkMatches};
+use regress_search::exec::{SearchError, SearchState, WorkLimitedProducer, WorkMatches};
 use regress_search::program_and_input::ProgramAndInput;
 use regress_search::search_loop::{SingleAttemptExecutor, position_range_of_group};
 
@@ -127,16 +127,10 @@ fn preferred_final_state<Input: InputIndexer>(
     Ok(end)
 }
 
-impl<'r, Input: InputIndexer> SingleAttemptExecutor for BoundedExecutor<'r, Input> {
-    type Input = Input;
-
+impl<'r, Input: InputIndexer> SearchState for BoundedExecutor<'r, Input> {
     ghost tree = { λ e. tree_of e.searched.program.now };
 
     ghost text = { λ e. Input.text e.searched.input };
-
-    ghost is_text = { λ e. Input.is_text e.searched.input };
-
-    ghost groups = { λ e. groups_as_offset_ranges Input.Position.offset e.groups.items };
 
     ghost enough = { λ e. e.enough };
 
@@ -151,6 +145,14 @@ impl<'r, Input: InputIndexer> SingleAttemptExecutor for BoundedExecutor<'r, Inpu
     ghost failures = { λ e. failures_of e.progress.memo };
 
     ghost costs = { record { of_attempt = AttemptCosts; may_skip = false } };
+}
+
+impl<'r, Input: InputIndexer> SingleAttemptExecutor for BoundedExecutor<'r, Input> {
+    type Input = Input;
+
+    ghost groups = { λ e. groups_as_offset_ranges Input.Position.offset e.groups.items };
+
+    ghost is_text = { λ e. Input.is_text e.searched.input };
 
     fn program(&self) -> &Program {
         self.searched.program
@@ -291,7 +293,7 @@ impl<'r, 't> BoundedExecutor<'r, Ucs2Input<'t>> {
         requires start { IsBoundaryOrPastEnd (ucs2_text text.now (tree_of re.now).flags.unicode) start }
         ensures yields { IfOk result (λ it. YieldsMatchesIfWorkSuffices (tree_of re.now)
             (ucs2_text text.now (tree_of re.now).flags.unicode) start bound.now.per_unit work (without_costs it)) }
-        ensures begins { let e = ⟦<BoundedExecutor<'r, Ucs2Input<'t>> as MatchProducer>⟧ in
+        ensures begins { let e = ⟦<BoundedExecutor<'r, Ucs2Input<'t>> as SearchState>⟧ in
             IfOk result (IteratorBeginsSearches e (tree_of re.now)
             (ucs2_text text.now (tree_of re.now).flags.unicode) start) }
         ensures ended { IfOk result (λ it. it.remaining.ended
@@ -310,7 +312,7 @@ impl<'r, 't> BoundedExecutor<'r, Ucs2Input<'t>> {
         work: u64,
     ) -> Result<Self, SearchError>
         requires bound { TreeHasWorkBound (tree_of re.now) bound.now }
-        ensures start { let e = ⟦<BoundedExecutor<'r, Ucs2Input<'t>> as MatchProducer>⟧ in
+        ensures start { let e = ⟦<BoundedExecutor<'r, Ucs2Input<'t>> as SearchState>⟧ in
             IfOk result (HasMadeNoAttempt e (tree_of re.now) (ucs2_text text.now) bound.now work) }
         ensures refused { IfErr result (λ e. e ≡ Memory) }
     {
@@ -342,7 +344,7 @@ impl<'r, 't> BoundedExecutor<'r, Utf8Input<'t>> {
         requires start { IsBoundaryOrPastEnd (utf8_text text.now (tree_of re.now).flags.unicode) start }
         ensures yields { IfOk result (λ it. YieldsMatchesIfWorkSuffices (tree_of re.now)
             (utf8_text text.now (tree_of re.now).flags.unicode) start bound.now.per_unit work (without_costs it)) }
-        ensures begins { let e = ⟦<BoundedExecutor<'r, Utf8Input<'t>> as MatchProducer>⟧ in
+        ensures begins { let e = ⟦<BoundedExecutor<'r, Utf8Input<'t>> as SearchState>⟧ in
             IfOk result (IteratorBeginsSearches e (tree_of re.now)
             (utf8_text text.now (tree_of re.now).flags.unicode) start) }
         ensures ended { IfOk result (λ it. it.remaining.ended
@@ -361,7 +363,7 @@ impl<'r, 't> BoundedExecutor<'r, Utf8Input<'t>> {
         work: u64,
     ) -> Result<Self, SearchError>
         requires bound { TreeHasWorkBound (tree_of re.now) bound.now }
-        ensures start { let e = ⟦<BoundedExecutor<'r, Utf8Input<'t>> as MatchProducer>⟧ in
+        ensures start { let e = ⟦<BoundedExecutor<'r, Utf8Input<'t>> as SearchState>⟧ in
             IfOk result (HasMadeNoAttempt e (tree_of re.now) (utf8_text text.now) bound.now work) }
         ensures refused { IfErr result (λ e. e ≡ Memory) }
     {
@@ -394,7 +396,7 @@ impl<'r, 't> BoundedExecutor<'r, AsciiInput<'t>> {
         requires start { IsBoundaryOrPastEnd (ascii_text text.now (tree_of re.now).flags.unicode) start }
         ensures yields { IfOk result (λ it. YieldsMatchesIfWorkSuffices (tree_of re.now)
             (ascii_text text.now (tree_of re.now).flags.unicode) start bound.now.per_unit work (without_costs it)) }
-        ensures begins { let e = ⟦<BoundedExecutor<'r, AsciiInput<'t>> as MatchProducer>⟧ in
+        ensures begins { let e = ⟦<BoundedExecutor<'r, AsciiInput<'t>> as SearchState>⟧ in
             IfOk result (IteratorBeginsSearches e (tree_of re.now)
             (ascii_text text.now (tree_of re.now).flags.unicode) start) }
         ensures ended { IfOk result (λ it. it.remaining.ended
@@ -414,7 +416,7 @@ impl<'r, 't> BoundedExecutor<'r, AsciiInput<'t>> {
     ) -> Result<Self, SearchError>
         requires bound { TreeHasWorkBound (tree_of re.now) bound.now }
         requires ascii { IsAscii text.now }
-        ensures start { let e = ⟦<BoundedExecutor<'r, AsciiInput<'t>> as MatchProducer>⟧ in
+        ensures start { let e = ⟦<BoundedExecutor<'r, AsciiInput<'t>> as SearchState>⟧ in
             IfOk result (HasMadeNoAttempt e (tree_of re.now) (ascii_text text.now) bound.now work) }
         ensures refused { IfErr result (λ e. e ≡ Memory) }
     {
@@ -446,7 +448,7 @@ impl<'r, 't> BoundedExecutor<'r, Utf16Input<'t>> {
         requires start { IsBoundaryOrPastEnd (utf16_text text.now (tree_of re.now).flags.unicode) start }
         ensures yields { IfOk result (λ it. YieldsMatchesIfWorkSuffices (tree_of re.now)
             (utf16_text text.now (tree_of re.now).flags.unicode) start bound.now.per_unit work (without_costs it)) }
-        ensures begins { let e = ⟦<BoundedExecutor<'r, Utf16Input<'t>> as MatchProducer>⟧ in
+        ensures begins { let e = ⟦<BoundedExecutor<'r, Utf16Input<'t>> as SearchState>⟧ in
             IfOk result (IteratorBeginsSearches e (tree_of re.now)
             (utf16_text text.now (tree_of re.now).flags.unicode) start) }
         ensures ended { IfOk result (λ it. it.remaining.ended
@@ -465,7 +467,7 @@ impl<'r, 't> BoundedExecutor<'r, Utf16Input<'t>> {
         work: u64,
     ) -> Result<Self, SearchError>
         requires bound { TreeHasWorkBound (tree_of re.now) bound.now }
-        ensures start { let e = ⟦<BoundedExecutor<'r, Utf16Input<'t>> as MatchProducer>⟧ in
+        ensures start { let e = ⟦<BoundedExecutor<'r, Utf16Input<'t>> as SearchState>⟧ in
             IfOk result (HasMadeNoAttempt e (tree_of re.now) (utf16_text text.now) bound.now work) }
         ensures refused { IfErr result (λ e. e ≡ Memory) }
     {

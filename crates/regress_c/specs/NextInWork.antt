@@ -1,10 +1,9 @@
 -- The matches that one call writes within a work limit, and what they cost in units of work.
 use Rattle.std.specs.Prelude.{◌≡◌, ◌≢◌, ◌<◌, ◌+◌, ℕ, Bool, true, List, Option, Some, None, Result, Ok, Err, flat_map, length}
 use Rattle.regex_meaning.specs.CodeUnitOffsets.{offset_within}
-use Rattle.regex_meaning.specs.CodeUnits.{utf8}
 use Rattle.regex_meaning.specs.Text.{Text}
 use Rattle.regex_meaning.specs.Tree.{Tree}
-use Rattle.regress_backtrack.specs.WorkOfAttempts.{AttemptCostsWork, no_failures}
+use Rattle.regress_backtrack.specs.WorkOfAttempts.{no_failures, work_costs}
 use Rattle.regress_search.specs.CostsOfSearches.{Failures, LeavesWorkWithoutResult, SearchCosts, TakesExactCost, WorkCosts}
 use Rattle.regress_match.specs.ProgramTreesAndAnswers.{bytes_as_utf8_text, tree_for_byte_units}
 use Rattle.regress_match.specs.Resuming.{offset_after_first_match}
@@ -26,10 +25,6 @@ use Rattle.regress_c.specs.declared.search.Encoding.TheVariants.{Utf8}
 use Rattle.regress_c.specs.declared.search.Search.{Search}
 
 -- ---- Costs
-
--- The costs of the default executor in UTF-8 (`WorkLimitedExecutor`).
-abbrev pub work_costs : WorkCosts
-work_costs = record { of_attempt = AttemptCostsWork utf8; may_skip = true }
 
 module _ (costs : WorkCosts) (tree : Tree) (text : Text) where
   -- The search for the next match at the offset `at` or later costs this.

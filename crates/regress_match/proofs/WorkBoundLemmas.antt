@@ -13,7 +13,7 @@ use Rattle.regex_meaning.specs.CodeUnitOffsets.{units}
 use Rattle.regex_meaning.specs.Text.{Text}
 use Rattle.regex_meaning.specs.Tree.{Tree}
 use Rattle.regress_search.specs.MatchesWithinWork.{RemainingAnswersAndWork}
-use Rattle.regress_search.specs.CostsOfCalls.{WorkMatchesView}
+use Rattle.regress_search.specs.CostsOfCalls.{WorkMatchesView, without_costs}
 use Rattle.regress_search.specs.CostsOfSearches.{Failures, WorkCosts}
 use Rattle.regress_bounded.specs.CostsOfAttempts.{BeginsSearchesForTreeInText}
 use Rattle.regress_search.specs.declared.exec.work_matches.WorkError.TheVariants.{Memory, WorkLimit}
@@ -27,7 +27,7 @@ use Rattle.regress_bounded.specs.declared.work_bound.Unbounded.{Unbounded}
 use Rattle.regress_bounded.specs.WorkBoundForAllMatches.{TreeHasWorkBound, IsWorkBoundOfTree, most_memo_codes_per_insn, program_size}
 use Rattle.regress_bounded.specs.declared.work_bound.WorkBound.{WorkBound}
 use Rattle.regress_match.specs.WorkBounds.{WorkLimitedNextResult, ResultsAreMatchesWithinWork, BoundedView, NextCallsYieldWithinWork, SearchesReturnMatchesWithinWork, WorkPerUnitLimitSuffices}
-use Rattle.regress_match.specs.WorkBounds.{NextCallsYieldAtTotalCost, IsNoAllocationFailure, NextCallsYieldAtCost, CallCostsAreWorkSpent}
+use Rattle.regress_match.specs.WorkBounds.{NextCallsYieldAtTotalCost, IsNoAllocationFailure, IsNoError, NextCallsYieldAtCost, CallCostsAreWorkSpent, CallsWithinWorkReturnMatches}
 use Rattle.regress_match.specs.WorkBounds.{IsPatternUnboundedBy, YieldsMatchesIfWorkSuffices, enough_work_for_text, max_of_two, work_per_unit_limit}
 use Rattle.regress_match.specs.ProgramTreesAndAnswers.{tree_for_byte_units, tree_for_16_bit_units}
 use Rattle.regress_match.specs.declared.api.regex.Regex.{Regex}
@@ -71,25 +71,43 @@ searches-ResultsAreMatchesWithinWork tree text start per_unit work it t rs y k =
 -- ---- The cost of calls
 
 module _ {P : Type 0} (costs : WorkCosts) (tree_of : P → Tree) (text_of : P → Text) (failures_of : P → Failures) where
-  -- If the work is enough and no allocation fails, the calls take exactly their costs.
-  calls-cost : (s t : WorkMatchesView P) (rs : List WorkLimitedNextResult) → s.enough ≡ true → NextCallsYieldAtCost costs tree_of text_of failures_of s rs t
-      → Each IsNoAllocationFailure rs → (cost : ℕ) × NextCallsYieldAtTotalCost costs tree_of text_of failures_of s rs cost t × (s.left ≡ cost + t.left)
-  calls-cost s t [] e h n = (0, (h, refl), (let same : s.left ≡ t.left = ap (λ (v : WorkMatchesView P). v.left) (sym h) in omega (arith, same)))
-  calls-cost s t (None ∷ rs) e (u, h, k) n =
+  -- If no call returns an error, the calls take exactly their costs.
+  calls-spent : (s t : WorkMatchesView P) (rs : List WorkLimitedNextResult) → NextCallsYieldAtCost costs tree_of text_of failures_of s rs t
+      → Each IsNoError rs → (cost : ℕ) × NextCallsYieldAtTotalCost costs tree_of text_of failures_of s rs cost t × (s.left ≡ cost + t.left)
+  calls-spent s t [] h n = (0, (h, refl), (let same : s.left ≡ t.left = ap (λ (v : WorkMatchesView P). v.left) (sym h) in omega (arith, same)))
+  calls-spent s t (None ∷ rs) (u, h, k) n =
       let cost = h.1 in
-      let later = calls-cost u t rs (h.0.0.2 e) k n.1 in
+      let later = calls-spent u t rs k n.1 in
       (cost.0 + later.0, (u, cost.0, later.0, h, cost.1, later.1, refl), (let first = cost.2 in let rest = later.2 in omega (arith, first, rest)))
-  calls-cost s t (Some (Ok m) ∷ rs) e (u, h, k) n =
+  calls-spent s t (Some (Ok m) ∷ rs) (u, h, k) n =
       let cost = h.1 in
-      let later = calls-cost u t rs (h.0.0.4 e) k n.1 in
+      let later = calls-spent u t rs k n.1 in
       (cost.0 + later.0, (u, cost.0, later.0, h, cost.1, later.1, refl), (let first = cost.2 in let rest = later.2 in omega (arith, first, rest)))
-  calls-cost s t (Some (Err Memory) ∷ rs) e h n = absurd n.0
-  calls-cost s t (Some (Err WorkLimit) ∷ rs) e (u, h, k) n = absurd (cc (sym e ∙ h.0.0.0.0))
+  calls-spent s t (Some (Err e) ∷ rs) h n = absurd n.0
+
+  -- If the work is enough and no allocation fails, no call returns an error.
+  no-error : (s t : WorkMatchesView P) (rs : List WorkLimitedNextResult) → s.enough ≡ true → NextCallsYieldAtCost costs tree_of text_of failures_of s rs t
+      → Each IsNoAllocationFailure rs → Each IsNoError rs
+  no-error s t [] e h n = tt
+  no-error s t (None ∷ rs) e (u, h, k) n = (tt, no-error u t rs (h.0.0.2 e) k n.1)
+  no-error s t (Some (Ok m) ∷ rs) e (u, h, k) n = (tt, no-error u t rs (h.0.0.4 e) k n.1)
+  no-error s t (Some (Err Memory) ∷ rs) e h n = absurd n.0
+  no-error s t (Some (Err WorkLimit) ∷ rs) e (u, h, k) n = absurd (cc (sym e ∙ h.0.0.0.0))
 
   pub searches-cost : CallCostsAreWorkSpent costs tree_of text_of failures_of
   searches-cost tree text start per_unit work it t rs y big k n =
-      let all = calls-cost it t rs (y.enough big) k n in
+      let all = calls-spent it t rs k (no-error it t rs (y.enough big) k n) in
       (all.0, all.1, sym y.left ∙ all.2)
+
+  calls-within : (s t : WorkMatchesView P) (rs : List WorkLimitedNextResult) → NextCallsYieldAtCost costs tree_of text_of failures_of s rs t
+      → NextCallsYieldWithinWork (without_costs s) rs (without_costs t)
+  calls-within s t [] e = ap without_costs e
+  calls-within s t (r ∷ rs) (u, h, k) = (without_costs u, h.0, calls-within u t rs k)
+
+  pub calls-return : CallsWithinWorkReturnMatches costs tree_of text_of failures_of
+  calls-return it t rs k =
+      let within = calls-within it t rs k in
+      (calls-Answer (Unit {0}) (without_costs it) (without_costs t) rs (inr tt) within, calls-left (without_costs it) (without_costs t) rs within, calls-spent it t rs k)
 
 -- ---- Sufficient work
 

@@ -115,6 +115,11 @@ abbrev pub IsNoAllocationFailure : WorkLimitedNextResult → Type 0
 IsNoAllocationFailure (Some (Err Memory)) = ⊥
 IsNoAllocationFailure _ = Unit {0}
 
+-- The result is not an error.
+abbrev pub IsNoError : WorkLimitedNextResult → Type 0
+IsNoError (Some (Err e)) = ⊥
+IsNoError _ = Unit {0}
+
 module _ {P : Type 0} (costs : WorkCosts) (tree_of : P → Tree) (text_of : P → Text) (failures_of : P → Failures) where
   -- Successive calls of `next` return these results. The iterator's view is `before` at first and
   -- `behind` at the end.
@@ -144,3 +149,14 @@ module _ {P : Type 0} (costs : WorkCosts) (tree_of : P → Tree) (text_of : P �
       → enough_work_for_text per_unit text ≤ work
       → NextCallsYieldAtCost it rs behind → Each IsNoAllocationFailure rs
       → (cost : ℕ) × NextCallsYieldAtTotalCost it rs cost behind × (work ≡ cost + behind.left)
+
+  -- Any number of calls return the matches of the list in order, until the list ends or an error is
+  -- returned, and never increase the work that is left. If none returns an error, they cost exactly
+  -- the work that they take.
+  abbrev pub CallsWithinWorkReturnMatches : Type 0
+  CallsWithinWorkReturnMatches = (it behind : WorkMatchesView P) (rs : List WorkLimitedNextResult)
+      → NextCallsYieldAtCost it rs behind
+      → ResultsAreMatchesWithinWork (Unit {0}) it.remaining.answers rs
+      × (behind.left ≤ it.left)
+      × (Each IsNoError rs
+      → (cost : ℕ) × NextCallsYieldAtTotalCost it rs cost behind × (it.left ≡ cost + behind.left))

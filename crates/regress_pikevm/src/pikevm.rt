@@ -2,12 +2,13 @@
 //! own.
 
 ghost use Rattle.std.specs.Prelude.{◌≡◌, ◌<◌, ◌≤◌, ◌++◌, map, IsTrue, IsAscii, IsSome, IfOk, option_map, ⊤};
+ghost use Rattle.std.proofs.Common.{refl};
 ghost use Rattle.regex_meaning.specs.{Text.{ascii_text, ucs2_text, utf16_text, utf8_text}, CodeUnitOffsets.{IsBoundary, units}};
 ghost use Rattle.regex_pattern_front.specs.AstToSpecTree.{tree_of};
 ghost use Rattle.regress_program.specs.{CompilationOfTreesAsFunction.{compiled}, InsnsAsSpec.{insn_as_spec_insn}};
 ghost use Rattle.regress_machine.specs.{Machine.{first_running_and_others_waiting}, InsnEffects.{IsNotStuck}};
 ghost use Rattle.regress_search.specs.AttemptsAndStarts.{match_end_and_groups_at};
-ghost use Rattle.regress_search.specs.NewExecutorsAndAsciiTexts.{IsNewExecutor, ReadsBytesAsAscii, CanSearchAllAsciiTexts};
+ghost use Rattle.regress_search.specs.NewExecutorsAndAsciiTexts.{IsNewExecutor};
 ghost use Rattle.regress_pikevm.specs.InsnEffects.{end_and_groups, search_from_state, machine_effect_at_state, SearchEndsWithState};
 ghost use Rattle.regress_pikevm.specs.States.{groups_as_offset_ranges, effect_of_next_states, threads_of_stack, pending_threads, states_by_priority, TakesFirstOfPendingThreads};
 
@@ -22,7 +23,7 @@ use regress_input::cursor::{Backward, Forward};
 use regress_input::indexing::{AsciiInput, InputIndexer, Ucs2Input, Utf8Input, Utf16Input};
 use regress_input::position::PositionType;
 use regress_program::insn::{CompiledRegex, CompiledRegexFor16BitUnits, Insn, Program};
-use regress_search::exec::{Executor, MatchProducer, ProducerFromProgramAndText, SearchError};
+use regress_search::exec::{Executor, ProducerFromProgramAndText, SearchError, SearchState};
 use regress_search::program_and_input::ProgramAndInput;
 use regress_search::search_loop::{SingleAttemptExecutor, position_range_of_group};
 use std::alloc::{AllocError, Global};
@@ -167,12 +168,14 @@ fn preferred_final_state<Input: InputIndexer>(
     Ok(end)
 }
 
-impl<'r, Input: InputIndexer> SingleAttemptExecutor for PikeVMExecutor<'r, Input> {
-    type Input = Input;
-
+impl<'r, Input: InputIndexer> SearchState for PikeVMExecutor<'r, Input> {
     ghost tree = { λ e. tree_of e.searched.program.now };
 
     ghost text = { λ e. Input.text e.searched.input };
+}
+
+impl<'r, Input: InputIndexer> SingleAttemptExecutor for PikeVMExecutor<'r, Input> {
+    type Input = Input;
 
     ghost groups = { λ e. groups_as_offset_ranges Input.Position.offset e.groups.items };
 
@@ -228,6 +231,10 @@ impl<'r, 't> ProducerFromProgramAndText<'r> for PikeVMExecutor<'r, Utf8Input<'t>
 
 impl<'r, 't> Executor<'r, 't> for PikeVMExecutor<'r, Utf8Input<'t>> {
     type AsAscii = PikeVMExecutor<'r, AsciiInput<'t>>;
+
+    ghost takes_ascii = { λ _ is_ascii. is_ascii };
+
+    ghost reads_ascii = { refl };
 }
 
 impl<'r, 't> ProducerFromProgramAndText<'r> for PikeVMExecutor<'r, AsciiInput<'t>> {
@@ -245,6 +252,10 @@ impl<'r, 't> ProducerFromProgramAndText<'r> for PikeVMExecutor<'r, AsciiInput<'t
 
 impl<'r, 't> Executor<'r, 't> for PikeVMExecutor<'r, AsciiInput<'t>> {
     type AsAscii = Self;
+
+    ghost takes_ascii = { λ _ is_ascii. is_ascii };
+
+    ghost reads_ascii = { refl };
 }
 
 impl<'r, 't> PikeVMExecutor<'r, Utf16Input<'t>> {
@@ -257,7 +268,7 @@ impl<'r, 't> PikeVMExecutor<'r, Utf16Input<'t>> {
         re: &'r CompiledRegexFor16BitUnits,
         text: &'t [u16],
     ) -> Result<Self, AllocError>
-        ensures { IfOk result (IsNewExecutor ⟦<PikeVMExecutor<'r, Utf16Input<'t>> as MatchProducer>⟧ (tree_of re.now)
+        ensures { IfOk result (IsNewExecutor ⟦<PikeVMExecutor<'r, Utf16Input<'t>> as SearchState>⟧ (tree_of re.now)
             (utf16_text text.now)) }
     {
         Ok(PikeVMExecutor::new_executor(ProgramAndInput::pair_with_utf16_text(re, text)))
@@ -271,36 +282,9 @@ impl<'r, 't> PikeVMExecutor<'r, Ucs2Input<'t>> {
     ///
     /// Never returns `Err` at present, because it allocates no memory.
     pub fn new_ucs2(re: &'r CompiledRegexFor16BitUnits, text: &'t [u16]) -> Result<Self, AllocError>
-        ensures { IfOk result (IsNewExecutor ⟦<PikeVMExecutor<'r, Ucs2Input<'t>> as MatchProducer>⟧ (tree_of re.now)
+        ensures { IfOk result (IsNewExecutor ⟦<PikeVMExecutor<'r, Ucs2Input<'t>> as SearchState>⟧ (tree_of re.now)
             (ucs2_text text.now)) }
     {
         Ok(PikeVMExecutor::new_executor(ProgramAndInput::pair_with_ucs2_text(re, text)))
     }
 }
-
-// The executors for UTF-8 and for ASCII texts. Each names the executor for ASCII texts.
-type OverUtf8 = PikeVMExecutor<'static, Utf8Input<'static>>;
-
-type OverAscii = PikeVMExecutor<'static, AsciiInput<'static>>;
-
-type AsciiExecutorForUtf8PikeVM = <OverUtf8 as Executor<'static, 'static>>::AsAscii;
-
-type AsciiExecutorForAsciiPikeVM = <OverAscii as Executor<'static, 'static>>::AsAscii;
-
-/// A law: the `AsAscii` of the executor for UTF-8 can search each ASCII text, and reads each byte
-/// as a character.
-pub fn ascii_is_read_in_bytes()
-    ensures takes { CanSearchAllAsciiTexts
-        ⟦<AsciiExecutorForUtf8PikeVM as ProducerFromProgramAndText<'static>>⟧.can_search }
-    ensures reads { ReadsBytesAsAscii
-        ⟦<AsciiExecutorForUtf8PikeVM as ProducerFromProgramAndText<'static>>⟧.text_of }
-{}
-
-/// A law: the `AsAscii` of the executor for ASCII can search each ASCII text, and reads each byte
-/// as a character.
-pub fn ascii_stays_in_bytes()
-    ensures takes { CanSearchAllAsciiTexts
-        ⟦<AsciiExecutorForAsciiPikeVM as ProducerFromProgramAndText<'static>>⟧.can_search }
-    ensures reads { ReadsBytesAsAscii
-        ⟦<AsciiExecutorForAsciiPikeVM as ProducerFromProgramAndText<'static>>⟧.text_of }
-{}

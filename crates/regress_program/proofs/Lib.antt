@@ -21,6 +21,7 @@ pub mod TreeToRunLemmas
 pub mod PendingEmissionLemmas
 pub mod TableKeysOfUnitsLemmas
 pub mod RangeAcceptanceLemmas
+mod ListedUnitsLemmas
 pub mod AppendedEntryLemmas
 pub mod AddedOpsLemmas
 pub mod ClosedFirstSetsLemmas

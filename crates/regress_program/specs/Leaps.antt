@@ -1,5 +1,5 @@
 -- Leaps: the goal that each match reaches, and the units that it may read before the goal.
-use Rattle.std.specs.Prelude.{◌≡◌, ◌≤◌, ◌<◌, ℕ, Bool, true, false, ◌||◌, nat_le, take, slice_index_or}
+use Rattle.std.specs.Prelude.{◌≡◌, ◌≤◌, ◌<◌, ℕ, Bool, true, false, ◌||◌, nat_le, slice_index_or}
 use Rattle.regex_meaning.specs.Text.{Text, rightwards}
 use Rattle.regex_meaning.specs.Outcomes.{is_some_and}
 use Rattle.regex_meaning.specs.CodeUnits.{Encoding}
@@ -8,7 +8,7 @@ use Rattle.regress_machine.specs.Machine.{State, running}
 use Rattle.regress_machine.specs.ThreadSimulation.{FindsNothing}
 use Rattle.regress_machine.specs.FirstSetTables.{HasUnitsForTables, unit_key_at}
 use Rattle.regress_program.specs.TableKeysOfUnits.{key, is_16_bit_encoding}
-use Rattle.regex_meaning.specs.NumberListHelpers.{contains}
+use Rattle.regress_program.specs.ListedUnits.{is_listed}
 use Rattle.regress_program.specs.declared.leap.Leap.{Leap}
 
 -- A leap: each match reaches the goal, a unit with a key in `goal`, and reads only units with keys
@@ -61,7 +61,7 @@ pub record IsSoundLeap (wide : Bool) (program : Program) (leap : LeapToGoal) : T
 
 -- Whether a unit with this key is the goal.
 abbrev pub is_goal_key : Leap → (k : ℕ) → Bool
-is_goal_key leap k = contains (take leap.len leap.units) k
+is_goal_key leap k = is_listed leap.goal k
 
 -- Whether a match may read a unit with this key before its goal.
 abbrev pub is_passed_key : Leap → (k : ℕ) → Bool
@@ -77,8 +77,8 @@ AreHighKeysAlike leap = (k : ℕ) → 128 ≤ k → k < 256 → is_passed_key le
 
 -- The goal is at most 3 units, all below 128.
 pub record AreGoalsFewAscii (leap : Leap) : Type 0 where
-  pub few : leap.len ≤ 3
-  pub low : (k : ℕ) → k < leap.len → slice_index_or leap.units k 0 < 128
+  pub few : leap.goal.len ≤ 3
+  pub low : (k : ℕ) → k < leap.goal.len → slice_index_or leap.goal.units k 0 < 128
 
 -- The leap of a plan is sound for the program, and has the form that searches rely on.
 pub record IsLeapRightForProgram (wide : Bool) (program : Program) (leap : Leap) : Type 0 where

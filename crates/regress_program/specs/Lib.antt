@@ -18,6 +18,7 @@ pub mod AtMostOneGoalNodeCheck
 pub mod GroupLoopInsnCountsPerNode
 pub mod SearchableTexts
 pub mod TableKeysOfUnits
+pub mod ListedUnits
 pub mod ClassReadLengths
 pub mod Plans
 pub mod LeadingCharLoops

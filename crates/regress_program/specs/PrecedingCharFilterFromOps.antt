@@ -1,12 +1,12 @@
 -- How a lookbehind filter follows from the operations of a plan.
-use Rattle.std.specs.Prelude.{◌≡◌, ◌<◌, ℕ, Bool, true, false, take, Some, slice_get}
-use Rattle.regex_meaning.specs.NumberListHelpers.{contains}
+use Rattle.std.specs.Prelude.{◌≡◌, ◌<◌, ℕ, Bool, true, false, Some, slice_get}
 use Rattle.regress_machine.specs.FirstSetTables.{AllowedNextKeys}
 use Rattle.regress_program.specs.declared.lookbehind_filter.PrecedingCharFilter.{PrecedingCharFilter}
 use Rattle.regress_program.specs.declared.first_set_type.FirstSet.{FirstSet}
 use Rattle.regress_program.specs.declared.ops.Op.{Op}
 use Rattle.regress_program.specs.declared.ops.Op.TheVariants.{UnitChar, Char, One}
 use Rattle.regress_program.specs.declared.plan.Plan.{Plan}
+use Rattle.regress_program.specs.ListedUnits.{is_listed}
 use Rattle.regress_program.specs.TableKeysOfUnits.{unit_table_of_set}
 use Rattle.regress_program.specs.ClosedFirstSets.{IncludesFirstSet}
 use Rattle.regress_program.specs.LookbehindFilter.{FilterKeysAreLeadBytes}
@@ -18,7 +18,7 @@ pub record FilterIncludesAllKeysOfSet (wide : Bool) (set : FirstSet) (edge : Boo
   pub edge_is : before.edge ≡ edge
   pub leads : FilterKeysAreLeadBytes wide before
   pub among : (k : ℕ) → k < 256 → (unit_table_of_set set).keys k ≡ true
-      → contains (take before.len before.keys) k ≡ true
+      → is_listed before.keys k ≡ true
 
 -- Whether an operation reads one character.
 abbrev pub reads_character : Op → Bool

@@ -19,6 +19,7 @@ use crate::plan::{CandidateStarts, Plan};
 use crate::required_prefix_analysis::{OpPrefixContribution, prefix_step_at};
 use crate::required_prefix_prefilters::{RequiredPrefixPrefilter, frequency};
 use crate::table_keys_of_units::{KEYS, UnitWidth};
+use crate::up_to_three_units::UpToThreeUnits;
 use std::alloc::{AllocError, Global};
 
 /// A unit that each match reaches: one of a few units, its goal. The goal may occur before the end
@@ -29,31 +30,17 @@ pub struct Leap {
     /// For each key, whether a match may read such a unit before its goal. The entries of all keys
     /// from 128 on are equal.
     pub over: [bool; 256],
-    /// The first `len` of these units are the goal. All are below 128.
-    pub units: [u8; 3],
-    pub len: usize,
+    /// The units of the goal. All are below 128.
+    pub goal: UpToThreeUnits,
 }
 
 impl Leap {
-    // Checks whether a unit with this key is the goal.
-    fn is_goal(&self, key: usize) -> bool
-        ensures { result ≡ is_goal_key self.now key }
-    {
-        let [a, b, c] = self.units;
-        match self.len {
-            0 => false,
-            1 => key == usize::from(a),
-            2 => key == usize::from(a) || key == usize::from(b),
-            _ => key == usize::from(a) || key == usize::from(b) || key == usize::from(c),
-        }
-    }
-
     // Checks whether a key is a key of the goal, if the set contains it.
     fn is_goal_if_in(&self, set: &FirstSet, key: usize) -> bool
         requires { key < 256 }
         ensures { result ≡ true → (unit_table_of_set set.now).keys key ≡ true → is_goal_key self.now key ≡ true }
     {
-        !set.keys[key] || self.is_goal(key)
+        !set.keys[key] || self.goal.has(key)
     }
 
     // Checks whether each key of a set is a key of the goal.
@@ -134,8 +121,9 @@ impl Leap {
     fn has_few_ascii_goals(&self) -> bool
         ensures { result ≡ true → AreGoalsFewAscii self.now }
     {
-        let [a, b, c] = self.units;
-        self.len <= 3 && a < 128 && b < 128 && c < 128
+        let UpToThreeUnits { units, len } = self.goal;
+        let [a, b, c] = units;
+        len <= 3 && a < 128 && b < 128 && c < 128
     }
 }
 
@@ -165,7 +153,7 @@ impl LeapCheck<'_> {
         ensures { result ≡ true → ArrivesAtGoal self.entry.plan.now self.entry.leap.now ip }
     {
         match prefix_step_at(self.plan, ip) {
-            OpPrefixContribution::OneUnit { key, .. } => self.leap.is_goal(usize::from(key)),
+            OpPrefixContribution::OneUnit { key, .. } => self.leap.goal.has(usize::from(key)),
             OpPrefixContribution::Units { set, count, .. } => {
                 count > 0 && self.leap.has_as_goals(&set)
             }
@@ -350,8 +338,10 @@ impl<'p> LeapWalk<'p> {
             into_lookaheads,
             leap: Leap {
                 over: [false; 256],
-                units: [0; 3],
-                len: 0,
+                goal: UpToThreeUnits {
+                    units: [0; 3],
+                    len: 0,
+                },
             },
             on_way: Vec::from_elem(alloc, false, plan.ops.len())?,
             ahead: Vec::new(alloc),
@@ -382,14 +372,15 @@ impl<'p> LeapWalk<'p> {
 
     // Adds a unit to the goal, if the goal has room.
     fn add_to_goal(&mut self, unit: u8) -> bool {
-        if self.leap.is_goal(usize::from(unit)) {
+        let goal = &mut self.leap.goal;
+        if goal.has(usize::from(unit)) {
             return true;
         }
-        if self.leap.len >= 3 {
+        if goal.len >= 3 {
             return false;
         }
-        self.leap.units[self.leap.len] = unit;
-        self.leap.len += 1;
+        goal.units[goal.len] = unit;
+        goal.len += 1;
         true
     }
 
@@ -514,7 +505,7 @@ impl<'p> LeapWalk<'p> {
     fn walk(&mut self) -> Result<bool, AllocError> {
         for _step in 0..MOST_STEPS {
             let Some(ip) = self.ahead.pop() else {
-                return Ok(self.leap.len > 0);
+                return Ok(self.leap.goal.len > 0);
             };
             if !self.step_over(ip)? {
                 return Ok(false);
@@ -539,10 +530,10 @@ fn are_few_and_rare(class: &Class) -> bool {
 }
 
 // Estimates how often one of a few units occurs in texts, in a thousand.
-fn frequency_of(units: &[u8; 3], len: usize) -> u32 {
+fn frequency_of(few: UpToThreeUnits) -> u32 {
     let mut sum = 0u32;
-    for i in 0..len.min(3) {
-        sum = sum.saturating_add(u32::from(frequency(units[i])));
+    for i in 0..few.len.min(3) {
+        sum = sum.saturating_add(u32::from(frequency(few.units[i])));
     }
     sum
 }
@@ -550,7 +541,7 @@ fn frequency_of(units: &[u8; 3], len: usize) -> u32 {
 // Checks whether a start is searched for with vector instructions, as a goal is.
 fn is_start_fast(start: &CandidateStarts) -> bool {
     match start {
-        CandidateStarts::FewUnits { .. } => true,
+        CandidateStarts::FewUnits(_) => true,
         CandidateStarts::Prefix { prefilter, .. } => !prefilter.is_absent(),
         _ => false,
     }
@@ -559,9 +550,7 @@ fn is_start_fast(start: &CandidateStarts) -> bool {
 // Checks whether the goal of a leap is rarer than what must precede a match, if that is known.
 fn is_rarer(leap: &Leap, start: &CandidateStarts) -> bool {
     match start {
-        CandidateStarts::Behind(before) => {
-            frequency_of(&leap.units, leap.len) < frequency_of(&before.keys, before.len)
-        }
+        CandidateStarts::Behind(before) => { frequency_of(leap.goal) < frequency_of(before.keys) }
         _ => true,
     }
 }

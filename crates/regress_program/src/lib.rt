@@ -27,3 +27,4 @@ pub mod required_prefix_prefilters;
 pub mod required_prefix_types;
 pub mod startpredicate;
 pub mod table_keys_of_units;
+pub mod up_to_three_units;

@@ -9,17 +9,17 @@ ghost use Rattle.regress_program.specs.RequiredPrefixAnalysis.{AreOpsOfProgram};
 
 use crate::first_set_fixpoint::{FirstSets, first_set_from_successors};
 use crate::first_set_type::FirstSet;
-use crate::follow_sets::{OnlyAsciiOrOnlyLeadKeys, UpToThreeKeys, up_to_three_keys_of_kind};
+use crate::follow_sets::{OnlyAsciiOrOnlyLeadKeys, up_to_three_keys_of_kind};
 use crate::ops::{LookaroundAndNextOp, Op};
 use crate::plan::Plan;
 use crate::table_keys_of_units::UnitWidth;
+use crate::up_to_three_units::UpToThreeUnits;
 
-/// A filter of match starts by the preceding character, which begins with one of the first `len` of
-/// these keys. With `edge`, a match may also begin at the left end.
+/// A filter of match starts by the preceding character, which begins with one of these keys. With
+/// `edge`, a match may also begin at the left end.
 #[derive(Clone, Copy)]
 pub struct PrecedingCharFilter {
-    pub keys: [u8; 3],
-    pub len: usize,
+    pub keys: UpToThreeUnits,
     pub edge: bool,
 }
 
@@ -30,11 +30,8 @@ impl PrecedingCharFilter {
     fn of(set: &FirstSet, edge: bool, units: UnitWidth) -> Option<PrecedingCharFilter>
         ensures { IfSome result (FilterIncludesAllKeysOfSet (is_16_bit_width units) set.now edge) }
     {
-        let UpToThreeKeys { units: keys, len } = up_to_three_keys_of_kind(
-            set,
-            OnlyAsciiOrOnlyLeadKeys::Leads(units),
-        )?;
-        Some(PrecedingCharFilter { keys, len, edge })
+        let keys = up_to_three_keys_of_kind(set, OnlyAsciiOrOnlyLeadKeys::Leads(units))?;
+        Some(PrecedingCharFilter { keys, edge })
     }
 }
 

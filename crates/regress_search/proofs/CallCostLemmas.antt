@@ -6,7 +6,7 @@ use Rattle.regress_search.specs.declared.exec.Match.{Match}
 use Rattle.regress_search.specs.declared.exec.SearchError.{SearchError}
 use Rattle.regress_search.specs.declared.exec.work_matches.WorkError.{WorkError}
 use Rattle.regress_search.specs.declared.exec.work_matches.WorkError.TheVariants.{Memory, WorkLimit}
-use Rattle.regress_search.specs.declared.exec.MatchProducer.{Ghosts}
+use Rattle.regress_search.specs.declared.exec.search_state.SearchState.{Ghosts}
 use Rattle.regress_search.specs.RemainingAnswers.{NextYields, remaining_answers_from}
 use Rattle.regress_search.specs.MatchesWithinWork.{CallKeepsWorkEnough, IsWorkLimitOrMemoryCause, is_work_enough}
 use Rattle.regress_search.specs.CostsOfSearches.{CallSpendsExactCost, ContinuesAfterCall, Failures, LeavesWorkWithoutResult, WorkCosts}
@@ -51,7 +51,7 @@ module _ {P : Type 0} (costs : WorkCosts) (tree : P → Tree) (text : P → Text
   )
 
 -- `view-of` shows an iterator by its producer and its position.
-abbrev pub view-of : {E Q : Type 0} (e : Ghosts E Q) (offset : Q → ℕ) → E → Option Q → WorkMatchesView E
+abbrev pub view-of : {E Q : Type 0} (e : Ghosts E) (offset : Q → ℕ) → E → Option Q → WorkMatchesView E
 view-of e offset producer position = record {
   remaining = remaining_answers_from (e.tree producer) (e.text producer) (e.budget producer) (option_map offset position) (e.out_of_steps producer);
   left = e.left producer;
@@ -60,7 +60,7 @@ view-of e offset producer position = record {
   position = option_map offset position;
 }
 
-module _ {E Q : Type 0} (e : Ghosts E Q) (offset : Q → ℕ) (producer : E) (position : Option Q) (producer' : E) (position' : Option Q) where
+module _ {E Q : Type 0} (e : Ghosts E) (offset : Q → ℕ) (producer : E) (position : Option Q) (producer' : E) (position' : Option Q) where
   abbrev pub CalledBy : Option (Result Match SearchError) → Type 0
   CalledBy = Called e.costs e.tree e.text e.failures (view-of e offset producer position) (view-of e offset producer' position') (e.out_of_work producer')
 

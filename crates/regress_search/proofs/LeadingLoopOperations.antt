@@ -173,9 +173,6 @@ module _ (w : SearchInput) (has : HasUnitsForTables w.encoding w.text) (plan : I
         by None at is = cc
         by (Some read) at is = (read, at, l.body read at)
 
-    pub leads-inside : r.class < length w.plan.classes.items
-    leads-inside = slice_get_within w.plan.classes.items r.class class-of.2.class class-of.2.is_there
-
     module _ (class : Class) (class_is : slice_get w.plan.classes.items r.class ≡ Some class) where
       body-is : insn_at w (opens + 1) ≡ Some (insn_as_spec_insn class.insn)
       body-is =

@@ -38,14 +38,14 @@ module _ (w : SearchInput) (has : HasUnitsForTables w.encoding w.text) where
 
   module _ (leap : Leap) (ascii : AreGoalsFewAscii leap) where
     -- The goal is absent at an offset that is no boundary or where the table allows no unit.
-    absent-at : (at : ℕ) → (IsBoundary w.text at → table_allows_unit_or_end_at w (table_of_listed_units leap.units leap.len) at ≡ false)
+    absent-at : (at : ℕ) → (IsBoundary w.text at → table_allows_unit_or_end_at w (table_of_listed_units leap.goal) at ≡ false)
         → goal_occurs_at (leap_to_goal leap) w.encoding w.text at ≡ false
     absent-at at none = by (slice_get all-units at) refl
       where
         here : (u : ℕ) → slice_get all-units at ≡ Some u → (b : Bool) → is_goal_key leap (key wide u) ≡ b → is_goal_key leap (key wide u) ≡ false
         here u there true e =
-            let on = low-key at u there (low-listed leap.units leap.len (key wide u) ascii.low e) in
-            let no : is_goal_key leap (key wide u) ≡ false = ap (λ o. table_allows_key_or_end (table_of_listed_units leap.units leap.len) (option_map (key wide) o)) (sym there) ∙ none on in
+            let on = low-key at u there (low-listed leap.goal (key wide u) ascii.low e) in
+            let no : is_goal_key leap (key wide u) ≡ false = ap (λ o. table_allows_key_or_end (table_of_listed_units leap.goal) (option_map (key wide) o)) (sym there) ∙ none on in
             no
         here u there false e = e
 
@@ -58,18 +58,18 @@ module _ (w : SearchInput) (has : HasUnitsForTables w.encoding w.text) where
             ap (λ b. b || nat_le 256 (key wide u)) (here u there (is_goal_key leap (key wide u)) refl) ∙ below u there
 
     -- If the table allows the unit at an offset, the goal occurs there.
-    pub occurs-at : (at : ℕ) → table_allows_unit_or_end_at w (table_of_listed_units leap.units leap.len) at ≡ true → goal_occurs_at (leap_to_goal leap) w.encoding w.text at ≡ true
+    pub occurs-at : (at : ℕ) → table_allows_unit_or_end_at w (table_of_listed_units leap.goal) at ≡ true → goal_occurs_at (leap_to_goal leap) w.encoding w.text at ≡ true
     occurs-at at one = by (unit_key_in_search w at) one
       where
-        by : (o : Option ℕ) → table_allows_key_or_end (table_of_listed_units leap.units leap.len) o ≡ true → is_some_and o (leap_to_goal leap).goal ≡ true
+        by : (o : Option ℕ) → table_allows_key_or_end (table_of_listed_units leap.goal) o ≡ true → is_some_and o (leap_to_goal leap).goal ≡ true
         by None e = cc
         by (Some k) e = or_left (is_goal_key leap k) (nat_le 256 k) e
 
-    pub absent-between : (from to : ℕ) → NoBoundaryWhere w (λ at. table_allows_unit_or_end_at w (table_of_listed_units leap.units leap.len) at) from to
+    pub absent-between : (from to : ℕ) → NoBoundaryWhere w (λ at. table_allows_unit_or_end_at w (table_of_listed_units leap.goal) at) from to
         → GoalIsAbsentBetween (leap_to_goal leap) w.encoding w.text from to
     absent-between from to none at le less = absent-at at (λ on. none at on le less)
 
-    pub absent-from : (from : ℕ) → NoBoundaryWhere w (λ at. table_allows_unit_or_end_at w (table_of_listed_units leap.units leap.len) at) from (units w.text + 1)
+    pub absent-from : (from : ℕ) → NoBoundaryWhere w (λ at. table_allows_unit_or_end_at w (table_of_listed_units leap.goal) at) from (units w.text + 1)
         → ((at : ℕ) → IsBoundary w.text at → at ≤ units w.text) → GoalIsAbsentFrom (leap_to_goal leap) w.encoding w.text from
     absent-from from none inside at le = absent-at at (λ on. none at on le (let most = inside at on in omega (arith, most)))
 

@@ -1,10 +1,9 @@
 -- The first candidate start by lookbehind is the boundary after the first allowed character.
-use Rattle.std.proofs.Common.{◌≡◌, ℕ, zero, suc, ◌+◌, ◌-◌, ◌<◌, ◌≤◌, Bool, true, false, Option, Some, None, List, refl, ap, sym, ◌∙◌, arith, take}
+use Rattle.std.proofs.Common.{◌≡◌, ℕ, zero, suc, ◌+◌, ◌-◌, ◌<◌, ◌≤◌, Bool, true, false, Option, Some, None, refl, ap, sym, ◌∙◌, arith}
 use Rattle.std.specs.Prelude.{option_map, option_and_then}
 use Rattle.std.specs.Option.{option_map_or}
 use Rattle.std.proofs.lemmas.Bool.{cases_lt}
 use mathlib.Core.Logic.{◌⊎◌, inl, inr}
-use Rattle.regex_meaning.specs.NumberListHelpers.{contains}
 use Rattle.regex_meaning.specs.Text.{Text, Direction, rightwards, leftwards, last_place}
 use Rattle.regex_meaning.specs.CodeUnitOffsets.{HasRisingPlaceOffsets, IsBoundary, offset, units, read, read_at, place_at}
 use Rattle.regex_meaning.specs.Outcomes.{is_some_and}
@@ -14,6 +13,8 @@ use Rattle.regress_input.proofs.BoundaryPositions.{place_of_boundary, left_then_
 use Rattle.regress_machine.specs.FirstSetTables.{AllowedNextKeys, HasUnitsForTables, table_allows_key_or_end, unit_key_at}
 use Rattle.regress_machine.proofs.GroupAndAssertionOutcomes.{slice_get_some}
 use Rattle.regress_program.specs.declared.lookbehind_filter.PrecedingCharFilter.{PrecedingCharFilter}
+use Rattle.regress_program.specs.declared.up_to_three_units.UpToThreeUnits.{UpToThreeUnits}
+use Rattle.regress_program.specs.ListedUnits.{is_listed}
 use Rattle.regress_program.specs.LookbehindFilter.{allows_start, unit_at_has_filter_key}
 use Rattle.regress_program.specs.TableKeysOfUnits.{key, is_16_bit_encoding}
 use Rattle.regress_search.specs.TreePlanAndText.{SearchInput}
@@ -59,11 +60,11 @@ module _ (text : Text) (is : HasRisingPlaceOffsets text) where
           cc
 
 -- Where one of a few units is allowed, a unit of the text stands.
-pub unit-inside : (w : SearchInput) → HasUnitsForTables w.encoding w.text → (keys : List ℕ) (len at : ℕ) → table_allows_unit_or_end_at w (table_of_listed_units keys len) at ≡ true → at < units w.text
-unit-inside w has keys len at allowed = elim (cases_lt at (units w.text)) [
+pub unit-inside : (w : SearchInput) → HasUnitsForTables w.encoding w.text → (few : UpToThreeUnits) (at : ℕ) → table_allows_unit_or_end_at w (table_of_listed_units few) at ≡ true → at < units w.text
+unit-inside w has few at allowed = elim (cases_lt at (units w.text)) [
   | inl inside ↦ inside
   | inr past_it ↦
-      let never : true ≡ false = sym allowed ∙ ap (table_allows_key_or_end (table_of_listed_units keys len)) (no-key w.encoding w.text has at past_it) in
+      let never : true ≡ false = sym allowed ∙ ap (table_allows_key_or_end (table_of_listed_units few)) (no-key w.encoding w.text has at past_it) in
       cc
 ]
 
@@ -71,7 +72,7 @@ unit-inside w has keys len at allowed = elim (cases_lt at (units w.text)) [
 
 module _ (w : SearchInput) (has : HasUnitsForTables w.encoding w.text) (before : PrecedingCharFilter) where
   abbrev keys : AllowedNextKeys
-  keys = table_of_listed_units before.keys before.len
+  keys = table_of_listed_units before.keys
 
   abbrev lets : (at : ℕ) → Bool
   lets at = allows_start w.encoding before w.text at
@@ -80,7 +81,7 @@ module _ (w : SearchInput) (has : HasUnitsForTables w.encoding w.text) (before :
   lets-behind at y led =
       ap (λ o. option_map_or (unit_at_has_filter_key w.encoding before w.text) o before.edge) led ∙ same (unit_key_at w.encoding (key (is_16_bit_encoding w.encoding)) w.text y)
     where
-      same : (o : Option ℕ) → is_some_and o (contains (take before.len before.keys)) ≡ table_allows_key_or_end keys o
+      same : (o : Option ℕ) → is_some_and o (is_listed before.keys) ≡ table_allows_key_or_end keys o
       same None = refl
       same (Some k) = refl
 

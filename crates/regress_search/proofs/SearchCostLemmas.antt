@@ -7,8 +7,8 @@ use Rattle.regex_meaning.specs.Text.{Text}
 use Rattle.regex_meaning.specs.Outcomes.{Groups}
 use Rattle.regress_search.specs.AttemptsAndStarts.{NextStartSkipsNoMatch, NoMatchAt, end_with_groups, match_end_and_groups_at}
 use Rattle.regress_search.specs.CostsOfSearches.{AttemptsFail, CallSpendsExactCost, CostsMoreThanLeft, Failures, IfWorkIsCounted, LeavesWorkWithoutResult}
-use Rattle.regress_search.specs.CostsOfSearches.{PaysForSkip, PaysForSkipFrom, SearchCosts, SpendsExactCost, WorkCosts}
-use Rattle.regress_search.specs.CostsOfSearches.{TakesExactCost, no_attempt, one_more, skips, finds_none, finds_match, is_begun, next_attempt_offset, units_skipped}
+use Rattle.regress_search.specs.CostsOfSearches.{PaysForSkip, SearchCosts, SkipCostsMoreThanLeft, SkipFromSpendsExactCost, SpendsExactCost, WorkCosts}
+use Rattle.regress_search.specs.CostsOfSearches.{TakesExactCost, no_attempt, one_more, skips, finds_none, finds_match, is_begun, skip_is_begun, next_attempt_offset, units_skipped}
 
 -- ---- Statements of producers that count work
 
@@ -74,18 +74,34 @@ module _ (costs : WorkCosts) where
           spent = let s = f.spent in omega (arith, s, taken);
         }
 
-    -- If starts are skipped, the search takes a unit for each code unit that is skipped.
-    pub failing-skips : (tree' : Tree) (text' : Text) → tree' ≡ tree → text' ≡ text → (now : Failures) (now_left left' : ℕ) {P : Type 0} (offset : P → ℕ) (from : Option P) (next : Option ℕ)
-        → Failing tree text before first left now now_left (option_map offset from) → PaysForSkipFrom costs.may_skip text' (option_map offset from) next now_left left'
-        → ((p : P) → from ≡ Some p → NextStartSkipsNoMatch tree' text' (offset p) next) → Failing tree text before first left now left' next
-    failing-skips tree' text' t x now now_left left' offset None next f pays none = record {
-      done = f.done;
-      fail = subst (λ n. AttemptsFail costs tree text before (Some first) f.done now n) (sym pays.0) f.fail;
-      spent = let s = f.spent in let p = pays.1 in omega (arith, s, p);
-    }
-    failing-skips tree' text' t x now now_left left' offset (Some p) next f pays none =
-        skip-by costs.may_skip refl now now_left left' (offset p) next f (subst (λ x. PaysForSkip costs.may_skip x (offset p) next now_left left') x pays)
-        (subst (λ t. NextStartSkipsNoMatch t text (offset p) next) t (subst (λ x. NextStartSkipsNoMatch tree' x (offset p) next) x (none p refl)))
+    module _ (tree' : Tree) (text' : Text) (same_tree : tree' ≡ tree) (same_text : text' ≡ text) (now : Failures) (now_left left' : ℕ) {P : Type 0} (E : Type 0) (offset : P → ℕ) where
+      -- If starts are skipped, the search takes a unit for each code unit that is skipped.
+      pub failing-skips : (from next : Option P) → Failing tree text before first left now now_left (option_map offset from)
+          → SkipFromSpendsExactCost {P = P} {E = E} offset costs.may_skip tree' text' from now_left (Ok next) left'
+          → ((p : P) → from ≡ Some p → NextStartSkipsNoMatch tree' text' (offset p) (option_map offset next)) → Failing tree text before first left now left' (option_map offset next)
+      failing-skips None next f pays none = record {
+        done = f.done;
+        fail = subst (λ n. AttemptsFail costs tree text before (Some first) f.done now (option_map offset n)) (sym pays.0) f.fail;
+        spent = let s = f.spent in let p = pays.1 in omega (arith, s, p);
+      }
+      failing-skips (Some p) next f pays none =
+          let to = option_map offset next in
+          skip-by costs.may_skip refl now now_left left' (offset p) to f (subst (λ x. PaysForSkip costs.may_skip x (offset p) to now_left left') same_text pays)
+          (subst (λ t. NextStartSkipsNoMatch t text (offset p) to) same_tree (subst (λ x. NextStartSkipsNoMatch tree' x (offset p) to) same_text (none p refl)))
+
+      -- If a skip costs more than is left, the search does.
+      pub failing-refuses : (from : Option P) (e : E) → Failing tree text before first left now now_left (option_map offset from)
+          → SkipFromSpendsExactCost {P = P} {E = E} offset costs.may_skip tree' text' from now_left (Err e) left' → CostsMoreThanLeft (SearchCosts costs tree text before (Some first)) left
+      failing-refuses None e f pays = absurd pays.0
+      failing-refuses (Some p) e f pays =
+          let at = offset p in
+          let more : SkipCostsMoreThanLeft costs.may_skip tree text at now_left =
+          subst (λ t. SkipCostsMoreThanLeft costs.may_skip t text at now_left) same_tree (subst (λ x. SkipCostsMoreThanLeft costs.may_skip tree' x at now_left) same_text pays) in
+          ∥∥₁_map more.1 (λ skip. (
+            f.done + units_skipped text at skip.0,
+            skip_is_begun f.done at now skip.0 f.fail more.0 skip.1,
+            (let s = f.spent in let l = skip.2 in omega (arith, s, l)),
+          ))
 
     -- If no offset is left to try, the search takes the cost of the failed attempts.
     pub failing-ends : (now : Failures) (left' : ℕ) (next : Option ℕ) → next ≡ None → Failing tree text before first left now left' next

@@ -1,7 +1,7 @@
 -- A search finds the same if it skips starts at which no match begins.
-use Rattle.std.proofs.Common.{◌≡◌, inl, inr, subst, ℕ, zero, suc, ◌+◌, ◌-◌, ◌<◌, ◌≤◌, Option, Some, None, refl, ap, sym, ◌∙◌, arith}
+use Rattle.std.proofs.Common.{◌≡◌, inl, inr, subst, ℕ, zero, suc, ◌+◌, ◌-◌, ◌<◌, ◌≤◌, Option, Some, None, Result, Ok, Err, refl, ap, sym, ◌∙◌, arith, option_map}
 use Rattle.std.proofs.lemmas.Bool.{cases_lt}
-use Rattle.std.specs.Prelude.{is_some, IsTrue}
+use Rattle.std.specs.Prelude.{is_some, IfOk, IsTrue}
 use Rattle.std.specs.Option.{option_or, option_map_or}
 use Rattle.regex_meaning.specs.Tree.{Tree}
 use Rattle.regex_meaning.specs.Text.{Text, last_place}
@@ -18,6 +18,28 @@ module _ (tree : Tree) (text : Text) where
   abbrev pub Walks : (first : ℕ) → (next : Option ℕ) → Type 0
   Walks first None = first_found tree.root text first ≡ None
   Walks first (Some at) = GoesFrom tree text first at
+
+-- No match begins between the first offset and the last if none begins before or after one between.
+pub skips-compose : (tree : Tree) (text : Text) (from at : ℕ) (next : Option ℕ) → NextStartSkipsNoMatch tree text from (Some at) → NextStartSkipsNoMatch tree text at next
+    → NextStartSkipsNoMatch tree text from next
+skips-compose tree text from at None first then = λ x on le less. elim (cases_lt x at) [
+  | inl before ↦ first.2 x on le before
+  | inr past ↦ then x on past less
+]
+skips-compose tree text from at (Some to) first then = (
+  then.0,
+  (let a = first.1 in let b = then.1 in omega (arith, a, b)),
+  λ x on le less. elim (cases_lt x at) [
+    | inl before ↦ first.2 x on le before
+    | inr past ↦ then.2 x on past less
+  ],
+)
+
+-- The same for a skip that may be refused.
+pub skip-composes : {P E : Type 0} (offset : P → ℕ) (tree : Tree) (text : Text) (from at : ℕ) (result : Result (Option P) E) → NextStartSkipsNoMatch tree text from (Some at)
+    → IfOk result (λ to. NextStartSkipsNoMatch tree text at (option_map offset to)) → IfOk result (λ to. NextStartSkipsNoMatch tree text from (option_map offset to))
+skip-composes offset tree text from at (Ok to) first then = skips-compose tree text from at (option_map offset to) first then
+skip-composes offset tree text from at (Err e) first then = tt
 
 -- `untried` is the number of offsets from the next one to the end of the text.
 abbrev pub untried : Text → (next : Option ℕ) → ℕ

@@ -31,6 +31,8 @@ use Rattle.regress_program.specs.declared.required_prefix_types.Prefix.{Prefix}
 use Rattle.regress_program.specs.PrefixesAndPrefilters.{units_allowed_by_prefix, prefix_allows_units_at, PrefixAllowsOnlyAsciiFirst}
 use Rattle.regress_search.proofs.AsciiUnitLemmas.{fit-boundary}
 use Rattle.regress_search.specs.StartSearch.{table_allows_unit_or_end_at, TableAllowsNoBoundary, IsFirstAllowedBoundary, IsFirstBoundaryWhere, AllowsOnlyLeadBytes, SkipsNoBoundary}
+use Rattle.regress_program.specs.declared.up_to_three_units.UpToThreeUnits.{UpToThreeUnits}
+use Rattle.regress_program.specs.ListedUnits.{is_listed}
 use Rattle.regress_search.specs.StartSearch.{IsFirstByteSearchHit, table_of_listed_units, prefix_fits_at}
 
 -- ---- Offsets behind a unit
@@ -191,18 +193,18 @@ few-pass p (x ∷ us) (suc len) u each h = by (nat_eq u x) refl (λ rest. few-pa
     by false e rest h = rest h
 
 -- If each listed unit is below 128, a unit in the list is.
-pub low-listed : (us : List ℕ) (len u : ℕ) → ((k : ℕ) → k < len → get_or us k 0 < 128) → contains (take len us) u ≡ true → u < 128
-low-listed us len u low listed = ltb-true u 128 (few-pass (λ u. nat_lt u 128) us len u (λ k less. lt-ltb (get_or us k 0) 128 (low k less)) listed)
+pub low-listed : (few : UpToThreeUnits) (u : ℕ) → ((k : ℕ) → k < few.len → get_or few.units k 0 < 128) → is_listed few u ≡ true → u < 128
+low-listed few u low listed = ltb-true u 128 (few-pass (λ u. nat_lt u 128) few.units few.len u (λ k less. lt-ltb (get_or few.units k 0) 128 (low k less)) listed)
 
-pub few-leads : (us : List ℕ) (len : ℕ) (wide : Bool) → ((k : ℕ) → k < len → begins_utf8_character (get_or us k 0) ≡ true) → AllowsOnlyLeadBytes wide (table_of_listed_units us len)
-few-leads us len wide each single_unit k small allowed = few-pass begins_utf8_character us len k each allowed
+pub few-leads : (few : UpToThreeUnits) (wide : Bool) → ((k : ℕ) → k < few.len → begins_utf8_character (get_or few.units k 0) ≡ true) → AllowsOnlyLeadBytes wide (table_of_listed_units few)
+few-leads few wide each single_unit k small allowed = few-pass begins_utf8_character few.units few.len k each allowed
 
 -- A byte below 128 begins a character.
 low-lead : (k : ℕ) → k < 128 → begins_utf8_character k ≡ true
 low-lead k low = ap (λ (b : Bool). b || (nat_le 0xC2 k && nat_le k 0xF4)) (lt-ltb k 0x80 low)
 
-pub low-leads : (us : List ℕ) (len : ℕ) (wide : Bool) → ((k : ℕ) → k < len → get_or us k 0 < 128) → AllowsOnlyLeadBytes wide (table_of_listed_units us len)
-low-leads us len wide low = few-leads us len wide (λ k less. low-lead (get_or us k 0) (low k less))
+pub low-leads : (few : UpToThreeUnits) (wide : Bool) → ((k : ℕ) → k < few.len → get_or few.units k 0 < 128) → AllowsOnlyLeadBytes wide (table_of_listed_units few)
+low-leads few wide low = few-leads few wide (λ k less. low-lead (get_or few.units k 0) (low k less))
 
 byte-key : (e : Encoding) (text : Text) → is_byte_encoding e ≡ true → (at : ℕ) → unit_key_at e (key (is_16_bit_encoding e)) text at ≡ slice_get (bytes_of text) at
 byte-key utf8 text bytes at = own-key (slice_get (text_units_in_encoding utf8 text) at) ∙ ap (λ (us : List ℕ). slice_get us at) (utf8-units text.characters)
@@ -239,16 +241,16 @@ found-in {are_bytes = are_bytes} {text = text} {pos = pos} w stands_at from ther
     (subst (λ o. IsFirstOccurrenceFrom are_bytes stands_at (bytes_of text) pos o) same found)))
 
 -- The first byte of a few units is the first boundary that their table allows.
-pub few-found : (w : SearchInput) → HasUnitsForTables w.encoding w.text → (us : List ℕ) (len from : ℕ) → is_byte_encoding w.encoding ≡ true → AllowsOnlyLeadBytes (is_16_bit_encoding w.encoding) (table_of_listed_units us len)
-    → from ≤ units w.text → (found : Option ℕ) → IsFirstOccurrenceFrom true (λ bytes. is_member_byte_at_index (take len us) bytes) (bytes_of w.text) from found
-    → IsFirstAllowedBoundary w (table_of_listed_units us len) from found
-few-found w has us len from bytes leads inside found f = by f.0 f.1 found f.2
+pub few-found : (w : SearchInput) → HasUnitsForTables w.encoding w.text → (few : UpToThreeUnits) (from : ℕ) → is_byte_encoding w.encoding ≡ true → AllowsOnlyLeadBytes (is_16_bit_encoding w.encoding) (table_of_listed_units few)
+    → from ≤ units w.text → (found : Option ℕ) → IsFirstOccurrenceFrom true (λ bytes. is_member_byte_at_index (take few.len few.units) bytes) (bytes_of w.text) from found
+    → IsFirstAllowedBoundary w (table_of_listed_units few) from found
+few-found w has few from bytes leads inside found f = by f.0 f.1 found f.2
   where
     all : List ℕ
     all = bytes_of w.text
 
     table : AllowedNextKeys
-    table = table_of_listed_units us len
+    table = table_of_listed_units few
 
     length-rest : length (drop from all) ≡ length all - from
     length-rest = length-drop from all
@@ -257,19 +259,19 @@ few-found w has us len from bytes leads inside found f = by f.0 f.1 found f.2
     count = byte-count w.encoding w.text bytes has.spelled
 
     test : ℕ → Bool
-    test i = is_member_byte_at_index (take len us) (drop from all) i
+    test i = is_member_byte_at_index (take few.len few.units) (drop from all) i
 
     -- The test at an index asks whether the byte at that offset is among the units.
-    tested : (i : ℕ) → test i ≡ contains (take len us) (get_or all (from + i) 0)
-    tested i = ap (contains (take len us)) (get_or-drop from all i 0)
+    tested : (i : ℕ) → test i ≡ contains (take few.len few.units) (get_or all (from + i) 0)
+    tested i = ap (contains (take few.len few.units)) (get_or-drop from all i 0)
 
-    allowed : (at : ℕ) → at < length all → table_allows_unit_or_end_at w table at ≡ contains (take len us) (get_or all at 0)
+    allowed : (at : ℕ) → at < length all → table_allows_unit_or_end_at w table at ≡ contains (take few.len few.units) (get_or all at 0)
     allowed at less = ap (table_allows_key_or_end table) (byte-key w.encoding w.text bytes at ∙ slice_get-get_or all at 0 less)
 
     excluded : (at : ℕ) → from ≤ at → at < length all → test (at - from) ≡ false → table_allows_unit_or_end_at w table at ≡ false
     excluded at le less none =
         let back : at ≡ from + (at - from) = omega (arith, le) in
-        allowed at less ∙ ap (λ at. contains (take len us) (get_or all at 0)) back ∙ sym (tested (at - from)) ∙ none
+        allowed at less ∙ ap (λ at. contains (take few.len few.units) (get_or all at 0)) back ∙ sym (tested (at - from)) ∙ none
 
     by : (index : Option ℕ) → FindsFirstPassingIndex test (length (drop from all)) index → (found : Option ℕ) → found ≡ option_map (λ i. from + i) index
         → IsFirstAllowedBoundary w table from found
@@ -283,8 +285,8 @@ few-found w has us len from bytes leads inside found f = by f.0 f.1 found f.2
         let there : to ≡ from + i = cc in
         let within = first.within in
         let less : to < length all = omega (arith, there, within, length-rest) in
-        let has_it : contains (take len us) (get_or all to 0) ≡ true =
-        ap (λ at. contains (take len us) (get_or all at 0)) there ∙ sym (tested i) ∙ first.passes in
+        let has_it : contains (take few.len few.units) (get_or all to 0) ≡ true =
+        ap (λ at. contains (take few.len few.units) (get_or all at 0)) there ∙ sym (tested i) ∙ first.passes in
         let keyed = byte-key w.encoding w.text bytes to ∙ slice_get-get_or all to 0 less in (
           boundary-lead w.encoding w.text has table leads to (get_or all to 0)
               keyed (byte-small w.encoding w.text has bytes to (get_or all to 0) keyed) has_it (λ no. let never : true ≡ false = sym bytes ∙ no in cc),

@@ -18,8 +18,9 @@ use Rattle.regress_machine.specs.FirstSetTables.{AllowedNextKeys, HasUnitsForTab
 use Rattle.regex_meaning.proofs.BoolLemmas.{and-left, and-right}
 use Rattle.std.specs.List.{list_all}
 use Rattle.regress_program.specs.declared.char_class_tables.Class.{Class}
-use Rattle.regress_program.specs.declared.char_class_tables.LeadBytesWhereScanMayStop.{LeadBytesWhereScanMayStop}
-use Rattle.regress_program.specs.ClassReadLengths.{StopBytesCoverPossibleEnds, is_stop, may_end_at}
+use Rattle.regress_program.specs.declared.up_to_three_units.UpToThreeUnits.{UpToThreeUnits}
+use Rattle.regress_program.specs.ListedUnits.{is_listed}
+use Rattle.regress_program.specs.ClassReadLengths.{StopBytesCoverPossibleEnds, may_end_at}
 use Rattle.regress_program.specs.TableKeysOfUnits.{key, is_16_bit_encoding, may_begin_surrogate_pair}
 use Rattle.regress_search.specs.CharLoopExits.{ClassFitsText, ClassAcceptsAllCharsTo}
 use Rattle.regress_search.specs.MarkedOffsets.{TestFailsThroughoutRange, IsFirstPassingOffset, MarksAllPassing}
@@ -63,37 +64,37 @@ one-unless true one stop ends p s = cc
 one-unless false true stop ends p s = refl
 one-unless false false stop ends p s = let never : true ≡ false = sym (ends refl) ∙ s in cc
 
-module _ (wide : Bool) (is_wide : wide ≡ true) (steps : List ℕ) (stops : LeadBytesWhereScanMayStop) (told : StopBytesCoverPossibleEnds wide steps stops) where
+module _ (wide : Bool) (is_wide : wide ≡ true) (steps : List ℕ) (stops : UpToThreeUnits) (told : StopBytesCoverPossibleEnds wide steps stops) where
   -- The stop set does not contain the key 128.
-  pub stops-not128 : contains (take stops.len stops.bytes) 128 ≡ false
-  stops-not128 = false_from_ne_true (contains (take stops.len stops.bytes) 128) (λ has.
-      let one = listed-at stops.bytes stops.len 128 has in
+  pub stops-not128 : is_listed stops 128 ≡ false
+  stops-not128 = false_from_ne_true (is_listed stops 128) (λ has.
+      let one = listed-at stops.units stops.len 128 has in
       let ends : may_end_at wide steps 128 ≡ true = ap (may_end_at wide steps) (sym one.2) ∙ told.set.ends one.0 one.1 in
       let never : true ≡ false = sym ends ∙ told.told is_wide in
       cc)
 
   -- A key that is no stop and may not begin a pair has the step one.
-  pub one-beside : (k : ℕ) → k < 256 → (may_begin_surrogate_pair k || contains (take stops.len stops.bytes) k) ≡ false → (slice_index_or steps k 0 == 1) ≡ true
+  pub one-beside : (k : ℕ) → k < 256 → (may_begin_surrogate_pair k || is_listed stops k) ≡ false → (slice_index_or steps k 0 == 1) ≡ true
   one-beside k small out =
-      let both = or_parts (may_begin_surrogate_pair k) (contains (take stops.len stops.bytes) k) out in
-      one-unless (may_begin_surrogate_pair k) (slice_index_or steps k 0 == 1) (is_stop stops k)
+      let both = or_parts (may_begin_surrogate_pair k) (is_listed stops k) out in
+      one-unless (may_begin_surrogate_pair k) (slice_index_or steps k 0 == 1) (is_listed stops k)
       (λ ends. told.set.all k small (subst (λ b. may_end_at b steps k ≡ true) (sym is_wide) ends)) both.0 both.1
 
 module _ (w : SearchInput) (has : HasUnitsForTables w.encoding w.text) (wide : is_16_bit_encoding w.encoding ≡ true) (class : Class) (readable : ClassFitsText w class)
-    (stops : LeadBytesWhereScanMayStop) (told : StopBytesCoverPossibleEnds (is_16_bit_encoding w.encoding) class.steps stops) where
-  one-there : (at : ℕ) → at < units w.text → unit_has_listed_key true stops.bytes stops.len w at ≡ false → IsKeyTestAt w (is_one_unit class) at true
+    (stops : UpToThreeUnits) (told : StopBytesCoverPossibleEnds (is_16_bit_encoding w.encoding) class.steps stops) where
+  one-there : (at : ℕ) → at < units w.text → unit_has_listed_key true stops w at ≡ false → IsKeyTestAt w (is_one_unit class) at true
   one-there at less out =
       let us = text_units_in_encoding w.encoding w.text in
       let u = get_or us at 0 in
       let there : slice_get us at ≡ Some u = slice_get-get_or us at 0 (omega (arith, less, units-length w.encoding w.text has.spelled)) in
       let k = key (is_16_bit_encoding w.encoding) u in
       let small : k < 256 = key-small (is_16_bit_encoding w.encoding) u (unit-fits w.encoding w.text has at u there) in
-      let beside : (may_begin_surrogate_pair k || contains (take stops.len stops.bytes) k) ≡ false =
-      ap (λ b. may_begin_surrogate_pair (key b u) || contains (take stops.len stops.bytes) (key b u)) wide
-      ∙ sym (ap (λ o. is_some_and o (λ unit. (true && may_begin_surrogate_pair (key true unit)) || contains (take stops.len stops.bytes) (key true unit))) there) ∙ out in
+      let beside : (may_begin_surrogate_pair k || is_listed stops k) ≡ false =
+      ap (λ b. may_begin_surrogate_pair (key b u) || is_listed stops (key b u)) wide
+      ∙ sym (ap (λ o. is_some_and o (λ unit. (true && may_begin_surrogate_pair (key true unit)) || is_listed stops (key true unit))) there) ∙ out in
       (k, ap (option_map (key (is_16_bit_encoding w.encoding))) there, small, one-beside (is_16_bit_encoding w.encoding) wide class.steps stops told k small beside)
 
-  pub accepts-until : (from to : ℕ) → IsBoundary w.text from → from ≤ to → to ≤ units w.text → TestFailsThroughoutRange (unit_has_listed_key true stops.bytes stops.len w) from to → ClassAcceptsAllCharsTo w class from to
+  pub accepts-until : (from to : ℕ) → IsBoundary w.text from → from ≤ to → to ≤ units w.text → TestFailsThroughoutRange (unit_has_listed_key true stops w) from to → ClassAcceptsAllCharsTo w class from to
   accepts-until from to on le inside none =
       let whole : from + (to - from) ≡ to = omega (arith, le) in
       subst (ClassAcceptsAllCharsTo w class from) whole
@@ -125,13 +126,13 @@ all-listed p (x ∷ xs) (suc n) k all has = by (nat_eq k x) refl has (all-listed
     by true same h later = ap p (eqb-true k x same) ∙ and-left (p x) (list_all p xs) all
     by false other h later = later h
 
-pub listed-told : (keys : List ℕ) (len : ℕ) → list_all bits_identify_key keys ≡ true → contains (take len keys) 128 ≡ false
-listed-told keys len all = false_from_ne_true (contains (take len keys) 128) (λ has.
-    let never : false ≡ true = all-listed bits_identify_key keys len 128 all has in
+pub listed-told : (few : UpToThreeUnits) → list_all bits_identify_key few.units ≡ true → is_listed few 128 ≡ false
+listed-told few all = false_from_ne_true (is_listed few 128) (λ has.
+    let never : false ≡ true = all-listed bits_identify_key few.units few.len 128 all has in
     cc)
 
-pub wide-leads : (e : Encoding) → is_16_bit_encoding e ≡ true → (keys : List ℕ) (len : ℕ) → AllowsOnlyLeadBytes (is_16_bit_encoding e) (table_of_listed_units keys len)
-wide-leads e wide keys len narrow = let never : true ≡ false = sym wide ∙ narrow in cc
+pub wide-leads : (e : Encoding) → is_16_bit_encoding e ≡ true → (few : UpToThreeUnits) → AllowsOnlyLeadBytes (is_16_bit_encoding e) (table_of_listed_units few)
+wide-leads e wide few narrow = let never : true ≡ false = sym wide ∙ narrow in cc
 
 -- Bits identify each key below 128.
 pub low-told : (k : ℕ) → k < 128 → bits_identify_key k ≡ true
@@ -162,31 +163,31 @@ ends-no-pair unit told = elim (cases_lt unit 0xDC00) [
   ]
 ]
 
-module _ (w : SearchInput) (has : HasUnitsForTables w.encoding w.text) (wide : is_16_bit_encoding w.encoding ≡ true) (keys : List ℕ) (len : ℕ)
-    (told : (k : ℕ) → contains (take len keys) k ≡ true → bits_identify_key k ≡ true) where
+module _ (w : SearchInput) (has : HasUnitsForTables w.encoding w.text) (wide : is_16_bit_encoding w.encoding ≡ true) (few : UpToThreeUnits)
+    (told : (k : ℕ) → is_listed few k ≡ true → bits_identify_key k ≡ true) where
   abbrev table : AllowedNextKeys
-  table = table_of_listed_units keys len
+  table = table_of_listed_units few
 
-  same-test : (at : ℕ) → table_allows_unit_or_end_at w table at ≡ unit_has_listed_key false keys len w at
+  same-test : (at : ℕ) → table_allows_unit_or_end_at w table at ≡ unit_has_listed_key false few w at
   same-test at = by (slice_get (text_units_in_encoding w.encoding w.text) at)
     where
       by : (o : Option ℕ) → table_allows_key_or_end table (option_map (key (is_16_bit_encoding w.encoding)) o)
-          ≡ is_some_and o (λ unit. (false && may_begin_surrogate_pair (key true unit)) || contains (take len keys) (key true unit))
+          ≡ is_some_and o (λ unit. (false && may_begin_surrogate_pair (key true unit)) || is_listed few (key true unit))
       by None = refl
-      by (Some u) = ap (λ b. contains (take len keys) (key b u)) wide
+      by (Some u) = ap (λ b. is_listed few (key b u)) wide
 
-  none-before : (from to : ℕ) → to ≤ units w.text → TestFailsThroughoutRange (unit_has_listed_key false keys len w) from to → NoBoundaryWhere w (λ at. table_allows_unit_or_end_at w table at) from to
+  none-before : (from to : ℕ) → to ≤ units w.text → TestFailsThroughoutRange (unit_has_listed_key false few w) from to → NoBoundaryWhere w (λ at. table_allows_unit_or_end_at w table at) from to
   none-before from to inside none at on le less = same-test at ∙ none at le less
 
-  hit-boundary : (at : ℕ) → unit_has_listed_key false keys len w at ≡ true → IsBoundary w.text at
+  hit-boundary : (at : ℕ) → unit_has_listed_key false few w at ≡ true → IsBoundary w.text at
   hit-boundary at hit = by (slice_get (text_units_in_encoding w.encoding w.text) at) refl hit
     where
       by : (o : Option ℕ) → slice_get (text_units_in_encoding w.encoding w.text) at ≡ o
-          → is_some_and o (λ unit. (false && may_begin_surrogate_pair (key true unit)) || contains (take len keys) (key true unit)) ≡ true → IsBoundary w.text at
+          → is_some_and o (λ unit. (false && may_begin_surrogate_pair (key true unit)) || is_listed few (key true unit)) ≡ true → IsBoundary w.text at
       by None there h = cc
       by (Some u) there h = beside-boundary w.encoding wide w.text has at u there (ends-no-pair u (told (key true u) h))
 
-  pub wide-found : (from : ℕ) (found : Option ℕ) → IsFirstPassingOffset (unit_has_listed_key false keys len w) from (units w.text) found → IsFirstAllowedBoundary w table from found
+  pub wide-found : (from : ℕ) (found : Option ℕ) → IsFirstPassingOffset (unit_has_listed_key false few w) from (units w.text) found → IsFirstAllowedBoundary w table from found
   wide-found from None none = λ at on le less. elim (cases_lt at (units w.text)) [
     | inl inside ↦ same-test at ∙ none at le inside
     | inr past ↦ past-allowed w has table at past
@@ -243,6 +244,10 @@ or-assoc : (a b c : Bool) → ((a || b) || c) ≡ (a || (b || c))
 or-assoc true b c = refl
 or-assoc false b c = refl
 
+-- The set of the first `len` of these keys.
+abbrev pub listing : (keys : List ℕ) (len : ℕ) → UpToThreeUnits
+listing keys len = record { units = keys; len = len }
+
 take-none : (n k : ℕ) → contains (take n []) k ≡ false
 take-none zero k = refl
 take-none (suc n) k = refl
@@ -289,9 +294,9 @@ module _ (w : SearchInput) (has : HasUnitsForTables w.encoding w.text) (wide : i
   -- Tests that agree with the listed keys on each 16-bit unit find the same first offset.
   first-agree : (pairs : Bool) (test asks : ℕ → Bool) (len from end : ℕ) (found : Option ℕ) → end ≡ units w.text → ((at : ℕ) → test at ≡ is_some_and (input_unit_at w at) asks)
       → ((unit : ℕ) → unit < 0x1_0000 → asks unit ≡ ((pairs && may_begin_surrogate_pair (key true unit)) || contains (take len keys) (key true unit)))
-      → IsFirstPassingOffset test from end found → IsFirstPassingOffset (unit_has_listed_key pairs keys len w) from (units w.text) found
+      → IsFirstPassingOffset test from end found → IsFirstPassingOffset (unit_has_listed_key pairs (listing keys len) w) from (units w.text) found
   first-agree pairs test asks len from end found ends is same first =
-      first-same test (unit_has_listed_key pairs keys len w) from (units w.text) found (λ at less. is at ∙ by at (input_unit_at w at) refl)
+      first-same test (unit_has_listed_key pairs (listing keys len) w) from (units w.text) found (λ at less. is at ∙ by at (input_unit_at w at) refl)
       (subst (λ to. IsFirstPassingOffset test from to found) ends first)
     where
       by : (at : ℕ) (o : Option ℕ) → input_unit_at w at ≡ o
@@ -301,14 +306,14 @@ module _ (w : SearchInput) (has : HasUnitsForTables w.encoding w.text) (wide : i
 
   module _ (from end : ℕ) (found : Option ℕ) (ends : end ≡ units w.text) where
     pub first-one : (a : UnitBits) → contains (take 1 keys) 128 ≡ false → Tells a 0 → IsFirstPassingOffset (at_kind a) from end found
-        → IsFirstPassingOffset (unit_has_listed_key false keys 1 w) from (units w.text) found
+        → IsFirstPassingOffset (unit_has_listed_key false (listing keys 1) w) from (units w.text) found
     first-one a out tells =
         let a128 = not128 (get_or keys 0 0) (sym (listed-one keys 128 three) ∙ out) in
         first-agree false (at_kind a) (has_kind a) 1 from end found ends (λ at. refl)
         (λ unit small. tells a128 unit small ∙ sym (listed-one keys (key true unit) three))
 
     pub first-two : (a b : UnitBits) → contains (take 2 keys) 128 ≡ false → Tells a 0 → Tells b 1 → IsFirstPassingOffset (λ at. at_kind a at || at_kind b at) from end found
-        → IsFirstPassingOffset (unit_has_listed_key false keys 2 w) from (units w.text) found
+        → IsFirstPassingOffset (unit_has_listed_key false (listing keys 2) w) from (units w.text) found
     first-two a b out tells_a tells_b =
         let outs = or_parts (128 == get_or keys 0 0) (128 == get_or keys 1 0) (sym (listed-two keys 128 three) ∙ out) in
         first-agree false (λ at. at_kind a at || at_kind b at) (λ u. has_kind a u || has_kind b u) 2 from end found ends
@@ -317,7 +322,7 @@ module _ (w : SearchInput) (has : HasUnitsForTables w.encoding w.text) (wide : i
         ∙ sym (listed-two keys (key true unit) three))
 
     pub first-three : (len : ℕ) → 3 ≤ len → (a b c : UnitBits) → contains (take len keys) 128 ≡ false → Tells a 0 → Tells b 1 → Tells c 2
-        → IsFirstPassingOffset (λ at. (at_kind a at || at_kind b at) || at_kind c at) from end found → IsFirstPassingOffset (unit_has_listed_key false keys len w) from (units w.text) found
+        → IsFirstPassingOffset (λ at. (at_kind a at || at_kind b at) || at_kind c at) from end found → IsFirstPassingOffset (unit_has_listed_key false (listing keys len) w) from (units w.text) found
     first-three len most a b c out tells_a tells_b tells_c =
         let outs = or_parts (128 == get_or keys 0 0) (128 == get_or keys 1 0 || 128 == get_or keys 2 0) (sym (listed-three keys len 128 three most) ∙ out) in
         let last = or_parts (128 == get_or keys 1 0) (128 == get_or keys 2 0) outs.1 in
@@ -335,20 +340,20 @@ module _ (w : SearchInput) (has : HasUnitsForTables w.encoding w.text) (wide : i
     abbrev at_pair : ℕ → Bool
     at_pair at = is_some_and (input_unit_at w at) has_pair
 
-    pub pair-none : IsFirstPassingOffset at_pair from end found → IsFirstPassingOffset (unit_has_listed_key true keys 0 w) from (units w.text) found
+    pub pair-none : IsFirstPassingOffset at_pair from end found → IsFirstPassingOffset (unit_has_listed_key true (listing keys 0) w) from (units w.text) found
     pair-none =
         first-agree true at_pair has_pair 0 from end found ends (λ at. refl)
         (λ unit small. pair-told unit small ∙ or-none (may_begin_surrogate_pair (key true unit)))
 
     pub pair-one : (a : UnitBits) → contains (take 1 keys) 128 ≡ false → Tells a 0 → IsFirstPassingOffset (λ at. at_pair at || at_kind a at) from end found
-        → IsFirstPassingOffset (unit_has_listed_key true keys 1 w) from (units w.text) found
+        → IsFirstPassingOffset (unit_has_listed_key true (listing keys 1) w) from (units w.text) found
     pair-one a out tells =
         let a128 = not128 (get_or keys 0 0) (sym (listed-one keys 128 three) ∙ out) in
         first-agree true (λ at. at_pair at || at_kind a at) (λ u. has_pair u || has_kind a u) 1 from end found ends (λ at. either-of (input_unit_at w at) has_pair (has_kind a))
         (λ unit small. (λ i. pair-told unit small i || (tells a128 unit small ∙ sym (listed-one keys (key true unit) three)) i))
 
     pub pair-two : (a b : UnitBits) → contains (take 2 keys) 128 ≡ false → Tells a 0 → Tells b 1 → IsFirstPassingOffset (λ at. (at_pair at || at_kind a at) || at_kind b at) from end found
-        → IsFirstPassingOffset (unit_has_listed_key true keys 2 w) from (units w.text) found
+        → IsFirstPassingOffset (unit_has_listed_key true (listing keys 2) w) from (units w.text) found
     pair-two a b out tells_a tells_b =
         let outs = or_parts (128 == get_or keys 0 0) (128 == get_or keys 1 0) (sym (listed-two keys 128 three) ∙ out) in
         first-agree true (λ at. (at_pair at || at_kind a at) || at_kind b at) (λ u. (has_pair u || has_kind a u) || has_kind b u) 2 from end found ends
@@ -358,7 +363,7 @@ module _ (w : SearchInput) (has : HasUnitsForTables w.encoding w.text) (wide : i
         ∙ ap (λ x. may_begin_surrogate_pair (key true unit) || x) (sym (listed-two keys (key true unit) three)))
 
     pub pair-three : (len : ℕ) → 3 ≤ len → (a b c : UnitBits) → contains (take len keys) 128 ≡ false → Tells a 0 → Tells b 1 → Tells c 2
-        → IsFirstPassingOffset (λ at. ((at_pair at || at_kind a at) || at_kind b at) || at_kind c at) from end found → IsFirstPassingOffset (unit_has_listed_key true keys len w) from (units w.text) found
+        → IsFirstPassingOffset (λ at. ((at_pair at || at_kind a at) || at_kind b at) || at_kind c at) from end found → IsFirstPassingOffset (unit_has_listed_key true (listing keys len) w) from (units w.text) found
     pair-three len most a b c out tells_a tells_b tells_c =
         let outs = or_parts (128 == get_or keys 0 0) (128 == get_or keys 1 0 || 128 == get_or keys 2 0) (sym (listed-three keys len 128 three most) ∙ out) in
         let last = or_parts (128 == get_or keys 1 0) (128 == get_or keys 2 0) outs.1 in

@@ -3,11 +3,11 @@ use Rattle.std.specs.Borrow.{Bor}
 use Rattle.std.specs.Prelude.{◌≡◌, ℕ, Bool, List, None, IsAscii}
 use Rattle.regex_meaning.specs.Text.{Text, ascii_text}
 use Rattle.regex_meaning.specs.Tree.{Tree}
-use Rattle.regress_search.specs.declared.exec.MatchProducer.{Ghosts}
+use Rattle.regress_search.specs.declared.exec.search_state.SearchState.{Ghosts}
 
 -- A new executor searches for the tree in the text, has no step limit, and reads the text as the
 -- flag `unicode` of the tree says.
-abbrev pub IsNewExecutor : {E P : Type 0} → Ghosts E P → Tree → (text_of : (unicode : Bool) → Text) → E → Type 0
+abbrev pub IsNewExecutor : {E : Type 0} → Ghosts E → Tree → (text_of : (unicode : Bool) → Text) → E → Type 0
 IsNewExecutor ghosts tree text_of e =
     (ghosts.tree e ≡ tree) × (ghosts.text e ≡ text_of tree.flags.unicode) × (ghosts.budget e ≡ None)
 

@@ -29,6 +29,12 @@ abbrev pub TellsIfStepLimitReached : {X : Type 0} → Result X SearchError → (
 TellsIfStepLimitReached (Ok x) out_of_steps = out_of_steps ≡ false
 TellsIfStepLimitReached (Err e) out_of_steps = e ≡ cause_of_error out_of_steps
 
+-- A skip of candidate starts is refused only if it needs more work than is left. The error is
+-- `Memory`, as for an attempt that needs more.
+abbrev pub IsRefusedByWorkLimit : SearchError → (out_of_steps out_of_work enough : Bool) → Type 0
+IsRefusedByWorkLimit e out_of_steps out_of_work enough =
+    (e ≡ Memory) × (out_of_steps ≡ false) × (out_of_work ≡ true) × (enough ≡ false)
+
 -- If steps are counted and an attempt has begun, an allocation failure has spent at least one step.
 abbrev pub AllocFailureCostsAStep : {X : Type 0} → (Begun : Type 0) → (before : Option ℕ) → Result X SearchError
     → (after : Option ℕ) → Type 0

@@ -1,6 +1,7 @@
 -- Offsets that a table allows, and candidate starts: the offsets where a match may begin.
-use Rattle.std.specs.Prelude.{◌≡◌, ◌⊎◌, ◌≤◌, ◌<◌, ℕ, ◌+◌, Bool, true, false, List, map, take, Option, Some, None}
-use Rattle.regex_meaning.specs.NumberListHelpers.{contains}
+use Rattle.std.specs.Prelude.{◌≡◌, ◌⊎◌, ◌≤◌, ◌<◌, ℕ, ◌+◌, Bool, true, false, List, map, Option, Some, None}
+use Rattle.regress_program.specs.ListedUnits.{is_listed}
+use Rattle.regress_program.specs.declared.up_to_three_units.UpToThreeUnits.{UpToThreeUnits}
 use Rattle.regex_meaning.specs.Text.{Text, rightwards}
 use Rattle.regex_meaning.specs.CodeUnitOffsets.{IsBoundary, units}
 use Rattle.regex_meaning.specs.CodeUnits.{text_units_in_encoding}
@@ -57,9 +58,9 @@ IsFirstAllowedBoundaryOrEnd w table from at = IsFirstAllowedBoundary w table fro
 abbrev pub AllowsOnlyLeadBytes : (wide : Bool) → AllowedNextKeys → Type 0
 AllowsOnlyLeadBytes wide table = wide ≡ false → (k : ℕ) → k < 256 → table.keys k ≡ true → begins_utf8_character k ≡ true
 
--- The table that allows the first `len` code units of a list.
-abbrev pub table_of_listed_units : (units : List ℕ) → (len : ℕ) → AllowedNextKeys
-table_of_listed_units units len = record { keys = contains (take len units); end = false }
+-- The table that allows up to three code units.
+abbrev pub table_of_listed_units : UpToThreeUnits → AllowedNextKeys
+table_of_listed_units few = record { keys = is_listed few; end = false }
 
 -- `to` is a later offset, with no boundary between `at` and `to`. If code units are not bytes, `to`
 -- is a boundary.

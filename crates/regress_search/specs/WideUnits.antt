@@ -1,8 +1,9 @@
 -- Sets of 16-bit units that can be recognized by some of their bits.
-use Rattle.std.specs.Prelude.{◌≡◌, ◌<◌, ◌≤◌, ◌⊎◌, ◌==◌, ◌&&◌, ◌||◌, not, ℕ, Bool, true, false, List, take, length, Option, Some, None}
-use Rattle.regex_meaning.specs.NumberListHelpers.{contains}
+use Rattle.std.specs.Prelude.{◌≡◌, ◌<◌, ◌==◌, ◌&&◌, ◌||◌, not, ℕ, Bool, true, false}
 use Rattle.regex_meaning.specs.Outcomes.{is_some_and}
 use Rattle.regress_input.specs.TextCodeUnits.{has_bits}
+use Rattle.regress_program.specs.ListedUnits.{is_listed}
+use Rattle.regress_program.specs.declared.up_to_three_units.UpToThreeUnits.{UpToThreeUnits}
 use Rattle.regress_program.specs.TableKeysOfUnits.{key, may_begin_surrogate_pair}
 use Rattle.regress_search.specs.declared.few_wide_units.UnitBits.{UnitBits}
 use Rattle.regress_search.specs.TreePlanAndText.{SearchInput}
@@ -17,14 +18,13 @@ BitsIdentifyUnitsOfKey kind k = (unit : ℕ) → unit < 0x1_0000 → has_bits ki
 abbrev pub bits_identify_key : (k : ℕ) → Bool
 bits_identify_key k = not (k == 128 || k == 238 || k == 239)
 
--- Whether the key of the unit at an offset is one of the first `len` in the list. If `pairs` is
--- set, units that may begin a surrogate pair count too.
-abbrev pub unit_has_listed_key : (pairs : Bool) (keys : List ℕ) (len : ℕ) → SearchInput → (at : ℕ) → Bool
-unit_has_listed_key pairs keys len w at =
-    is_some_and (input_unit_at w at) (λ unit. (pairs && may_begin_surrogate_pair (key true unit)) || contains
-    (take len keys)
-    (key true unit))
+-- Whether the key of the unit at an offset is one of up to three. If `pairs` is set, units that may
+-- begin a surrogate pair count too.
+abbrev pub unit_has_listed_key : (pairs : Bool) → UpToThreeUnits → SearchInput → (at : ℕ) → Bool
+unit_has_listed_key pairs few w at =
+    is_some_and (input_unit_at w at) (λ unit. (pairs && may_begin_surrogate_pair (key true unit))
+    || is_listed few (key true unit))
 
--- The first `len` keys of the list do not include 128, whose units no bits identify.
-abbrev pub BitsIdentifyListedKeys : (keys : List ℕ) (len : ℕ) → Type 0
-BitsIdentifyListedKeys keys len = contains (take len keys) 128 ≡ false
+-- The keys do not include 128, whose units no bits identify.
+abbrev pub BitsIdentifyListedKeys : UpToThreeUnits → Type 0
+BitsIdentifyListedKeys few = is_listed few 128 ≡ false

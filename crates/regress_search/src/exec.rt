@@ -1,15 +1,15 @@
 //! Matches, the iterator over them, and the traits of executors.
 
-ghost use Rattle.std.specs.Prelude.{◌≡◌, ◌≤◌, ℕ, ⊤, Bool, true, false, Option, map, option_map, IfOk, IfErr, OnErr, OnSome, IfNone, if◌then◌else◌, not, Some, None, string_bytes};
+ghost use Rattle.std.specs.Prelude.{◌≡◌, ◌≤◌, Bool, map, option_map, IfOk, IfErr, OnErr, OnSome, IfNone, not, Some, None, string_bytes};
 ghost use Rattle.std.specs.Iterator.{at_most};
 ghost use Rattle.std.specs.Option.{ForSome};
-ghost use Rattle.regex_meaning.specs.{Tree.{Tree}, Text.{Text}, CodeUnitOffsets.{HasRisingPlaceOffsets, IsBoundary, IsBoundaryOrPastEnd, is_past, offset_within, units}, SearchAnswers.{first_answer}};
+ghost use Rattle.regex_meaning.specs.{Text.{Text}, CodeUnitOffsets.{HasRisingPlaceOffsets, IsBoundary, IsBoundaryOrPastEnd, is_past, offset_within, units}, SearchAnswers.{first_answer}};
 ghost use Rattle.regex_meaning.specs.StepBudget.{answers_within, finishes_within, need_from};
 ghost use Rattle.regex_pattern_front.specs.AstToSpecTree.{tree_of};
 ghost use Rattle.regress_search.specs.SearchEffects.{IsNextStartAfterFirstMatch, SpendsNeedOrReachesLimit, cause_of_error};
 ghost use Rattle.regress_search.specs.RemainingAnswers.{RemainingView, remaining_answers_from, NextYields, EndsAtTextEnd, max_items_left};
 ghost use Rattle.regress_search.specs.MatchesWithinWork.{CallKeepsWorkEnough, SearchKeepsWorkEnough, is_work_enough};
-ghost use Rattle.regress_search.specs.CostsOfSearches.{CallSpendsExactCost, ContinuesAfterCall, Failures, IfWorkIsCounted, SearchCosts, SpendsExactCost, WorkCosts};
+ghost use Rattle.regress_search.specs.CostsOfSearches.{CallSpendsExactCost, ContinuesAfterCall, IfWorkIsCounted, SearchCosts, SpendsExactCost};
 
 use regress_input::position::PositionType;
 use regress_program::insn::{CompiledRegex, GroupNames};
@@ -20,9 +20,11 @@ use thiserror::Error;
 
 mod group_iterators;
 mod match_methods;
+mod search_state;
 mod work_matches;
 
 pub use self::group_iterators::{Groups, NamedGroups};
+pub use self::search_state::SearchState;
 pub use self::work_matches::{WorkError, WorkLimitedProducer, WorkMatches};
 
 /// Why a search failed.
@@ -96,53 +98,18 @@ impl Match {
 }
 
 /// A searcher that finds the matches of a pattern in a text, one at a time.
-pub trait MatchProducer {
+pub trait MatchProducer: SearchState {
     ghost use Rattle.regress_search.specs.MatchesAsSpecAnswers.{answer_of};
 
     /// A position at which a search can continue.
     type Position: PositionType;
 
-    // The tree of the pattern.
-    ghost tree: { Self → Tree };
-
-    // The text.
-    ghost text: { Self → Text };
-
-    // The steps that are left; `None` if they are not counted.
-    ghost budget: { Self → Option ℕ } = { λ _. None };
-
-    // Whether the last search reached the step limit.
-    ghost out_of_steps: { Self → Bool } = { λ _. false };
-
-    // Whether the work limit suffices for attempts in ascending order of offsets, each at `ahead`
-    // or later.
-    ghost enough: { Self → Bool } = { λ _. true };
-
-    // The least offset of the next such attempt.
-    ghost ahead: { Self → ℕ } = { λ _. 0 };
-
-    // Whether the last search reached the work limit.
-    ghost out_of_work: { Self → Bool } = { λ _. false };
-
-    // The work that is left, if work is counted.
-    ghost left: { Self → ℕ } = { λ _. 0 };
-
-    // Whether work is counted.
-    ghost counts_work: { Bool } = { false };
-
-    // The failures that are known. The costs of attempts depend on them.
-    ghost failures: { Self → Failures } = { λ _ _ _ _. false };
-
-    // What attempts cost, if work is counted, and whether starts may be skipped (see
-    // `CostsOfSearches`).
-    ghost costs: { WorkCosts } = { record { of_attempt = λ _ _ _ _ _ _. ⊤; may_skip = false } };
-
     /// Returns the position of an offset in code units. The offset is a boundary, or past the end
     /// of the text; then the result is `None`.
     fn initial_position(&self, offset: usize) -> Option<Self::Position>
-        requires { IsBoundaryOrPastEnd (text self.now) offset }
+        requires { IsBoundaryOrPastEnd (Self.text self.now) offset }
         ensures { option_map Self.Position.offset result
-            ≡ offset_within (text self.now) offset };
+            ≡ offset_within (Self.text self.now) offset };
 
     /// Finds the first match at a position or later. `next_start` becomes the position at which the
     /// list of matches continues, or `None` if the list ends. It is unchanged if there is no match
@@ -162,26 +129,26 @@ pub trait MatchProducer {
         pos: Self::Position,
         next_start: &mut Option<Self::Position>,
     ) -> Result<Option<Match>, SearchError>
-        requires { IsBoundary (text self.old) (Self.Position.offset pos) }
+        requires { IsBoundary (Self.text self.old) (Self.Position.offset pos) }
         ensures found { let at = Self.Position.offset in IfOk result (λ m.
-            (option_map answer_of m ≡ first_answer (tree self.old).root (text self.old) (at pos))
-            × OnSome m (IsNextStartAfterFirstMatch (tree self.old) (text self.old) (at pos)
+            (option_map answer_of m ≡ first_answer (Self.tree self.old).root (Self.text self.old) (at pos))
+            × OnSome m (IsNextStartAfterFirstMatch (Self.tree self.old) (Self.text self.old) (at pos)
             (option_map at next_start.new))) }
         ensures stays { IfOk result (λ m. IfNone m (next_start.new ≡ next_start.old))
             × OnErr result (next_start.new ≡ next_start.old) }
-        ensures steps { SpendsNeedOrReachesLimit (need_from (tree self.old) (text self.old) (Self.Position.offset pos))
-            (budget self.old) result (budget self.new) }
-        ensures cause { IfErr result (λ e. e ≡ cause_of_error (out_of_steps self.new)) }
-        ensures work { let at = Self.Position.offset in SearchKeepsWorkEnough (enough self.old)
-            (ahead self.old) (at pos)
-            result (enough self.new) (ahead self.new) (option_map at next_start.new) (out_of_work self.new) }
-        ensures left { left self.new ≤ left self.old }
-        ensures cost { IfWorkIsCounted counts_work (SpendsExactCost (SearchCosts costs (tree self.old)
-            (text self.old) (failures self.old) (Some (Self.Position.offset pos)))
-            (left self.old) result (out_of_work self.new) (left self.new) (failures self.new)) }
-        ensures same { (tree self.new ≡ tree self.old) × (text self.new ≡ text self.old) };
+        ensures steps { SpendsNeedOrReachesLimit (need_from (Self.tree self.old) (Self.text self.old)
+            (Self.Position.offset pos)) (Self.budget self.old) result (Self.budget self.new) }
+        ensures cause { IfErr result (λ e. e ≡ cause_of_error (Self.out_of_steps self.new)) }
+        ensures work { let at = Self.Position.offset in SearchKeepsWorkEnough (Self.enough self.old)
+            (Self.ahead self.old) (at pos) result (Self.enough self.new) (Self.ahead self.new)
+            (option_map at next_start.new) (Self.out_of_work self.new) }
+        ensures left { Self.left self.new ≤ Self.left self.old }
+        ensures cost { IfWorkIsCounted Self.counts_work (SpendsExactCost (SearchCosts Self.costs (Self.tree self.old)
+            (Self.text self.old) (Self.failures self.old) (Some (Self.Position.offset pos)))
+            (Self.left self.old) result (Self.out_of_work self.new) (Self.left self.new) (Self.failures self.new)) }
+        ensures same { (Self.tree self.new ≡ Self.tree self.old) × (Self.text self.new ≡ Self.text self.old) };
 
-    ghost is_text: { (it : Self) → HasRisingPlaceOffsets (text it) };
+    ghost is_text: { (it : Self) → HasRisingPlaceOffsets (Self.text it) };
 }
 
 /// A producer of matches that is created from a program and a text. `can_search` says which texts
@@ -211,9 +178,17 @@ pub trait ProducerFromProgramAndText<'r>: MatchProducer {
 /// An executor that runs a program for bytes on a `str`. It is created by `new` of
 /// `ProducerFromProgramAndText`.
 pub trait Executor<'r, 't>: ProducerFromProgramAndText<'r, Text = &'t str> {
+    ghost use Rattle.regress_search.specs.NewExecutorsAndAsciiTexts.{CanSearchAllAsciiTexts, ReadsBytesAsAscii};
+
     /// The same executor for ASCII texts. A function that uses it as an executor states this in its
     /// bounds.
-    type AsAscii;
+    type AsAscii: ProducerFromProgramAndText<'r, Text = &'t str>;
+
+    // The executor for ASCII texts can search each ASCII text.
+    ghost takes_ascii: { CanSearchAllAsciiTexts Self.AsAscii.can_search };
+
+    // It reads each byte as a character.
+    ghost reads_ascii: { ReadsBytesAsAscii Self.AsAscii.text_of };
 }
 
 /// An iterator over the matches of a pattern in a text. Contracts see the answers still to come.

@@ -1,50 +1,42 @@
-//! Searches for one of a few code units.
+//! Searches for one of a few bytes.
 
-ghost use Rattle.std.specs.Prelude.{◌≡◌, take, length};
-ghost use Rattle.regex_meaning.specs.NumberListHelpers.{contains};
+ghost use Rattle.std.specs.Prelude.{length, take};
 ghost use Rattle.regex_pattern_front.specs.FirstPassingIndex.{FindsFirstPassingIndex, is_member_byte_at_index};
 
 use memchr::{memchr, memchr2, memchr3};
 use regress_input::front::ByteSearcher;
+use regress_program::up_to_three_units::UpToThreeUnits;
 
-/// A set of code units: the first `len` of the array.
+/// A search for the next byte that is one of a few units.
 #[derive(Clone, Copy)]
 pub(crate) struct FewUnitsFinder {
-    pub(crate) units: [u8; 3],
-    pub(crate) len: usize,
-}
-
-impl FewUnitsFinder {
-    /// Checks whether the set has a code unit.
-    #[inline(always)]
-    pub(crate) fn has(&self, unit: usize) -> bool
-        ensures { result ≡ contains (take self.now.len self.now.units) unit }
-    {
-        let [a, b, c] = self.units;
-        match self.len {
-            0 => false,
-            1 => unit == usize::from(a),
-            2 => unit == usize::from(a) || unit == usize::from(b),
-            _ => unit == usize::from(a) || unit == usize::from(b) || unit == usize::from(c),
-        }
-    }
+    pub(crate) few: UpToThreeUnits,
 }
 
 impl ByteSearcher for FewUnitsFinder {
     ghost use Rattle.std.specs.Prelude.{take};
     ghost use Rattle.regex_pattern_front.specs.FirstPassingIndex.{is_member_byte_at_index};
 
-    ghost stands_at = { λ few bytes. is_member_byte_at_index (take few.len few.units) bytes };
+    ghost stands_at = { λ finder bytes. is_member_byte_at_index (take finder.few.len finder.few.units) bytes };
 
     #[inline(always)]
     fn find_in(&self, bytes: &[u8]) -> Option<usize> {
-        let [a, b, _] = self.units;
-        match self.len {
-            0 => None,
-            1 => memchr(a, bytes),
-            2 => memchr2(a, b, bytes),
-            _ => first_of_three(self.units, bytes),
-        }
+        first_of_few(self.few, bytes)
+    }
+}
+
+// Returns the first index at which one of a few bytes occurs.
+#[inline(always)]
+fn first_of_few(few: UpToThreeUnits, bytes: &[u8]) -> Option<usize>
+    ensures { FindsFirstPassingIndex (is_member_byte_at_index (take few.len few.units) bytes.now)
+        (length bytes.now) result }
+{
+    let [a, b, _] = few.units;
+    match few.len {
+        0 => None,
+        1 => memchr(a, bytes),
+        2 => memchr2(a, b, bytes),
+        _ => first_of_three(few.units, bytes),
     }
 }
 

@@ -11,9 +11,9 @@ ghost use Rattle.regress_search.specs.ReadsAtOffset.{input_unit_at};
 ghost use Rattle.regress_search.specs.WideUnits.{BitsIdentifyUnitsOfKey, BitsIdentifyListedKeys, unit_has_listed_key, bits_identify_key as spec_bits_identify_key};
 
 use crate::class_char_and_table_lookups::unit_at_offset;
-use crate::few_units_finder::FewUnitsFinder;
 use crate::search_by_marks::{OffsetTest, first_by_marks, units_with_bits};
 use crate::search_context::{SearchContext, text_end};
+use regress_program::up_to_three_units::UpToThreeUnits;
 
 /// The units whose bits under `mask` are exactly `bits`.
 #[derive(Clone, Copy)]
@@ -111,7 +111,7 @@ fn units_of_key(key: u8) -> UnitBits
 /// Checks whether bits identify the 16-bit units with each of these keys, and none of these units
 /// ends a surrogate pair.
 #[inline(always)]
-pub(crate) fn do_bits_identify_units(few: FewUnitsFinder) -> bool
+pub(crate) fn do_bits_identify_units(few: UpToThreeUnits) -> bool
     ensures { result ≡ list_all spec_bits_identify_key few.units }
 {
     let [a, b, c] = few.units;
@@ -150,14 +150,14 @@ fn first_unit_with_bits<W: SearchContext>(
 #[inline(always)]
 pub(crate) fn next_16_bit_unit_with_key<W: SearchContext>(
     context: &W,
-    few: FewUnitsFinder,
+    few: UpToThreeUnits,
     from: usize,
 ) -> Option<usize>
     requires wide { is_16_bit_encoding (W.searching context.now).encoding ≡ true }
-    requires told { BitsIdentifyListedKeys few.units few.len }
+    requires told { BitsIdentifyListedKeys few }
     requires at { from ≤ units (W.searching context.now).text }
     ensures { let w = W.searching context.now in
-        IsFirstPassingOffset (unit_has_listed_key false few.units few.len w) from (units w.text) result }
+        IsFirstPassingOffset (unit_has_listed_key false few w) from (units w.text) result }
 {
     let end = text_end(context);
     let [a, b, c] = few.units;
@@ -184,14 +184,14 @@ pub(crate) fn next_16_bit_unit_with_key<W: SearchContext>(
 #[inline(always)]
 pub(crate) fn next_16_bit_unit_or_pair_with_key<W: SearchContext>(
     context: &W,
-    few: FewUnitsFinder,
+    few: UpToThreeUnits,
     from: usize,
 ) -> Option<usize>
     requires wide { is_16_bit_encoding (W.searching context.now).encoding ≡ true }
-    requires told { BitsIdentifyListedKeys few.units few.len }
+    requires told { BitsIdentifyListedKeys few }
     requires at { from ≤ units (W.searching context.now).text }
     ensures { let w = W.searching context.now in
-        IsFirstPassingOffset (unit_has_listed_key true few.units few.len w) from (units w.text) result }
+        IsFirstPassingOffset (unit_has_listed_key true few w) from (units w.text) result }
 {
     let end = text_end(context);
     let [a, b, c] = few.units;

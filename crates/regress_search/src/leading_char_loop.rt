@@ -6,7 +6,7 @@ ghost use Rattle.regex_meaning.specs.CodeUnitOffsets.{IsBoundary, units};
 ghost use Rattle.regress_machine.specs.SearchFindsFirstOutcomeAtPlace.{TreeProgramCanSearchText};
 ghost use Rattle.regress_program.specs.{Plans.{op_as_char_loop}, LeadingCharLoops.{OnlyOpensGroups}};
 ghost use Rattle.regress_search.specs.DeadThreads.{MatchFailureExtendsUntil, BeginsWithRepeatedChar, NextUnitDoesNotRepeatAsciiUnit};
-ghost use Rattle.regress_search.specs.{CharLoopExits.{HasScannedClassCharsTo, ClassFitsText}, TreePlanAndText.{program_of}};
+ghost use Rattle.regress_search.specs.{CharLoopExits.{HasScannedClassCharsTo, ClassFitsText}, TreePlanAndText.{PlanFitsProgram, program_of}};
 
 use crate::class_char_and_table_lookups::unit_at_offset;
 use crate::class_scan::{scan_chars_of_class_end, scan_single_unit_chars};
@@ -16,7 +16,7 @@ use regress_input::cursor::Forward;
 use regress_input::front::Sameness;
 use regress_input::indexing::{CodeUnitEncoding, HasUnitType};
 use regress_program::char_class_tables::Class;
-use regress_program::ops::{CharLoop, Op, WordBoundaryKind};
+use regress_program::ops::{CharLoop, Op};
 
 /// Each match begins with the char loop after `opens` instructions that open groups, or with a word
 /// boundary. Returns the offset at which this loop, or a run of word characters, ends if it begins
@@ -35,12 +35,8 @@ pub fn skip_leading_char_loop<W: SearchContext>(context: &W, opens: usize, from:
     let Some(op) = context.op_at(opens) else {
         return from;
     };
-    if let Op::WordEdge(edge) = *op {
-        return if opens == 0 {
-            end_of_leading_word_chars(context, edge, from)
-        } else {
-            from
-        };
+    if let Op::WordEdge(_) = *op {
+        return end_of_leading_word_chars(context, from);
     }
     if let Op::OpenGroup(_) = *op {
         return skip_to_repeated_unit(context, from);
@@ -71,21 +67,18 @@ impl KeyTest for WordKeys {
 // Returns the end of the word characters from `from` on, if each match begins with a word boundary.
 // No word boundary is between two of the characters.
 #[inline(always)]
-fn end_of_leading_word_chars<W: SearchContext>(
-    context: &W,
-    edge: WordBoundaryKind,
-    from: usize,
-) -> usize
-    requires edge { slice_get (W.searching context.now).plan.ops.items 0 ≡ Some (Op.WordEdge edge) }
+fn end_of_leading_word_chars<W: SearchContext>(context: &W, from: usize) -> usize
     requires at { IsBoundary (W.searching context.now).text from }
     requires executable { let w = W.searching context.now in TreeProgramCanSearchText (program_of w) w.tree w.text }
     ensures at { IsBoundary (W.searching context.now).text result }
     ensures no_match { MatchFailureExtendsUntil (W.searching context.now) from result }
 {
+    let Some(Op::WordEdge(edge)) = context.op_at(0) else {
+        return from;
+    };
     if edge.invert {
         return from;
     }
-    context.lemma_plan_fits_program();
     let left = text_end(context) - from;
     from + count_passing(context, &WordKeys, from, left)
 }
@@ -111,15 +104,15 @@ fn skip_to_repeated_unit<W: SearchContext>(context: &W, from: usize) -> usize
     if !class.single_unit {
         return from;
     }
-    context.lemma_plan_fits_program();
     next_repeated_unit(context, from)
 }
 
 // Returns the class with this number, or `None` if there is none.
 #[inline(always)]
 fn class_by_number<W: SearchContext>(context: &W, number: u32) -> Option<&Class>
-    ensures { let classes = (W.searching context.now).plan.classes.items in
+    ensures class { let classes = (W.searching context.now).plan.classes.items in
         option_map (λ class. class.now) result ≡ slice_get classes number }
+    ensures plan_fits { PlanFitsProgram (W.searching context.now) }
 {
     context.plan().classes.get(number as usize)
 }
@@ -204,13 +197,14 @@ fn skip_run_of_leading_char_loop<W: SearchContext>(
     ensures at { IsBoundary (W.searching context.now).text result }
     ensures no_match { MatchFailureExtendsUntil (W.searching context.now) from result }
 {
-    context.lemma_plan_fits_program();
+    let Some(class) = class_by_number(context, run.class) else {
+        return from;
+    };
     let most = context.char_loop_bounds_with_number(run.bounds).max;
     let end = text_end(context);
     if most < end {
         return from;
     }
-    let class = context.class_with_number(run.class);
     end_of_class_chars(context, class, from)
 }
 

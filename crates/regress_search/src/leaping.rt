@@ -7,7 +7,6 @@ ghost use Rattle.regress_search.specs.Leaping.{may_read_unit_before_goal, IsPast
 ghost use Rattle.regress_search.specs.StartSearch.{IsFirstAllowedBoundary, table_of_listed_units};
 
 use crate::class_char_and_table_lookups::{unit_at_offset, unit_key_at_offset};
-use crate::few_units_finder::FewUnitsFinder;
 use crate::few_wide_units::next_16_bit_unit_with_key;
 use crate::search_context::SearchContext;
 use crate::start_search::next_of_few_units;
@@ -50,17 +49,13 @@ pub fn leap_target_from<W: SearchContext>(
 fn next_goal<W: SearchContext>(context: &W, leap: &Leap, from: usize) -> Option<usize>
     requires at { IsBoundary (W.searching context.now).text from }
     requires ascii { AreGoalsFewAscii leap.now }
-    ensures { IsFirstAllowedBoundary (W.searching context.now) (table_of_listed_units leap.now.units leap.now.len)
+    ensures { IsFirstAllowedBoundary (W.searching context.now) (table_of_listed_units leap.now.goal)
         from result }
 {
-    let few = FewUnitsFinder {
-        units: leap.units,
-        len: leap.len,
-    };
     if <<W::Input as HasUnitType>::Units as CodeUnitEncoding>::ARE_BYTES {
-        next_of_few_units(context, few, from)
+        next_of_few_units(context, leap.goal, from)
     } else {
-        next_16_bit_unit_with_key(context, few, from)
+        next_16_bit_unit_with_key(context, leap.goal, from)
     }
 }
 

@@ -54,7 +54,6 @@ fn reads_nothing_toward_end<W: SearchContext>(
     ensures { result ≡ true → (insn : Insn) → insn_at (W.searching context.now) ip ≡ Some insn
         → ReadsNothingAndLeadsOnward forks end ip insn }
 {
-    context.lemma_plan_fits_program();
     match context.op_at(ip) {
         Some(Op::Goto(to)) => is_jump_forward_up_to_end(ip, *to, end),
         Some(Op::Either(other)) => forks && is_jump_forward_up_to_end(ip, *other, end),

@@ -1,19 +1,19 @@
 //! The search loop over the candidate starts of a text, shared by all executors.
 
 ghost use Rattle.std.specs.Option.{ForSome};
-ghost use Rattle.std.specs.Prelude.{◌≡◌, ◌+◌, ◌<◌, ◌≤◌, ℕ, ⊤, Bool, true, false, IfErr, IfOk, IsSome, None, Some, Option, map, option_map, length};
-ghost use Rattle.regex_meaning.specs.{Tree.{Tree}, Text.{Text}, CodeUnitOffsets.{HasRisingPlaceOffsets, IsBoundary, IsBoundaryOrPastEnd, units}, SearchAnswers.{answer_at}};
+ghost use Rattle.std.specs.Prelude.{◌≡◌, ◌+◌, ◌≤◌, ℕ, ⊤, false, IfErr, IfOk, IsOkAnd, IsSome, Some, map, option_map, length};
+ghost use Rattle.regex_meaning.specs.{CodeUnitOffsets.{HasRisingPlaceOffsets, IsBoundary, IsBoundaryOrPastEnd, units}, SearchAnswers.{answer_at}};
 ghost use Rattle.regex_meaning.specs.{Outcomes.{Groups, group_range}, MatchGroupsByNumberAndName.{group_names_by_id}};
 ghost use Rattle.regex_pattern_front.specs.AstToSpecTree.{tree_of};
 ghost use Rattle.regress_search.specs.MatchesAsSpecAnswers.{answer_from_parts, answer_of, range_as_pair};
 ghost use Rattle.regress_search.specs.AttemptsAndStarts.{NextStartSkipsNoMatch, NoMatchAt, end_with_groups, match_end_and_groups_at, first_filtered_start, next_filtered_start, next_search_offset};
 ghost use Rattle.regress_search.specs.AttemptsAndStarts.{ticks_of_attempt_at};
 ghost use Rattle.regress_search.specs.OffsetRangeOfPositions.{offset_range_of_positions};
-ghost use Rattle.regress_search.specs.SearchEffects.{SpendsNeedOrReachesLimit, AllocFailureCostsAStep, TellsIfStepLimitReached, cause_of_error};
+ghost use Rattle.regress_search.specs.SearchEffects.{SpendsNeedOrReachesLimit, AllocFailureCostsAStep, IsRefusedByWorkLimit, TellsIfStepLimitReached, cause_of_error};
 ghost use Rattle.regress_search.specs.MatchesWithinWork.{AttemptKeepsWorkEnough};
-ghost use Rattle.regress_search.specs.CostsOfSearches.{Failures, IfWorkIsCounted, PaysForSkip, PaysForSkipFrom, SpendsExactCost, WorkCosts, next_attempt_offset};
+ghost use Rattle.regress_search.specs.CostsOfSearches.{IfWorkIsCounted, SkipFromSpendsExactCost, SkipSpendsExactCost, SpendsExactCost, next_attempt_offset};
 
-use crate::exec::{Match, MatchProducer, SearchError};
+use crate::exec::{Match, MatchProducer, SearchError, SearchState};
 use regress_input::indexing::InputIndexer;
 use regress_input::position::PositionType;
 use regress_program::insn::Program;
@@ -24,58 +24,23 @@ use std::ops::Range;
 ///
 /// If steps are counted, only the positions that the start predicate admits are tried. If work is
 /// counted, each position is tried.
-pub trait SingleAttemptExecutor {
+pub trait SingleAttemptExecutor: SearchState {
     /// The text that is searched.
     type Input: InputIndexer;
 
-    // The tree of the pattern.
-    ghost tree: { Self → Tree };
-
-    // The text.
-    ghost text: { Self → Text };
-
-    // The steps that are left; `None` if they are not counted.
-    ghost budget: { Self → Option ℕ } = { λ _. None };
-
-    // Whether the last attempt reached the step limit.
-    ghost out_of_steps: { Self → Bool } = { λ _. false };
-
     // Whether the last attempt had begun. Beginning also allocates memory.
     ghost has_begun: { Self → Type 0 } = { λ _. ⊤ };
-
-    // Whether the work limit suffices for attempts in ascending order of offsets, each at `ahead`
-    // or later.
-    ghost enough: { Self → Bool } = { λ _. true };
-
-    // The least offset of the next such attempt.
-    ghost ahead: { Self → ℕ } = { λ _. 0 };
-
-    // Whether the last attempt reached the work limit.
-    ghost out_of_work: { Self → Bool } = { λ _. false };
-
-    // The work that is left, if work is counted.
-    ghost left: { Self → ℕ } = { λ _. 0 };
-
-    // Whether work is counted.
-    ghost counts_work: { Bool } = { false };
-
-    // The failures that are known. The costs of attempts depend on them.
-    ghost failures: { Self → Failures } = { λ _ _ _ _. false };
-
-    // What attempts cost, if work is counted, and whether starts may be skipped (see
-    // `CostsOfSearches`).
-    ghost costs: { WorkCosts } = { record { of_attempt = λ _ _ _ _ _ _. ⊤; may_skip = false } };
 
     // The groups of the last attempt that found an end.
     ghost groups: { Self → Groups };
 
     /// Returns the program that is run.
     fn program(&self) -> &Program
-        ensures { tree_of result.now ≡ tree self.now };
+        ensures { tree_of result.now ≡ Self.tree self.now };
 
     /// Returns the input that is read.
     fn input(&self) -> &Self::Input
-        ensures { Self.Input.text result.now ≡ text self.now };
+        ensures { Self.Input.text result.now ≡ Self.text self.now };
 
     /// Returns the end of the match of highest priority that begins at `pos`. After that, `group`
     /// returns its groups.
@@ -94,23 +59,25 @@ pub trait SingleAttemptExecutor {
         &mut self,
         pos: <Self::Input as InputIndexer>::Position,
     ) -> Result<Option<<Self::Input as InputIndexer>::Position>, SearchError>
-        requires { IsBoundary (text self.old) (Self.Input.Position.offset pos) }
+        requires { IsBoundary (Self.text self.old) (Self.Input.Position.offset pos) }
         ensures found { let at = Self.Input.Position.offset in IfOk result (λ end.
-            end_with_groups at end (groups self.new) ≡ match_end_and_groups_at (tree self.old)
-            (text self.old) (at pos)) }
-        ensures steps { let ticks = ticks_of_attempt_at (tree self.old) (text self.old) in
-            SpendsNeedOrReachesLimit (ticks (Self.Input.Position.offset pos)) (budget self.old) result
-            (budget self.new) }
-        ensures begun { AllocFailureCostsAStep (has_begun self.new) (budget self.old) result (budget self.new) }
-        ensures cause { TellsIfStepLimitReached result (out_of_steps self.new) }
-        ensures work { let at = Self.Input.Position.offset in AttemptKeepsWorkEnough at (enough self.old)
-            (ahead self.old) (at pos) result (enough self.new) (ahead self.new) (out_of_work self.new) }
-        ensures left { left self.new ≤ left self.old }
-        ensures within { IfWorkIsCounted counts_work (IfOk result (λ _. out_of_work self.new ≡ false)) }
-        ensures cost { IfWorkIsCounted counts_work (SpendsExactCost (costs.of_attempt (tree self.old) (text self.old)
-            (failures self.old) (Self.Input.Position.offset pos))
-            (left self.old) result (out_of_work self.new) (left self.new) (failures self.new)) }
-        ensures same { (tree self.new ≡ tree self.old) × (text self.new ≡ text self.old) };
+            end_with_groups at end (groups self.new) ≡ match_end_and_groups_at (Self.tree self.old)
+            (Self.text self.old) (at pos)) }
+        ensures steps { let ticks = ticks_of_attempt_at (Self.tree self.old) (Self.text self.old) in
+            SpendsNeedOrReachesLimit (ticks (Self.Input.Position.offset pos)) (Self.budget self.old) result
+            (Self.budget self.new) }
+        ensures begun { AllocFailureCostsAStep (has_begun self.new) (Self.budget self.old) result
+            (Self.budget self.new) }
+        ensures cause { TellsIfStepLimitReached result (Self.out_of_steps self.new) }
+        ensures work { let at = Self.Input.Position.offset in AttemptKeepsWorkEnough at (Self.enough self.old)
+            (Self.ahead self.old) (at pos) result (Self.enough self.new) (Self.ahead self.new)
+            (Self.out_of_work self.new) }
+        ensures left { Self.left self.new ≤ Self.left self.old }
+        ensures within { IfWorkIsCounted Self.counts_work (IfOk result (λ _. Self.out_of_work self.new ≡ false)) }
+        ensures cost { IfWorkIsCounted Self.counts_work (SpendsExactCost (Self.costs.of_attempt (Self.tree self.old)
+            (Self.text self.old) (Self.failures self.old) (Self.Input.Position.offset pos))
+            (Self.left self.old) result (Self.out_of_work self.new) (Self.left self.new) (Self.failures self.new)) }
+        ensures same { (Self.tree self.new ≡ Self.tree self.old) × (Self.text self.new ≡ Self.text self.old) };
 
     /// Returns the number of groups of the last attempt that found an end.
     fn group_count(&self) -> usize
@@ -139,13 +106,13 @@ pub trait SingleAttemptExecutor {
         &self,
         pos: <Self::Input as InputIndexer>::Position,
     ) -> Option<<Self::Input as InputIndexer>::Position>
-        requires { IsBoundary (text self.now) (Self.Input.Position.offset pos) }
+        requires { IsBoundary (Self.text self.now) (Self.Input.Position.offset pos) }
         ensures next { let at = Self.Input.Position.offset in
-            NextStartSkipsNoMatch (tree self.now) (text self.now) (at pos) (option_map at result) }
-        ensures counted { let at = Self.Input.Position.offset in IsSome (budget self.now)
-            → option_map at result ≡ first_filtered_start (tree self.now) (text self.now) (at pos) }
+            NextStartSkipsNoMatch (Self.tree self.now) (Self.text self.now) (at pos) (option_map at result) }
+        ensures counted { let at = Self.Input.Position.offset in IsSome (Self.budget self.now)
+            → option_map at result ≡ first_filtered_start (Self.tree self.now) (Self.text self.now) (at pos) }
         ensures next_if_work_counted { let at = Self.Input.Position.offset in
-            IfWorkIsCounted counts_work (option_map at result ≡ Some (at pos)) };
+            IfWorkIsCounted Self.counts_work (option_map at result ≡ Some (at pos)) };
 
     /// Returns the next position to try after one at which no match begins. No match begins in
     /// between. Returns `None` if no match begins later.
@@ -157,14 +124,14 @@ pub trait SingleAttemptExecutor {
         &self,
         tried: <Self::Input as InputIndexer>::Position,
     ) -> Option<<Self::Input as InputIndexer>::Position>
-        requires at { IsBoundary (text self.now) (Self.Input.Position.offset tried) }
-        requires no_match { NoMatchAt (tree self.now) (text self.now) (Self.Input.Position.offset tried) }
+        requires at { IsBoundary (Self.text self.now) (Self.Input.Position.offset tried) }
+        requires no_match { NoMatchAt (Self.tree self.now) (Self.text self.now) (Self.Input.Position.offset tried) }
         ensures next { let at = Self.Input.Position.offset in
-            NextStartSkipsNoMatch (tree self.now) (text self.now) (at tried + 1) (option_map at result) }
-        ensures counted { let at = Self.Input.Position.offset in IsSome (budget self.now)
-            → option_map at result ≡ next_filtered_start (tree self.now) (text self.now) (at tried) }
-        ensures next_if_work_counted { let at = Self.Input.Position.offset in IfWorkIsCounted counts_work
-            (option_map at result ≡ next_attempt_offset (tree self.now) (text self.now) (at tried)) };
+            NextStartSkipsNoMatch (Self.tree self.now) (Self.text self.now) (at tried + 1) (option_map at result) }
+        ensures counted { let at = Self.Input.Position.offset in IsSome (Self.budget self.now)
+            → option_map at result ≡ next_filtered_start (Self.tree self.now) (Self.text self.now) (at tried) }
+        ensures next_if_work_counted { let at = Self.Input.Position.offset in IfWorkIsCounted Self.counts_work
+            (option_map at result ≡ next_attempt_offset (Self.tree self.now) (Self.text self.now) (at tried)) };
 
     /// Returns the next position to try at a given position or later, and pays for the code units
     /// that it skips. No match begins before the result. Returns `None` if no match begins at the
@@ -172,27 +139,71 @@ pub trait SingleAttemptExecutor {
     ///
     /// An executor that does not pay for skips, or that counts steps, returns the given position.
     /// The clause `same` says that only the work left changes.
+    ///
+    /// # Errors
+    ///
+    /// Returns `Err` if the skip costs more work than is left. The clauses `refused` and `paid` say
+    /// that it is for no other reason.
     fn skip_to_candidate(
         &mut self,
         from: <Self::Input as InputIndexer>::Position,
-    ) -> Option<<Self::Input as InputIndexer>::Position>
-        requires { IsBoundary (text self.old) (Self.Input.Position.offset from) }
-        ensures next { let at = Self.Input.Position.offset in
-            NextStartSkipsNoMatch (tree self.old) (text self.old) (at from) (option_map at result) }
-        ensures counted { let at = Self.Input.Position.offset in IsSome (budget self.old)
-            → option_map at result ≡ Some (at from) }
-        ensures paid { let at = Self.Input.Position.offset in IfWorkIsCounted counts_work
-            (PaysForSkip costs.may_skip (text self.old) (at from) (option_map at result) (left self.old)
-            (left self.new)) }
-        ensures left { left self.new ≤ left self.old }
-        ensures same { (tree self.new ≡ tree self.old) × (text self.new ≡ text self.old)
-            × (budget self.new ≡ budget self.old) × (enough self.new ≡ enough self.old)
-            × (ahead self.new ≡ ahead self.old) × (failures self.new ≡ failures self.old) }
+    ) -> Result<Option<<Self::Input as InputIndexer>::Position>, SearchError>
+        requires { IsBoundary (Self.text self.old) (Self.Input.Position.offset from) }
+        ensures next { let at = Self.Input.Position.offset in IfOk result (λ to.
+            NextStartSkipsNoMatch (Self.tree self.old) (Self.text self.old) (at from) (option_map at to)) }
+        ensures counted { let at = Self.Input.Position.offset in IsSome (Self.budget self.old)
+            → IsOkAnd result (λ to. option_map at to ≡ Some (at from)) }
+        ensures refused { IfErr result (λ e. IsRefusedByWorkLimit e (Self.out_of_steps self.new)
+            (Self.out_of_work self.new) (Self.enough self.old)) }
+        ensures paid { let at = Self.Input.Position.offset in IfWorkIsCounted Self.counts_work
+            (SkipSpendsExactCost at Self.costs.may_skip (Self.tree self.old) (Self.text self.old) (at from)
+            (Self.left self.old) result (Self.left self.new)) }
+        ensures left { Self.left self.new ≤ Self.left self.old }
+        ensures same { (Self.tree self.new ≡ Self.tree self.old) × (Self.text self.new ≡ Self.text self.old)
+            × (Self.budget self.new ≡ Self.budget self.old) × (Self.enough self.new ≡ Self.enough self.old)
+            × (Self.ahead self.new ≡ Self.ahead self.old) × (Self.failures self.new ≡ Self.failures self.old) }
     {
-        Some(from)
+        Ok(Some(from))
     }
 
-    ghost is_text: { (it : Self) → HasRisingPlaceOffsets (text it) };
+    /// Returns the next position to try after `tried`, at which no match begins, and pays for the
+    /// code units that it skips. `next` is what `next_start_after_failure` returned for `tried`. No
+    /// match begins between `next` and the result. Returns `None` if no match begins at `next` or
+    /// later.
+    ///
+    /// Unless an executor can use that no match begins at `tried`, this is `skip_to_candidate` of
+    /// `next`. The clauses `counted`, `refused`, `paid` and `same` are those of `skip_to_candidate`.
+    ///
+    /// # Errors
+    ///
+    /// Returns `Err` if the skip costs more work than is left.
+    fn skip_after_failure(
+        &mut self,
+        tried: <Self::Input as InputIndexer>::Position,
+        next: <Self::Input as InputIndexer>::Position,
+    ) -> Result<Option<<Self::Input as InputIndexer>::Position>, SearchError>
+        requires at { IsBoundary (Self.text self.old) (Self.Input.Position.offset tried) }
+        requires no_match { NoMatchAt (Self.tree self.old) (Self.text self.old) (Self.Input.Position.offset tried) }
+        requires next { let at = Self.Input.Position.offset in
+            NextStartSkipsNoMatch (Self.tree self.old) (Self.text self.old) (at tried + 1) (Some (at next)) }
+        ensures next { let at = Self.Input.Position.offset in IfOk result (λ to.
+            NextStartSkipsNoMatch (Self.tree self.old) (Self.text self.old) (at next) (option_map at to)) }
+        ensures counted { let at = Self.Input.Position.offset in IsSome (Self.budget self.old)
+            → IsOkAnd result (λ to. option_map at to ≡ Some (at next)) }
+        ensures refused { IfErr result (λ e. IsRefusedByWorkLimit e (Self.out_of_steps self.new)
+            (Self.out_of_work self.new) (Self.enough self.old)) }
+        ensures paid { let at = Self.Input.Position.offset in IfWorkIsCounted Self.counts_work
+            (SkipSpendsExactCost at Self.costs.may_skip (Self.tree self.old) (Self.text self.old) (at next)
+            (Self.left self.old) result (Self.left self.new)) }
+        ensures left { Self.left self.new ≤ Self.left self.old }
+        ensures same { (Self.tree self.new ≡ Self.tree self.old) × (Self.text self.new ≡ Self.text self.old)
+            × (Self.budget self.new ≡ Self.budget self.old) × (Self.enough self.new ≡ Self.enough self.old)
+            × (Self.ahead self.new ≡ Self.ahead self.old) × (Self.failures self.new ≡ Self.failures self.old) }
+    {
+        self.skip_to_candidate(next)
+    }
+
+    ghost is_text: { (it : Self) → HasRisingPlaceOffsets (Self.text it) };
 }
 
 /// Returns the range of a group by id. Returns `None` if the group did not match or does not exist.
@@ -275,55 +286,70 @@ fn next_search_pos<Input: InputIndexer>(
 }
 
 // Returns the next position to try at `next` or later, and pays for the code units that it skips.
+// Returns `Err` if the skip costs more work than is left.
 #[inline(always)]
 fn skip_from<A: SingleAttemptExecutor>(
     executor: &mut A,
     next: Option<<A::Input as InputIndexer>::Position>,
-) -> Option<<A::Input as InputIndexer>::Position>
+) -> Result<Option<<A::Input as InputIndexer>::Position>, SearchError>
     requires { ForSome next (λ p. IsBoundary (A.text executor.old) (A.Input.Position.offset p)) }
-    ensures next { let at = A.Input.Position.offset in (from : ℕ)
+    ensures next { let at = A.Input.Position.offset in IfOk result (λ to. (from : ℕ)
         → NextStartSkipsNoMatch (A.tree executor.old) (A.text executor.old) from (option_map at next)
-        → NextStartSkipsNoMatch (A.tree executor.old) (A.text executor.old) from (option_map at result) }
-    ensures candidate { let at = A.Input.Position.offset in ForSome next (λ p. NextStartSkipsNoMatch
-        (A.tree executor.old) (A.text executor.old) (at p) (option_map at result)) }
+        → NextStartSkipsNoMatch (A.tree executor.old) (A.text executor.old) from (option_map at to)) }
+    ensures candidate { let at = A.Input.Position.offset in IfOk result (λ to. ForSome next (λ p.
+        NextStartSkipsNoMatch (A.tree executor.old) (A.text executor.old) (at p) (option_map at to))) }
     ensures counted { let at = A.Input.Position.offset in IsSome (A.budget executor.old)
-        → option_map at result ≡ option_map at next }
-    ensures paid { let at = A.Input.Position.offset in IfWorkIsCounted A.counts_work
-        (PaysForSkipFrom A.costs.may_skip (A.text executor.old) (option_map at next) (option_map at result)
-        (A.left executor.old) (A.left executor.new)) }
+        → IsOkAnd result (λ to. option_map at to ≡ option_map at next) }
+    ensures refused { IfErr result (λ e. IsRefusedByWorkLimit e (A.out_of_steps executor.new)
+        (A.out_of_work executor.new) (A.enough executor.old)) }
+    ensures paid { IfWorkIsCounted A.counts_work (SkipFromSpendsExactCost A.Input.Position.offset A.costs.may_skip
+        (A.tree executor.old) (A.text executor.old) next (A.left executor.old) result (A.left executor.new)) }
     ensures left { A.left executor.new ≤ A.left executor.old }
     ensures same { (A.tree executor.new ≡ A.tree executor.old) × (A.text executor.new ≡ A.text executor.old)
         × (A.budget executor.new ≡ A.budget executor.old) × (A.enough executor.new ≡ A.enough executor.old)
         × (A.ahead executor.new ≡ A.ahead executor.old) × (A.failures executor.new ≡ A.failures executor.old) }
 {
-    let from = next?;
+    let Some(from) = next else {
+        return Ok(None);
+    };
     executor.skip_to_candidate(from)
+}
+
+// Does what `skip_from` does, after a failed attempt at `tried`. `next` is what
+// `next_start_after_failure` returned.
+#[inline(always)]
+fn skip_from_failed<A: SingleAttemptExecutor>(
+    executor: &mut A,
+    tried: <A::Input as InputIndexer>::Position,
+    next: Option<<A::Input as InputIndexer>::Position>,
+) -> Result<Option<<A::Input as InputIndexer>::Position>, SearchError>
+    requires at { IsBoundary (A.text executor.old) (A.Input.Position.offset tried) }
+    requires no_match { NoMatchAt (A.tree executor.old) (A.text executor.old) (A.Input.Position.offset tried) }
+    requires next { let at = A.Input.Position.offset in
+        NextStartSkipsNoMatch (A.tree executor.old) (A.text executor.old) (at tried + 1) (option_map at next) }
+    ensures next { let at = A.Input.Position.offset in IfOk result (λ to.
+        NextStartSkipsNoMatch (A.tree executor.old) (A.text executor.old) (at tried + 1) (option_map at to)) }
+    ensures candidate { let at = A.Input.Position.offset in IfOk result (λ to. ForSome next (λ p.
+        NextStartSkipsNoMatch (A.tree executor.old) (A.text executor.old) (at p) (option_map at to))) }
+    ensures counted { let at = A.Input.Position.offset in IsSome (A.budget executor.old)
+        → IsOkAnd result (λ to. option_map at to ≡ option_map at next) }
+    ensures refused { IfErr result (λ e. IsRefusedByWorkLimit e (A.out_of_steps executor.new)
+        (A.out_of_work executor.new) (A.enough executor.old)) }
+    ensures paid { IfWorkIsCounted A.counts_work (SkipFromSpendsExactCost A.Input.Position.offset A.costs.may_skip
+        (A.tree executor.old) (A.text executor.old) next (A.left executor.old) result (A.left executor.new)) }
+    ensures left { A.left executor.new ≤ A.left executor.old }
+    ensures same { (A.tree executor.new ≡ A.tree executor.old) × (A.text executor.new ≡ A.text executor.old)
+        × (A.budget executor.new ≡ A.budget executor.old) × (A.enough executor.new ≡ A.enough executor.old)
+        × (A.ahead executor.new ≡ A.ahead executor.old) × (A.failures executor.new ≡ A.failures executor.old) }
+{
+    let Some(from) = next else {
+        return Ok(None);
+    };
+    executor.skip_after_failure(tried, from)
 }
 
 impl<A: SingleAttemptExecutor> MatchProducer for A {
     type Position = <A::Input as InputIndexer>::Position;
-
-    ghost tree = { A.tree };
-
-    ghost text = { A.text };
-
-    ghost budget = { A.budget };
-
-    ghost out_of_steps = { A.out_of_steps };
-
-    ghost enough = { A.enough };
-
-    ghost ahead = { A.ahead };
-
-    ghost out_of_work = { A.out_of_work };
-
-    ghost left = { A.left };
-
-    ghost counts_work = { A.counts_work };
-
-    ghost failures = { A.failures };
-
-    ghost costs = { A.costs };
 
     ghost is_text = { A.is_text };
 
@@ -340,7 +366,7 @@ impl<A: SingleAttemptExecutor> MatchProducer for A {
         next_start: &mut Option<<A::Input as InputIndexer>::Position>,
     ) -> Result<Option<Match>, SearchError> {
         let first = self.first_start_to_try_from(pos);
-        let mut next = skip_from(self, first);
+        let mut next = skip_from(self, first)?;
         'places: while let Some(start) = next {
             if let Some(end) = self.attempt(start)? {
                 let found = successful_match(self, start, end)?;
@@ -348,7 +374,7 @@ impl<A: SingleAttemptExecutor> MatchProducer for A {
                 return Ok(Some(found));
             }
             let further = self.next_start_after_failure(start);
-            next = skip_from(self, further);
+            next = skip_from_failed(self, start, further)?;
         }
         Ok(None)
     }

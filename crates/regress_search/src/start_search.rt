@@ -10,6 +10,7 @@ ghost use Rattle.regress_program.specs.Plans.{unit_table_of_set_number};
 ghost use Rattle.regress_machine.specs.FirstSetTables.{AllowedNextKeys};
 ghost use Rattle.regress_search.specs.StartSearch.{IsFirstAllowedBoundary, IsFirstBoundaryWhere, IsFirstPrefixFit, IsFirstCandidate, IsFirstByteSearchHit, AllowsOnlyLeadBytes, SkipsNoBoundary};
 ghost use Rattle.regress_search.specs.StartSearch.{IsPastFirstAllowedChar, table_of_listed_units, may_start_at};
+ghost use Rattle.regress_search.specs.TreePlanAndText.{PlanFitsProgram};
 
 use crate::class_char_and_table_lookups::{set_allows_next_unit, unit_key_at_offset};
 use crate::few_units_finder::FewUnitsFinder;
@@ -27,6 +28,7 @@ use regress_program::lookbehind_filter::PrecedingCharFilter;
 use regress_program::plan::CandidateStarts;
 use regress_program::required_prefix_prefilters::{LiteralPrefilter, RequiredPrefixPrefilter};
 use regress_program::required_prefix_types::{Literal, Prefix, RequiredUnitAndOffset};
+use regress_program::up_to_three_units::UpToThreeUnits;
 
 /// The set of code units with which a match may begin. Contracts see its table.
 pub(crate) trait StartSet {
@@ -58,10 +60,10 @@ impl StartSet for FirstSet {
     }
 }
 
-impl StartSet for FewUnitsFinder {
+impl StartSet for UpToThreeUnits {
     ghost use Rattle.regress_search.specs.StartSearch.{table_of_listed_units};
 
-    ghost table = { λ few. table_of_listed_units few.units few.len };
+    ghost table = { table_of_listed_units };
 
     #[inline(always)]
     fn has_key(&self, key: usize) -> bool {
@@ -119,7 +121,6 @@ fn next_in_set<W: SearchContext>(context: &W, number: u32, from: usize) -> Optio
     ensures { let w = W.searching context.now in IsFirstAllowedBoundary w (unit_table_of_set_number w.plan number)
         from result }
 {
-    context.lemma_plan_fits_program();
     match context.first_set_with_number(number) {
         Some(set) => first_allowed_offset(context, set, from),
         None => Some(from),
@@ -147,16 +148,16 @@ fn find<W: SearchContext, Search: ByteSearcher>(
 #[inline(never)]
 pub(crate) fn next_of_few_units<W: SearchContext>(
     context: &W,
-    few: FewUnitsFinder,
+    few: UpToThreeUnits,
     from: usize,
 ) -> Option<usize>
     requires at { IsBoundary (W.searching context.now).text from }
     requires leads { let wide = is_16_bit_encoding (W.searching context.now).encoding in
-        AllowsOnlyLeadBytes wide (table_of_listed_units few.units few.len) }
-    ensures { IsFirstAllowedBoundary (W.searching context.now) (table_of_listed_units few.units few.len) from result }
+        AllowsOnlyLeadBytes wide (table_of_listed_units few) }
+    ensures { IsFirstAllowedBoundary (W.searching context.now) (table_of_listed_units few) from result }
 {
     if <<W::Input as HasUnitType>::Units as CodeUnitEncoding>::ARE_BYTES {
-        find(context, &few, from)
+        find(context, &FewUnitsFinder { few }, from)
     } else {
         next_of_few_wide_units(context, few, from)
     }
@@ -166,12 +167,12 @@ pub(crate) fn next_of_few_units<W: SearchContext>(
 #[inline(always)]
 fn next_of_few_wide_units<W: SearchContext>(
     context: &W,
-    few: FewUnitsFinder,
+    few: UpToThreeUnits,
     from: usize,
 ) -> Option<usize>
     requires wide { is_16_bit_encoding (W.searching context.now).encoding ≡ true }
     requires at { IsBoundary (W.searching context.now).text from }
-    ensures { IsFirstAllowedBoundary (W.searching context.now) (table_of_listed_units few.units few.len) from result }
+    ensures { IsFirstAllowedBoundary (W.searching context.now) (table_of_listed_units few) from result }
 {
     if do_bits_identify_units(few) {
         next_16_bit_unit_with_key(context, few, from)
@@ -314,13 +315,13 @@ fn next_prefix_by_prefilter<W: SearchContext>(
 #[inline(always)]
 fn start_after_unit<W: SearchContext>(
     context: &W,
-    few: FewUnitsFinder,
+    few: UpToThreeUnits,
     from: usize,
 ) -> Option<usize>
     requires at { IsBoundary (W.searching context.now).text from }
     requires leads { let wide = is_16_bit_encoding (W.searching context.now).encoding in
-        AllowsOnlyLeadBytes wide (table_of_listed_units few.units few.len) }
-    ensures { IsPastFirstAllowedChar (W.searching context.now) (table_of_listed_units few.units few.len) from result }
+        AllowsOnlyLeadBytes wide (table_of_listed_units few) }
+    ensures { IsPastFirstAllowedChar (W.searching context.now) (table_of_listed_units few) from result }
 {
     let hit = next_of_few_units(context, few, from)?;
     Some(offset_in_searched_text(
@@ -344,18 +345,17 @@ fn next_start_by_preceding_char<W: SearchContext>(
     ensures { let w = W.searching context.now in
         IsFirstBoundaryWhere w (may_start_at w (CandidateStarts.Behind before)) from result }
 {
-    let PrecedingCharFilter { keys, len, edge } = before;
-    let few = FewUnitsFinder { units: keys, len };
+    let PrecedingCharFilter { keys, edge } = before;
     match context
         .input()
         .next_left_pos(position_in_searched_text(context, from))
     {
-        Some(start) => start_after_unit(context, few, offset_in_searched_text(context, start)),
+        Some(start) => start_after_unit(context, keys, offset_in_searched_text(context, start)),
         None => {
             if edge {
                 Some(from)
             } else {
-                start_after_unit(context, few, from)
+                start_after_unit(context, keys, from)
             }
         }
     }
@@ -367,7 +367,8 @@ fn next_start_by_preceding_char<W: SearchContext>(
 #[inline(always)]
 pub fn is_candidate<W: SearchContext>(context: &W, at: usize) -> bool
     requires { IsBoundary (W.searching context.now).text at }
-    ensures { let w = W.searching context.now in result ≡ may_start_at w w.plan.start at }
+    ensures may_start { let w = W.searching context.now in result ≡ may_start_at w w.plan.start at }
+    ensures plan_fits { PlanFitsProgram (W.searching context.now) }
 {
     match context.start_filter_of_plan() {
         CandidateStarts::Anywhere => true,
@@ -375,11 +376,7 @@ pub fn is_candidate<W: SearchContext>(context: &W, at: usize) -> bool
             Some(set) => set_allows_next_unit(context, set, at),
             None => true,
         },
-        CandidateStarts::FewUnits { units, len } => {
-            let few = FewUnitsFinder {
-                units: *units,
-                len: *len,
-            };
+        CandidateStarts::FewUnits(few) => {
             at < text_end(context) && few.has(unit_key_at_offset(context, at))
         }
         CandidateStarts::Behind(before) => preceding_char_allows_start(context, *before, at),
@@ -397,13 +394,12 @@ fn preceding_char_allows_start<W: SearchContext>(
     requires { IsBoundary (W.searching context.now).text at }
     ensures { let w = W.searching context.now in result ≡ allows_start w.encoding before w.text at }
 {
-    let PrecedingCharFilter { keys, len, edge } = before;
-    let few = FewUnitsFinder { units: keys, len };
+    let PrecedingCharFilter { keys, edge } = before;
     match context
         .input()
         .next_left_pos(position_in_searched_text(context, at))
     {
-        Some(start) => few.has(unit_key_at_offset(
+        Some(start) => keys.has(unit_key_at_offset(
             context,
             offset_in_searched_text(context, start),
         )),
@@ -415,19 +411,13 @@ fn preceding_char_allows_start<W: SearchContext>(
 #[inline(always)]
 pub fn first_candidate<W: SearchContext>(context: &W, from: usize) -> Option<usize>
     requires { IsBoundary (W.searching context.now).text from }
-    ensures { IsFirstCandidate (W.searching context.now) from result }
+    ensures first { IsFirstCandidate (W.searching context.now) from result }
+    ensures plan_fits { PlanFitsProgram (W.searching context.now) }
 {
-    context.lemma_plan_fits_program();
     match context.start_filter_of_plan() {
         CandidateStarts::Anywhere => Some(from),
         CandidateStarts::InSet { set } => next_in_set(context, *set, from),
-        CandidateStarts::FewUnits { units, len } => {
-            let few = FewUnitsFinder {
-                units: *units,
-                len: *len,
-            };
-            next_of_few_units(context, few, from)
-        }
+        CandidateStarts::FewUnits(few) => next_of_few_units(context, *few, from),
         CandidateStarts::Behind(before) => next_start_by_preceding_char(context, *before, from),
         CandidateStarts::Prefix { prefix, prefilter } => next_prefix_by_prefilter(
             context, prefix, prefilter, from,

@@ -47,7 +47,7 @@ fn write_class(text: &mut String, class: &Class) -> Result<(), AllocError> {
     text.push_str(if class.single_unit { "single" } else { "wide" })?;
     write_class_steps(text, &class.steps)?;
     match &class.stops {
-        Some(stops) => write_bytes(text, " stops", stops.bytes.get(..stops.len).unwrap_or(&[])),
+        Some(stops) => write_bytes(text, " stops", stops.units.get(..stops.len).unwrap_or(&[])),
         None => Ok(()),
     }
 }

@@ -62,7 +62,7 @@ fn write_candidate_and_exit_sets(text: &mut String, plan: &Plan) -> Result<(), A
     match plan.start {
         CandidateStarts::Anywhere => text.push_str("anywhere")?,
         CandidateStarts::InSet { set } => write_named_set(text, plan, "among", set)?,
-        CandidateStarts::FewUnits { units, len } => write!(text, "few {len} {units:?}")?,
+        CandidateStarts::FewUnits(few) => write!(text, "few {} {:?}", few.len, few.units)?,
         CandidateStarts::Behind(before) => write_preceding_char_filter(text, before)?,
         CandidateStarts::Prefix { prefix, prefilter } => write_prefix(text, &prefix, prefilter)?,
     }
@@ -94,7 +94,7 @@ fn write_rows(text: &mut String, plan: &Plan) -> Result<(), AllocError> {
 fn write_leap_goal(text: &mut String, plan: &Plan) -> Result<(), AllocError> {
     match &plan.leap {
         Some(leap) => {
-            write!(text, ", leap {} {:?} over", leap.len, leap.units)?;
+            write!(text, ", leap {} {:?} over", leap.goal.len, leap.goal.units)?;
             write_table_boundaries(text, &leap.over)
         }
         None => Ok(()),
@@ -107,8 +107,8 @@ fn write_preceding_char_filter(
     text: &mut String,
     before: PrecedingCharFilter,
 ) -> Result<(), AllocError> {
-    let PrecedingCharFilter { keys, len, edge } = before;
-    write!(text, "behind {len} {keys:?}")?;
+    let PrecedingCharFilter { keys, edge } = before;
+    write!(text, "behind {} {:?}", keys.len, keys.units)?;
     if edge { text.push_str(" edge") } else { Ok(()) }
 }
 

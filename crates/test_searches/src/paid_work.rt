@@ -13,9 +13,9 @@ use std::alloc::Global;
 // Rows of a pattern, a text, the work that may be done, the start unless it is 0, and the matches
 // with the work that is left. The costs were calculated by hand: one unit for an operation, for a
 // character that a char loop tries, for a code unit that a backreference compares, for a resumed
-// choice point, and for a code unit that is skipped. Nothing is skipped if the work left is less
-// than the code units to the end of the text. An exit of a greedy loop, an arm or a lookahead that
-// the next unit excludes costs nothing.
+// choice point, and for a code unit that is skipped. An exit of a greedy loop, an arm or a lookahead
+// that the next unit excludes costs nothing. After a failed attempt, the positions in a leading loop
+// are skipped.
 pub const PAID_WORK: &str = r"a~ba~0~limit, 0 left
 a~ba~2~limit, 0 left
 a~ba~3~1..2, 0 left
@@ -31,6 +31,10 @@ b~aaab~5~3..4, 0 left
 a*b~aab~5~limit, 0 left
 a*b~aab~6~0..3, 0 left
 a*b~aab~7~0..3, 1 left
+a+b~aaac~7~limit, 0 left
+a+b~aaac~8~, 0 left
+a+b~aacab~10~limit, 0 left
+a+b~aacab~11~3..5, 0 left
 ab|ac~ac~6~limit, 0 left
 ab|ac~ac~7~0..2, 0 left
 a*?b~ab~5~limit, 0 left

@@ -128,9 +128,8 @@ fn exact_work_taken(
     Ok(if is_exact { Some(taken) } else { None })
 }
 
-/// Checks whether the default executor finds the same matches within a work limit. A limit that
-/// exceeds the work by the length of the text changes nothing; half of the work suffices for a
-/// prefix of the matches.
+/// Checks whether the default executor finds the same matches within a work limit: with exactly the
+/// work that they take. One unit less, and half of it, suffice for a prefix of the matches.
 pub fn do_work_limits_agree(
     alloc: Global,
     re: &Regex,
@@ -138,18 +137,12 @@ pub fn do_work_limits_agree(
     list: &[Match],
 ) -> Result<bool, ParseFault> {
     let pattern = WorkLimitedPattern::Any(re);
-    let found = all_in_bytes(alloc, pattern, text, u64::MAX)?;
-    let taken = u64::MAX - found.left;
-    let spare = text.len() as u64;
-    let again = all_in_bytes(alloc, pattern, text, taken.saturating_add(spare))?;
+    let known = Known { text, list };
+    let Some(taken) = exact_work_taken(alloc, pattern, known, u64::MAX)? else {
+        return Ok(false);
+    };
     let half = all_in_bytes(alloc, pattern, text, taken / 2)?;
-    let is_prefix = half.has_exactly_these_matches(list) || half.is_prefix_until_work_ran_out(list);
-    Ok(
-        is_prefix
-            && found.has_exactly_these_matches(list)
-            && again.has_exactly_these_matches(list)
-            && again.left == spare,
-    )
+    Ok(half.has_exactly_these_matches(list) || half.is_prefix_until_work_ran_out(list))
 }
 
 // Checks whether all matches in bytes are found with the work that the bound requires.

@@ -26,10 +26,11 @@ use regex_meaning::{
     scan_counts_pattern_groups, scan_finds_group_names,
 };
 use regress_match::api::{
-    call_costs_are_work_spent, matches_lie_in_text_in_order, replacing_by_match_keeps_text,
-    searches_follow_the_ecmascript_pattern, searches_follow_the_pattern,
-    searches_return_matches_in_order, searches_return_matches_of_pattern,
-    searches_return_matches_within_work, work_per_unit_limit_suffices,
+    call_costs_are_work_spent, calls_within_work_return_matches, matches_lie_in_text_in_order,
+    replacing_by_match_keeps_text, searches_follow_the_ecmascript_pattern,
+    searches_follow_the_pattern, searches_return_matches_in_order,
+    searches_return_matches_of_pattern, searches_return_matches_within_work,
+    work_per_unit_limit_suffices,
 };
 use regress_match::exec::{WorkLimitedProducer, match_at_text_end_is_last};
 use regress_match::{Error, Match, Matches, Regex, SearchError, escape};
@@ -203,6 +204,15 @@ pub fn calls_cost_at_most_the_bound<P: WorkLimitedProducer>()
         (cost ≤ bound) }
 {
     call_costs_are_work_spent::<P>();
+}
+
+/// Within any work limit, the first item is the first match of the list, unless it is an error.
+pub fn first_item_within_work_is_the_first_match<P: WorkLimitedProducer>()
+    ensures { (it behind : WorkMatchesView P) (m : TheMatch) (rs : List WorkLimitedNextResult)
+        → NextCallsYieldAtCost P.costs P.tree P.text P.failures it (Some (Ok m) ∷ rs) behind
+        → slice_get it.remaining.answers 0 ≡ Some (answer_of m) }
+{
+    calls_within_work_return_matches::<P>();
 }
 
 /// If the budget is computed from the limit of the pattern's bounds, the work suffices, whichever

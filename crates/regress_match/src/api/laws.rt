@@ -3,7 +3,7 @@
 ghost use Rattle.regex_meaning.specs.EcmaGrammarWithAnnexB.{ecmascript};
 ghost use Rattle.regex_meaning.specs.Grammar.{profile};
 ghost use Rattle.regress_match.specs.{Laws.{MatchesLieInTextInOrder, SearchesFollowThePattern, SearchesFollowGrammar, SearchesReturnMatchesOfPattern}, SearchResults.{SearchesReturnMatchesInOrder}};
-ghost use Rattle.regress_match.specs.WorkBounds.{SearchesReturnMatchesWithinWork, CallCostsAreWorkSpent, WorkPerUnitLimitSuffices};
+ghost use Rattle.regress_match.specs.WorkBounds.{SearchesReturnMatchesWithinWork, CallCostsAreWorkSpent, CallsWithinWorkReturnMatches, WorkPerUnitLimitSuffices};
 
 use regress_search::exec::WorkLimitedProducer;
 
@@ -32,6 +32,15 @@ pub fn searches_return_matches_within_work()
 /// Statement: `specs/WorkBounds`.
 pub fn call_costs_are_work_spent<P: WorkLimitedProducer>()
     ensures { CallCostsAreWorkSpent P.costs P.tree P.text P.failures }
+{}
+
+/// A law: any number of calls of an iterator with a work limit return the matches of its list in
+/// order, until the list ends or an error is returned. If none returns an error, together they cost
+/// exactly what is taken from the work limit.
+///
+/// Statement: `specs/WorkBounds`.
+pub fn calls_within_work_return_matches<P: WorkLimitedProducer>()
+    ensures { CallsWithinWorkReturnMatches P.costs P.tree P.text P.failures }
 {}
 
 /// A law: the matches of a compiled pattern in a text, in each encoding, are those of the

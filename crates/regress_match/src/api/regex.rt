@@ -21,7 +21,7 @@ use regex_parser::parse::try_parse_in;
 use regress_program::emit::emit_both;
 use regress_program::insn::{CompiledRegex, CompiledRegexFor16BitUnits};
 use regress_search::exec;
-use regress_search::exec::{Match, MatchProducer, SearchError};
+use regress_search::exec::{Match, MatchProducer, SearchError, SearchState};
 use std::alloc::{AllocError, Global};
 
 /// An iterator over the matches of a pattern in a UTF-8 text. Contracts see the remaining answers.
@@ -333,12 +333,13 @@ impl Regex {
     /// Like `find_from`, but all items together take at most `work` units of work.
     ///
     /// A unit of work is an executed operation, a character that a loop over one character tries, a
-    /// code unit that a backreference compares, a resumed choice point, or a code unit that a
-    /// prefilter skips: a skip from offset p to offset q costs q - p. No clause says when a
-    /// prefilter is used: it is if the work left is at least the number of code units to the end of
-    /// the text. Each call of `next` takes exactly a cost of its search. The item is `WorkLimit` only
-    /// if a beginning of the search costs more than is left; then no work is left, and no item
-    /// follows. The iterator's `work_left` returns how much work is left.
+    /// code unit that a backreference compares, a resumed choice point, or a code unit that the
+    /// search skips: a skip from offset p to offset q costs q - p. No clause says which starts are
+    /// skipped: those that a prefilter excludes, and after a failed attempt the positions in a
+    /// leading loop, whatever work is left. Each call of `next` takes exactly a cost of its search.
+    /// The item is `WorkLimit` only if a beginning of the search costs more than is left; then no
+    /// work is left, and no item follows. The law `calls_within_work_return_matches` states the
+    /// results of successive calls. The iterator's `work_left` returns how much work is left.
     ///
     /// No number suffices for all texts, because a search may take exponential work: failures are
     /// not recorded. `BoundedRegex` has a number that suffices, for patterns with a known bound.
@@ -365,7 +366,7 @@ impl Regex {
         ensures answers { IfOk result (λ it. YieldsMatches (tree_for_byte_units self.now)
             (bytes_as_utf8_text self.now text.now) start it.remaining) }
         ensures left { IfOk result (λ it. it.left ≡ work) }
-        ensures begins { let e = ⟦<WorkLimitedExecutor<'r, 't> as MatchProducer>⟧ in
+        ensures begins { let e = ⟦<WorkLimitedExecutor<'r, 't> as SearchState>⟧ in
             IfOk result (IteratorBeginsSearches e (tree_for_byte_units self.now)
             (bytes_as_utf8_text self.now text.now) start) }
         ensures in_text { IfOk result (λ it. MatchesFitTextInOrderFrom text.now start it.remaining.answers) }

@@ -12,7 +12,7 @@ use crate::executor_aliases::{
     WorkLimitedExecutor,
 };
 use regress_input::indexing::InputIndexer;
-use regress_search::exec::{MatchProducer, ProducerFromProgramAndText};
+use regress_search::exec::{MatchProducer, ProducerFromProgramAndText, SearchState};
 use regress_search::search_loop::SingleAttemptExecutor;
 
 /// A match, and the offset from which the list of matches continues after it.
@@ -35,11 +35,11 @@ impl Regex {
         &'r self,
         text: &'t str,
     ) -> Result<DefaultExecutor<'r, 't>, SearchError>
-        ensures tree { IfOk result (λ e. ⟦<DefaultExecutor<'r, 't> as MatchProducer>⟧.tree e ≡
+        ensures tree { IfOk result (λ e. ⟦<DefaultExecutor<'r, 't> as SearchState>⟧.tree e ≡
             tree_for_byte_units self.now) }
-        ensures text { IfOk result (λ e. ⟦<DefaultExecutor<'r, 't> as MatchProducer>⟧.text e
+        ensures text { IfOk result (λ e. ⟦<DefaultExecutor<'r, 't> as SearchState>⟧.text e
             ≡ bytes_as_utf8_text self.now text.now) }
-        ensures budget { IfOk result (λ e. ⟦<DefaultExecutor<'r, 't> as MatchProducer>⟧.budget e ≡ None) }
+        ensures budget { IfOk result (λ e. ⟦<DefaultExecutor<'r, 't> as SearchState>⟧.budget e ≡ None) }
         ensures refused { IfErr result IsOutOfMemory }
     {
         Ok(DefaultExecutor::new(self.byte_program(), text)?)
@@ -56,11 +56,11 @@ impl Regex {
         text: &'t str,
         steps: u64,
     ) -> Result<LimitedExecutor<'r, 't>, SearchError>
-        ensures tree { IfOk result (λ e. ⟦<LimitedExecutor<'r, 't> as MatchProducer>⟧.tree e ≡
+        ensures tree { IfOk result (λ e. ⟦<LimitedExecutor<'r, 't> as SearchState>⟧.tree e ≡
             tree_for_byte_units self.now) }
-        ensures text { IfOk result (λ e. ⟦<LimitedExecutor<'r, 't> as MatchProducer>⟧.text e
+        ensures text { IfOk result (λ e. ⟦<LimitedExecutor<'r, 't> as SearchState>⟧.text e
             ≡ bytes_as_utf8_text self.now text.now) }
-        ensures budget { IfOk result (λ e. ⟦<LimitedExecutor<'r, 't> as MatchProducer>⟧.budget e ≡ Some steps) }
+        ensures budget { IfOk result (λ e. ⟦<LimitedExecutor<'r, 't> as SearchState>⟧.budget e ≡ Some steps) }
         ensures refused { IfErr result IsOutOfMemory }
     {
         Ok(LimitedExecutor::new(self.byte_program(), text, steps)?)
@@ -81,11 +81,11 @@ impl Regex {
         text: &'t str,
         work: u64,
     ) -> Result<WorkLimitedExecutor<'r, 't>, SearchError>
-        ensures tree { IfOk result (λ e. ⟦<WorkLimitedExecutor<'r, 't> as MatchProducer>⟧.tree e ≡
+        ensures tree { IfOk result (λ e. ⟦<WorkLimitedExecutor<'r, 't> as SearchState>⟧.tree e ≡
             tree_for_byte_units self.now) }
-        ensures text { IfOk result (λ e. ⟦<WorkLimitedExecutor<'r, 't> as MatchProducer>⟧.text e
+        ensures text { IfOk result (λ e. ⟦<WorkLimitedExecutor<'r, 't> as SearchState>⟧.text e
             ≡ bytes_as_utf8_text self.now text.now) }
-        ensures left { IfOk result (λ e. ⟦<WorkLimitedExecutor<'r, 't> as MatchProducer>⟧.left e ≡ work) }
+        ensures left { IfOk result (λ e. ⟦<WorkLimitedExecutor<'r, 't> as SearchState>⟧.left e ≡ work) }
         ensures refused { IfErr result IsOutOfMemory }
     {
         Ok(WorkLimitedExecutor::new(self.byte_program(), text, work)?)
@@ -100,11 +100,11 @@ impl Regex {
         &'r self,
         text: &'t [u16],
     ) -> Result<DefaultUtf16Executor<'r, 't>, SearchError>
-        ensures tree { IfOk result (λ e. ⟦<DefaultUtf16Executor<'r, 't> as MatchProducer>⟧.tree e
+        ensures tree { IfOk result (λ e. ⟦<DefaultUtf16Executor<'r, 't> as SearchState>⟧.tree e
             ≡ tree_for_16_bit_units self.now) }
-        ensures text { IfOk result (λ e. ⟦<DefaultUtf16Executor<'r, 't> as MatchProducer>⟧.text e
+        ensures text { IfOk result (λ e. ⟦<DefaultUtf16Executor<'r, 't> as SearchState>⟧.text e
             ≡ units_as_utf16_text self.now text.now) }
-        ensures budget { IfOk result (λ e. ⟦<DefaultUtf16Executor<'r, 't> as MatchProducer>⟧.budget e ≡ None) }
+        ensures budget { IfOk result (λ e. ⟦<DefaultUtf16Executor<'r, 't> as SearchState>⟧.budget e ≡ None) }
         ensures refused { IfErr result IsOutOfMemory }
     {
         Ok(DefaultUtf16Executor::new_utf16(self.unit_program(), text)?)
@@ -119,11 +119,11 @@ impl Regex {
         &'r self,
         text: &'t [u16],
     ) -> Result<DefaultUcs2Executor<'r, 't>, SearchError>
-        ensures tree { IfOk result (λ e. ⟦<DefaultUcs2Executor<'r, 't> as MatchProducer>⟧.tree e ≡
+        ensures tree { IfOk result (λ e. ⟦<DefaultUcs2Executor<'r, 't> as SearchState>⟧.tree e ≡
             tree_for_16_bit_units self.now) }
-        ensures text { IfOk result (λ e. ⟦<DefaultUcs2Executor<'r, 't> as MatchProducer>⟧.text e
+        ensures text { IfOk result (λ e. ⟦<DefaultUcs2Executor<'r, 't> as SearchState>⟧.text e
             ≡ units_as_ucs2_text self.now text.now) }
-        ensures budget { IfOk result (λ e. ⟦<DefaultUcs2Executor<'r, 't> as MatchProducer>⟧.budget e ≡ None) }
+        ensures budget { IfOk result (λ e. ⟦<DefaultUcs2Executor<'r, 't> as SearchState>⟧.budget e ≡ None) }
         ensures refused { IfErr result IsOutOfMemory }
     {
         Ok(DefaultUcs2Executor::new_ucs2(self.unit_program(), text)?)

@@ -14,7 +14,7 @@ use crate::api::{Regex, SearchError};
 use regress_bounded::executor::BoundedExecutor;
 use regress_bounded::work_bound::{Unbounded, WorkBound};
 use regress_input::indexing::{AsciiInput, Ucs2Input, Utf8Input, Utf16Input};
-use regress_search::exec::{MatchProducer, WorkMatches};
+use regress_search::exec::{SearchState, WorkMatches};
 use std::marker::Model;
 
 /// An iterator over the matches of a pattern in a text, within a work budget. Contracts see the
@@ -138,7 +138,7 @@ impl<'r> BoundedRegex<'r> {
         requires { IsCharBoundary text.now start ⊎ (length text.now < start) }
         ensures yields { IfOk result (λ it. YieldsMatchesIfWorkSuffices (tree_for_byte_units self.now.re)
             (bytes_as_utf8_text self.now.re text.now) start self.now.per_unit work (without_costs it)) }
-        ensures begins { let e = ⟦<BoundedExecutor<'r, Utf8Input<'t>> as MatchProducer>⟧ in
+        ensures begins { let e = ⟦<BoundedExecutor<'r, Utf8Input<'t>> as SearchState>⟧ in
             IfOk result (IteratorBeginsSearches e (tree_for_byte_units self.now.re)
             (bytes_as_utf8_text self.now.re text.now) start) }
         ensures in_text { IfOk result (λ it. MatchesFitTextInOrderFrom text.now start it.remaining.answers) }
@@ -169,7 +169,7 @@ impl<'r> BoundedRegex<'r> {
         requires { IsAscii text.now }
         ensures yields { IfOk result (λ it. YieldsMatchesIfWorkSuffices (tree_for_byte_units self.now.re)
             (bytes_as_ascii_text self.now.re text.now) start self.now.per_unit work (without_costs it)) }
-        ensures begins { let e = ⟦<BoundedExecutor<'r, AsciiInput<'t>> as MatchProducer>⟧ in
+        ensures begins { let e = ⟦<BoundedExecutor<'r, AsciiInput<'t>> as SearchState>⟧ in
             IfOk result (IteratorBeginsSearches e (tree_for_byte_units self.now.re)
             (bytes_as_ascii_text self.now.re text.now) start) }
         ensures in_text { IfOk result (λ it. MatchesFitTextInOrderFrom text.now start it.remaining.answers) }
@@ -199,7 +199,7 @@ impl<'r> BoundedRegex<'r> {
         requires { IsTrue (is_unit_boundary text.now start) ⊎ (length text.now < start) }
         ensures yields { IfOk result (λ it. YieldsMatchesIfWorkSuffices (tree_for_16_bit_units self.now.re)
             (units_as_utf16_text self.now.re text.now) start self.now.per_unit work (without_costs it)) }
-        ensures begins { let e = ⟦<BoundedExecutor<'r, Utf16Input<'t>> as MatchProducer>⟧ in
+        ensures begins { let e = ⟦<BoundedExecutor<'r, Utf16Input<'t>> as SearchState>⟧ in
             IfOk result (IteratorBeginsSearches e (tree_for_16_bit_units self.now.re)
             (units_as_utf16_text self.now.re text.now) start) }
         ensures ended { IfOk result (λ it. it.remaining.ended ≡ is_past start (length text.now)) }
@@ -227,7 +227,7 @@ impl<'r> BoundedRegex<'r> {
     ) -> Result<MatchesInWork<'r, Ucs2Input<'t>>, SearchError>
         ensures yields { IfOk result (λ it. YieldsMatchesIfWorkSuffices (tree_for_16_bit_units self.now.re)
             (units_as_ucs2_text self.now.re text.now) start self.now.per_unit work (without_costs it)) }
-        ensures begins { let e = ⟦<BoundedExecutor<'r, Ucs2Input<'t>> as MatchProducer>⟧ in
+        ensures begins { let e = ⟦<BoundedExecutor<'r, Ucs2Input<'t>> as SearchState>⟧ in
             IfOk result (IteratorBeginsSearches e (tree_for_16_bit_units self.now.re)
             (units_as_ucs2_text self.now.re text.now) start) }
         ensures ended { IfOk result (λ it. it.remaining.ended ≡ is_past start (length text.now)) }

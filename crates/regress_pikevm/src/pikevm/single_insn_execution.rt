@@ -174,6 +174,7 @@ fn fork_lookaround<P: PositionType>(
 
 // ---- Groups
 
+// Opens a group at the current position. Its earlier range is forgotten.
 fn open_group<P: PositionType>(id: CaptureGroupID, mut state: State<P>) -> NextStates<P>
     requires executable { IsNotStuck (begin_capture_group_effect id (machine_state_of P.offset state)) }
     requires within { state.ip + 1 < 2 ^ 64 }
@@ -186,6 +187,7 @@ fn open_group<P: PositionType>(id: CaptureGroupID, mut state: State<P>) -> NextS
     NextStates::Continue(state)
 }
 
+// Closes a group at the current position. In a leftward search, this is where its range begins.
 fn close_group<P: PositionType, Dir: Direction>(
     id: CaptureGroupID,
     dir: Dir,
@@ -213,6 +215,7 @@ fn span_in_ascending_order<P: PositionType, Dir: Direction>(_dir: Dir, from: P, 
     if Dir::FORWARD { (from, to) } else { (to, from) }
 }
 
+// Forgets the range of a group, as each iteration of a loop around the group requires.
 fn reset_group<P: PositionType>(id: CaptureGroupID, mut state: State<P>) -> NextStates<P>
     requires executable { IsNotStuck (reset_capture_group_effect id (machine_state_of P.offset state)) }
     requires within { state.ip + 1 < 2 ^ 64 }

@@ -25,7 +25,7 @@ pub enum WorkError {
 
 /// A producer of matches with a work limit. In contracts, `left` is the work that is left, which
 /// never increases; `costs` are the costs of attempts; `enough` says whether the work left
-/// suffices for attempts in ascending order of offsets (see `MatchProducer`).
+/// suffices for attempts in ascending order of offsets (see `SearchState`).
 pub trait WorkLimitedProducer: MatchProducer {
     /// Returns the work that is left.
     fn work_left(&self) -> u64
@@ -36,7 +36,7 @@ pub trait WorkLimitedProducer: MatchProducer {
         ensures limit { result ≡ Self.out_of_work self.now }
         ensures spent { result ≡ true → Self.left self.now ≡ 0 };
 
-    ghost is_counted: { Self.MatchProducer.counts_work ≡ true };
+    ghost is_counted: { Self.counts_work ≡ true };
 }
 
 /// An iterator over the matches of a pattern in a text, within a work limit. Contracts see the

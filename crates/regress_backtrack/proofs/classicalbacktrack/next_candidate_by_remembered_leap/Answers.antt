@@ -1,7 +1,7 @@
 use Rattle.std.proofs.Common.{subst, sym}
 use Rattle.std.specs.Prelude.{option_map}
 use Rattle.regex_meaning.specs.CodeUnitOffsets.{IsBoundary}
-use Rattle.regress_backtrack.proofs.CandidateStartLemmas.{next-further}
+use Rattle.regress_search.proofs.SkippedStartLemmas.{skips-compose}
 use Rattle.regress_backtrack.proofs.classicalbacktrack.next_candidate_by_remembered_leap.Goals as goal
 
 pub returns : goal.returns
@@ -11,4 +11,4 @@ returns g c =
     let first = c.in_ok-past.ensures w.tree w.text on c.requires.no_match_in_last_leap in
     let next = option_map g.W.Input.Position.PositionType.offset c.next_candidate_start.result in
     rw (← c.offset_in_searched_text.ensures)
-    (next-further w.tree w.text c.offset_in_searched_text.result c.in_ok-past.past next first (rw (← c.position_in_searched_text.ensures) c.next_candidate_start.ensures))
+    (skips-compose w.tree w.text c.offset_in_searched_text.result c.in_ok-past.past next first (rw (← c.position_in_searched_text.ensures) c.next_candidate_start.ensures))

@@ -12,4 +12,4 @@ pub make_leap_and_store_it-requires-clause-leap : goal.make_leap_and_store_it-re
 make_leap_and_store_it-requires-clause-leap g c =
     let w = g.W.SearchContext.searching c.args.context.now in
     let P : Leap → Type 0 = IsLeapRightForProgram (is_16_bit_encoding w.encoding) (program_of w) in
-    some-has w.plan.leap P c.in-Some.leap (rw (← c.plan.ensures) c.in-Some.is) c.lemma_plan_fits_program.ensures.leap
+    some-has w.plan.leap P c.in-Some.leap (rw (← c.plan.ensures.plan) c.in-Some.is) c.plan.ensures.plan_fits.leap

@@ -5,5 +5,5 @@ use Rattle.regress_backtrack.proofs.next_candidate_start_by_plan.is_candidate_st
 pub returns : goal.returns
 returns g c out =
     let w = g.W.SearchContext.searching c.args.context.now in
-    let is = c.lemma_plan_fits_program.ensures in
-    prefix-excludes w (g.met.W.SearchContext.has_units c.args.context.now) is c.requires.executable w.plan.start is.prefix refl c.args.at c.requires.at (sym c.is_candidate.ensures ∙ out)
+    let is = c.is_candidate.ensures.plan_fits in
+    prefix-excludes w (g.met.W.SearchContext.has_units c.args.context.now) is c.requires.executable w.plan.start is.prefix refl c.args.at c.requires.at (sym c.is_candidate.ensures.may_start ∙ out)

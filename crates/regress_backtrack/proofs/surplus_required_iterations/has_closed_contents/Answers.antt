@@ -12,4 +12,4 @@ returns-in-Some g c = λ yes insn is.
     let s = c.in-Some in
     op-closes (program_of w) w.plan c.args.changes c.args.from c.args.ip s.op.now insn
     (subst (λ contents. AreLookaroundContentsClosed c.args.changes (program_of w) c.args.from c.args.ip contents) c.contents_role.ensures (c.are_lookaround_contents_closed.ensures yes))
-    (c.lemma_plan_fits_program.ensures.each c.args.ip s.op.now insn (sym c.op_at.ensures ∙ ap (option_map (λ (o : Bor Op). o.now)) s.is) is)
+    (c.op_at.ensures.plan_fits.each c.args.ip s.op.now insn (sym c.op_at.ensures.op ∙ ap (option_map (λ (o : Bor Op). o.now)) s.is) is)

@@ -18,5 +18,5 @@ pub returns : goal.returns
 returns g c = λ yes k insn is.
     let w = g.W.SearchContext.searching c.args.context.now in
     let inside = slice_get_within (program_of w).insns k insn is in
-    let many = c.lemma_plan_fits_program.ensures.as_many in
+    let many = c.number_of_ops-count.ensures.plan_fits.as_many in
     c.loop-ip.invariant k (omega (arith, inside, many, c.loop-ip-test.false)) insn is

@@ -11,4 +11,4 @@ returns-in-Some g c = λ yes insn is.
     let w = g.W.SearchContext.searching c.args.context.now in
     let s = c.in-Some in
     op-ends-by (program_of w) w.plan c.args.ip c.args.to s.op.now insn (subst (λ n. n ≤ c.args.to) c.op_after_lookaround.ensures (leb-true c.op_after_lookaround.result c.args.to yes))
-    (c.lemma_plan_fits_program.ensures.each c.args.ip s.op.now insn (sym c.op_at.ensures ∙ ap (option_map (λ (o : Bor Op). o.now)) s.is) is)
+    (c.op_at.ensures.plan_fits.each c.args.ip s.op.now insn (sym c.op_at.ensures.op ∙ ap (option_map (λ (o : Bor Op). o.now)) s.is) is)

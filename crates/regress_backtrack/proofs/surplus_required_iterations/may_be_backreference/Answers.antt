@@ -10,4 +10,4 @@ returns-in-Some g c = λ yes insn is.
     let w = g.W.SearchContext.searching c.args.context.now in
     let s = c.in-Some in
     op-is-no-backreference (program_of w) w.plan c.args.ip s.op.now insn (sym c.is_backreference.ensures ∙ yes)
-    (c.lemma_plan_fits_program.ensures.each c.args.ip s.op.now insn (sym c.op_at.ensures ∙ ap (option_map (λ (o : Bor Op). o.now)) s.is) is)
+    (c.op_at.ensures.plan_fits.each c.args.ip s.op.now insn (sym c.op_at.ensures.op ∙ ap (option_map (λ (o : Bor Op). o.now)) s.is) is)

@@ -9,7 +9,7 @@ use Rattle.regress_c.proofs.next_matches.fill.Goals as goal
 
 pub matches-init : goal.matches-init
 matches-init g c =
-    let e = g.E.SingleAttemptExecutor in
+    let e = g.E.SearchState in
     let search = c.args.search.now in (
       begun {tree = e.tree search} {text = e.text search} {steps = e.budget search} {start = c.args.start} {before = c.args.spans.now} c.requires.starts,
       omega arith,
@@ -22,7 +22,7 @@ matches-init g c =
 
 pub matches-preserved : goal.matches-preserved
 matches-preserved g c =
-    let e = g.E.SingleAttemptExecutor in
+    let e = g.E.SearchState in
     let was = c.matches.invariant in
     let step = goes-same (e.tree c.args.search.now) (e.tree c.matches.search) (e.text c.args.search.now) (e.text c.matches.search)
     (e.budget c.matches.search) c.matches.filled.next (Ok (Some c.in-Ok-Some.step)) (e.budget c.next_from.new.search) was.2 was.3
@@ -47,7 +47,7 @@ matches-preserved g c =
 
 pub returns-in-Ok-None-clause-fills : goal.returns-in-Ok-None-clause-fills
 returns-in-Ok-None-clause-fills g c =
-    let e = g.E.SingleAttemptExecutor in
+    let e = g.E.SearchState in
     let was = c.matches.invariant in
     let over = goes-same (e.tree c.args.search.now) (e.tree c.matches.search) (e.text c.args.search.now) (e.text c.matches.search)
     (e.budget c.matches.search) c.matches.filled.next (Ok None) (e.budget c.next_from.new.search) was.2 was.3
@@ -59,7 +59,7 @@ returns-in-Ok-None-clause-fills g c =
 
 pub returns-in-Err-clause-fills : goal.returns-in-Err-clause-fills
 returns-in-Err-clause-fills g c =
-    let e = g.E.SingleAttemptExecutor in
+    let e = g.E.SearchState in
     let was = c.matches.invariant in
     let refused = goes-same (e.tree c.args.search.now) (e.tree c.matches.search) (e.text c.args.search.now) (e.text c.matches.search)
     (e.budget c.matches.search) c.matches.filled.next (Err c.in-Err.error) (e.budget c.next_from.new.search) was.2 was.3 c.in-Err.ensures.continues in
@@ -70,13 +70,13 @@ returns-clause-fills g c =
     let was = c.matches.invariant in
     let same = c.matches.auto.spans in
     let room = c.matches-test.false in
-    fills-full c.matches.spans c.matches.filled c.matches.at c.args.ranges (g.E.SingleAttemptExecutor.budget c.matches.search) was.0 was.4 (omega arith) c.requires.ranges
+    fills-full c.matches.spans c.matches.filled c.matches.at c.args.ranges (g.E.SearchState.budget c.matches.search) was.0 was.4 (omega arith) c.requires.ranges
 
 -- ---- Work
 
 pub returns-in-Ok-None-clause-cost : goal.returns-in-Ok-None-clause-cost
 returns-in-Ok-None-clause-cost g c =
-    let e = g.E.SingleAttemptExecutor in
+    let e = g.E.SearchState in
     let was = c.matches.invariant in
     let new = c.next_from.new.search in
     counted₂ e.counts_work
@@ -87,7 +87,7 @@ returns-in-Ok-None-clause-cost g c =
 
 pub returns-in-Err-clause-cost : goal.returns-in-Err-clause-cost
 returns-in-Err-clause-cost g c =
-    let e = g.E.SingleAttemptExecutor in
+    let e = g.E.SearchState in
     let was = c.matches.invariant in
     let new = c.next_from.new.search in
     counted₂ e.counts_work
@@ -98,7 +98,7 @@ returns-in-Err-clause-cost g c =
 
 pub returns-clause-cost : goal.returns-clause-cost
 returns-clause-cost g c =
-    let e = g.E.SingleAttemptExecutor in
+    let e = g.E.SearchState in
     let was = c.matches.invariant in
     counted₁ e.counts_work
     (spends-full e.costs c.matches.filled.matches c.matches.filled.next (e.failures c.matches.search) (e.left c.matches.search) c.matches.filled.stop (e.out_of_work c.matches.search) was.4)

@@ -8,7 +8,7 @@ use Rattle.regress_c.proofs.next_matches.fill.Given as goal
 -- what was written, of which search, that nothing is said of it yet, and what it cost
 abbrev pub invariant-matches : goal.invariant-matches
 invariant-matches g l =
-    let e = g.E.SingleAttemptExecutor in
+    let e = g.E.SearchState in
     Filling (e.tree l.fn.search) (e.text l.fn.search) (e.budget l.fn.search) l.fn.start l.fn.spans l.spans l.filled.matches l.filled.next l.at (e.budget l.search)
     × (l.at ≤ length l.spans) × (e.tree l.search ≡ e.tree l.fn.search) × (e.text l.search ≡ e.text l.fn.search)
     × (l.filled.stop ≡ Full) × (l.filled.left ≡ None)

@@ -17,13 +17,13 @@ returns-in-Ok-Some-clause-at g c = λ x e.
     let offset = g.P.Position.PositionType.offset in
     let producer = c.args.producer.now in
     subst (λ t. IsBoundary t (offset x)) (sym c.in-Ok-Some.ensures.same.1)
-    (next-boundary (g.P.MatchProducer.tree producer) (g.P.MatchProducer.text producer) (g.met.P.MatchProducer.is_text producer) (offset c.in_ok-pos.pos) (offset x)
+    (next-boundary (g.P.SearchState.tree producer) (g.P.SearchState.text producer) (g.met.P.MatchProducer.is_text producer) (offset c.in_ok-pos.pos) (offset x)
     (ap (option_map offset) (sym e) ∙ (rw c.in-Ok-Some.field-0-is at c.in-Ok-Some.ensures.found).1))
 
 pub returns-in-Ok-Some-clause-gives : goal.returns-in-Ok-Some-clause-gives
 returns-in-Ok-Some-clause-gives g c =
     let offset = g.P.Position.PositionType.offset in
-    let p = g.P.MatchProducer in
+    let p = g.P.SearchState in
     let producer = c.args.producer.now in
     let new = c.next_match.new.self in
     let before = remaining_answers_from (p.tree producer) (p.text producer) (p.budget producer) (option_map offset c.args.position.now) (p.out_of_steps producer) in
@@ -36,7 +36,7 @@ returns-in-Ok-Some-clause-gives g c =
 pub returns-in-Ok-None-clause-gives : goal.returns-in-Ok-None-clause-gives
 returns-in-Ok-None-clause-gives g c =
     let offset = g.P.Position.PositionType.offset in
-    let p = g.P.MatchProducer in
+    let p = g.P.SearchState in
     let producer = c.args.producer.now in
     let before = remaining_answers_from (p.tree producer) (p.text producer) (p.budget producer) (option_map offset c.args.position.now) (p.out_of_steps producer) in
     let none = call-none (p.tree producer) (p.text producer) (g.met.P.MatchProducer.is_text producer) before (p.budget producer)
@@ -47,7 +47,7 @@ returns-in-Ok-None-clause-gives g c =
 pub returns-in-Err-clause-gives : goal.returns-in-Err-clause-gives
 returns-in-Err-clause-gives g c =
     let offset = g.P.Position.PositionType.offset in
-    let p = g.P.MatchProducer in
+    let p = g.P.SearchState in
     let producer = c.args.producer.now in
     let is = g.met.P.MatchProducer.is_text producer in
     let was = ap (option_map offset) c.in_ok-pos.was in
@@ -71,7 +71,7 @@ costs-of b offset costs tree text before position pos was Spends h =
 
 pub returns-in-Ok-Some-clause-cost : goal.returns-in-Ok-Some-clause-cost
 returns-in-Ok-Some-clause-cost g c =
-    let p = g.P.MatchProducer in
+    let p = g.P.SearchState in
     let producer = c.args.producer.now in
     let new = c.next_match.new.self in
     costs-of p.counts_work g.P.Position.PositionType.offset p.costs (p.tree producer) (p.text producer) (p.failures producer) c.args.position.now c.in_ok-pos.pos c.in_ok-pos.was
@@ -79,7 +79,7 @@ returns-in-Ok-Some-clause-cost g c =
 
 pub returns-in-Ok-None-clause-cost : goal.returns-in-Ok-None-clause-cost
 returns-in-Ok-None-clause-cost g c =
-    let p = g.P.MatchProducer in
+    let p = g.P.SearchState in
     let producer = c.args.producer.now in
     let new = c.next_match.new.self in
     costs-of p.counts_work g.P.Position.PositionType.offset p.costs (p.tree producer) (p.text producer) (p.failures producer) c.args.position.now c.in_ok-pos.pos c.in_ok-pos.was
@@ -87,7 +87,7 @@ returns-in-Ok-None-clause-cost g c =
 
 pub returns-in-Err-clause-cost : goal.returns-in-Err-clause-cost
 returns-in-Err-clause-cost g c =
-    let p = g.P.MatchProducer in
+    let p = g.P.SearchState in
     let producer = c.args.producer.now in
     let new = c.next_match.new.self in
     costs-of p.counts_work g.P.Position.PositionType.offset p.costs (p.tree producer) (p.text producer) (p.failures producer) c.args.position.now c.in_ok-pos.pos c.in_ok-pos.was
@@ -95,7 +95,7 @@ returns-in-Err-clause-cost g c =
 
 pub returns-in-Ok-Some-clause-continues : goal.returns-in-Ok-Some-clause-continues
 returns-in-Ok-Some-clause-continues g c =
-    let p = g.P.MatchProducer in
+    let p = g.P.SearchState in
     let producer = c.args.producer.now in
     let offset = option_map g.P.Position.PositionType.offset in
     subst (λ o. IfSome o (λ at. IsNextStartAfterFirstMatch (p.tree producer) (p.text producer) at (offset c.next_match.new.next_start))) (sym (ap offset c.in_ok-pos.was))
@@ -103,7 +103,7 @@ returns-in-Ok-Some-clause-continues g c =
 
 pub returns-in_err-pos-clause-cost : goal.returns-in_err-pos-clause-cost
 returns-in_err-pos-clause-cost g c =
-    let p = g.P.MatchProducer in
+    let p = g.P.SearchState in
     let producer = c.args.producer.now in
     let offset = option_map g.P.Position.PositionType.offset in
     counted p.counts_work

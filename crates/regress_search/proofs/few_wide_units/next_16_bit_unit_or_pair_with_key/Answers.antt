@@ -3,7 +3,7 @@ use Rattle.regex_meaning.specs.NumberListHelpers.{contains}
 use Rattle.regex_meaning.specs.CodeUnitOffsets.{units}
 use Rattle.regress_search.specs.MarkedOffsets.{IsFirstPassingOffset}
 use Rattle.regress_search.specs.WideUnits.{unit_has_listed_key}
-use Rattle.regress_search.proofs.WideUnitLemmas.{pair-none, pair-one, pair-two, pair-three}
+use Rattle.regress_search.proofs.WideUnitLemmas.{listing, pair-none, pair-one, pair-two, pair-three}
 use Rattle.regress_search.proofs.few_wide_units.next_16_bit_unit_or_pair_with_key.Goals as goal
 
 pub returns-in-0 : goal.returns-in-0
@@ -12,7 +12,7 @@ returns-in-0 g c =
     let keys = c.args.few.units in
     let three : length keys ≡ 3 = search rules in
     let all = g.met.W.SearchContext.has_units c.args.context.now in
-    subst (λ len. IsFirstPassingOffset (unit_has_listed_key true keys len w) c.args.from (units w.text) c.first_by_marks.result) (sym c.in-0.is)
+    subst (λ len. IsFirstPassingOffset (unit_has_listed_key true (listing keys len) w) c.args.from (units w.text) c.first_by_marks.result) (sym c.in-0.is)
     (pair-none w all c.requires.wide keys three c.args.from c.text_end-end.result c.first_by_marks.result c.text_end-end.ensures c.first_by_marks.ensures)
 
 pub returns-in-1 : goal.returns-in-1
@@ -22,7 +22,7 @@ returns-in-1 g c =
     let three : length keys ≡ 3 = search rules in
     let all = g.met.W.SearchContext.has_units c.args.context.now in
     let told = subst (λ len. contains (take len keys) 128 ≡ false) c.in-1.is c.requires.told in
-    subst (λ len. IsFirstPassingOffset (unit_has_listed_key true keys len w) c.args.from (units w.text) c.first_by_marks-in-1.result) (sym c.in-1.is)
+    subst (λ len. IsFirstPassingOffset (unit_has_listed_key true (listing keys len) w) c.args.from (units w.text) c.first_by_marks-in-1.result) (sym c.in-1.is)
     (pair-one w all c.requires.wide keys three c.args.from c.text_end-end.result c.first_by_marks-in-1.result c.text_end-end.ensures c.units_of_key.result told c.units_of_key.ensures c.first_by_marks-in-1.ensures)
 
 pub returns-in-2 : goal.returns-in-2
@@ -32,7 +32,7 @@ returns-in-2 g c =
     let three : length keys ≡ 3 = search rules in
     let all = g.met.W.SearchContext.has_units c.args.context.now in
     let told = subst (λ len. contains (take len keys) 128 ≡ false) c.in-2.is c.requires.told in
-    subst (λ len. IsFirstPassingOffset (unit_has_listed_key true keys len w) c.args.from (units w.text) c.first_by_marks-in-2.result) (sym c.in-2.is)
+    subst (λ len. IsFirstPassingOffset (unit_has_listed_key true (listing keys len) w) c.args.from (units w.text) c.first_by_marks-in-2.result) (sym c.in-2.is)
     (pair-two w all c.requires.wide keys three c.args.from c.text_end-end.result c.first_by_marks-in-2.result c.text_end-end.ensures c.units_of_key.result c.units_of_key-b.result told c.units_of_key.ensures c.units_of_key-b.ensures c.first_by_marks-in-2.ensures)
 
 pub returns-in_default : goal.returns-in_default

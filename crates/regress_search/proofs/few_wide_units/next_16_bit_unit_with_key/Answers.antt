@@ -3,7 +3,7 @@ use Rattle.regex_meaning.specs.NumberListHelpers.{contains}
 use Rattle.regex_meaning.specs.CodeUnitOffsets.{units}
 use Rattle.regress_search.specs.MarkedOffsets.{IsFirstPassingOffset}
 use Rattle.regress_search.specs.WideUnits.{unit_has_listed_key}
-use Rattle.regress_search.proofs.WideUnitLemmas.{first-one, first-two, first-three}
+use Rattle.regress_search.proofs.WideUnitLemmas.{listing, first-one, first-two, first-three}
 use Rattle.regress_search.proofs.few_wide_units.next_16_bit_unit_with_key.Goals as goal
 
 pub returns-in-1 : goal.returns-in-1
@@ -13,7 +13,7 @@ returns-in-1 g c =
     let three : length keys ≡ 3 = search rules in
     let all = g.met.W.SearchContext.has_units c.args.context.now in
     let told = subst (λ len. contains (take len keys) 128 ≡ false) c.in-1.is c.requires.told in
-    subst (λ len. IsFirstPassingOffset (unit_has_listed_key false keys len w) c.args.from (units w.text) c.first_unit_with_bits.result) (sym c.in-1.is)
+    subst (λ len. IsFirstPassingOffset (unit_has_listed_key false (listing keys len) w) c.args.from (units w.text) c.first_unit_with_bits.result) (sym c.in-1.is)
     (first-one w all c.requires.wide keys three c.args.from c.text_end-end.result c.first_unit_with_bits.result c.text_end-end.ensures c.units_of_key.result told c.units_of_key.ensures c.first_unit_with_bits.ensures)
 
 pub returns-in-2 : goal.returns-in-2
@@ -23,7 +23,7 @@ returns-in-2 g c =
     let three : length keys ≡ 3 = search rules in
     let all = g.met.W.SearchContext.has_units c.args.context.now in
     let told = subst (λ len. contains (take len keys) 128 ≡ false) c.in-2.is c.requires.told in
-    subst (λ len. IsFirstPassingOffset (unit_has_listed_key false keys len w) c.args.from (units w.text) c.first_by_marks.result) (sym c.in-2.is)
+    subst (λ len. IsFirstPassingOffset (unit_has_listed_key false (listing keys len) w) c.args.from (units w.text) c.first_by_marks.result) (sym c.in-2.is)
     (first-two w all c.requires.wide keys three c.args.from c.text_end-end.result c.first_by_marks.result c.text_end-end.ensures c.units_of_key-a.result c.units_of_key-b.result told c.units_of_key-a.ensures c.units_of_key-b.ensures c.first_by_marks.ensures)
 
 pub returns-in_default : goal.returns-in_default

@@ -14,29 +14,29 @@ pub returns-in-Some-Goto : goal.returns-in-Some-Goto
 returns-in-Some-Goto g c = λ yes insn is.
     let s = c.in-Some-Goto in
     let nearer = c.is_jump_forward_up_to_end.ensures yes in
-    inl (s.to, c.lemma_plan_fits_program.ensures.each c.args.ip _ insn (found (slice_get (g.W.SearchContext.searching c.args.context.now).plan.ops.items c.args.ip) c.op_at.ensures s.is s.field-0-is) is, nearer.0, nearer.1)
+    inl (s.to, c.op_at.ensures.plan_fits.each c.args.ip _ insn (found (slice_get (g.W.SearchContext.searching c.args.context.now).plan.ops.items c.args.ip) c.op_at.ensures.op s.is s.field-0-is) is, nearer.0, nearer.1)
 
 pub returns-then-forks : goal.returns-then-forks
 returns-then-forks g c = λ yes insn is.
     let s = c.in-Some-Either in
     let nearer = c.is_jump_forward_up_to_end-then-forks.ensures yes in
     subst (λ forks. ReadsNothingAndLeadsOnward forks c.args.end c.args.ip insn) (sym c.if-forks.true)
-    (inr (s.other, c.lemma_plan_fits_program.ensures.each c.args.ip _ insn (found (slice_get (g.W.SearchContext.searching c.args.context.now).plan.ops.items c.args.ip) c.op_at.ensures s.is s.field-0-is) is, nearer.0, nearer.1))
+    (inr (s.other, c.op_at.ensures.plan_fits.each c.args.ip _ insn (found (slice_get (g.W.SearchContext.searching c.args.context.now).plan.ops.items c.args.ip) c.op_at.ensures.op s.is s.field-0-is) is, nearer.0, nearer.1))
 
 pub returns-in-Some-ResetGroup : goal.returns-in-Some-ResetGroup
 returns-in-Some-ResetGroup g c = λ yes insn is.
     let s = c.in-Some-ResetGroup in
     subst (λ forks. ReadsNothingAndLeadsOnward forks c.args.end c.args.ip insn) (sym (not-true c.args.forks yes))
-    (inr (s.field-0-0, inl (c.lemma_plan_fits_program.ensures.each c.args.ip _ insn (found (slice_get (g.W.SearchContext.searching c.args.context.now).plan.ops.items c.args.ip) c.op_at.ensures s.is s.field-0-is) is)))
+    (inr (s.field-0-0, inl (c.op_at.ensures.plan_fits.each c.args.ip _ insn (found (slice_get (g.W.SearchContext.searching c.args.context.now).plan.ops.items c.args.ip) c.op_at.ensures.op s.is s.field-0-is) is)))
 
 pub returns-in-Some-OpenGroup : goal.returns-in-Some-OpenGroup
 returns-in-Some-OpenGroup g c = λ yes insn is.
     let s = c.in-Some-OpenGroup in
     subst (λ forks. ReadsNothingAndLeadsOnward forks c.args.end c.args.ip insn) (sym (not-true c.args.forks yes))
-    (inr (s.field-0-0, inr (inl (c.lemma_plan_fits_program.ensures.each c.args.ip _ insn (found (slice_get (g.W.SearchContext.searching c.args.context.now).plan.ops.items c.args.ip) c.op_at.ensures s.is s.field-0-is) is))))
+    (inr (s.field-0-0, inr (inl (c.op_at.ensures.plan_fits.each c.args.ip _ insn (found (slice_get (g.W.SearchContext.searching c.args.context.now).plan.ops.items c.args.ip) c.op_at.ensures.op s.is s.field-0-is) is))))
 
 pub returns-in-Some-CloseGroup : goal.returns-in-Some-CloseGroup
 returns-in-Some-CloseGroup g c = λ yes insn is.
     let s = c.in-Some-CloseGroup in
     subst (λ forks. ReadsNothingAndLeadsOnward forks c.args.end c.args.ip insn) (sym (not-true c.args.forks yes))
-    (inr (s.field-0-0, inr (inr (c.lemma_plan_fits_program.ensures.each c.args.ip _ insn (found (slice_get (g.W.SearchContext.searching c.args.context.now).plan.ops.items c.args.ip) c.op_at.ensures s.is s.field-0-is) is))))
+    (inr (s.field-0-0, inr (inr (c.op_at.ensures.plan_fits.each c.args.ip _ insn (found (slice_get (g.W.SearchContext.searching c.args.context.now).plan.ops.items c.args.ip) c.op_at.ensures.op s.is s.field-0-is) is))))

@@ -14,7 +14,7 @@ returns-then-ARE_BYTES g c =
     let is : g.W.Input.Units.CodeUnitEncoding.ARE_BYTES ≡ true = cc (c.ARE_BYTES.ensures, c.if-ARE_BYTES.true) in
     let bytes : is_byte_encoding w.encoding ≡ true = ap is_byte_encoding (g.met.W.SearchContext.encoding c.args.context.now) ∙ sym g.W.Input.Units.CodeUnitEncoding.by_encoding ∙ is in
     let inside = boundary_inside w.text (g.met.W.SearchContext.is_text c.args.context.now) from c.requires.at in
-    few-found w (g.met.W.SearchContext.has_units c.args.context.now) few.units few.len from bytes c.requires.leads inside c.find.result
+    few-found w (g.met.W.SearchContext.has_units c.args.context.now) few from bytes c.requires.leads inside c.find.result
     (subst (λ b. IsFirstOccurrenceFrom b (λ bs. is_member_byte_at_index (take few.len few.units) bs) (bytes_of w.text) from c.find.result) bytes c.find.ensures)
 
 pub next_of_few_wide_units-requires-clause-wide : goal.next_of_few_wide_units-requires-clause-wide

@@ -5,7 +5,7 @@ use Rattle.regress_search.proofs.WideUnitLemmas.{all-listed, listed-told, wide-f
 use Rattle.regress_search.proofs.start_search.next_of_few_wide_units.Goals as goal
 
 pub next_16_bit_unit_with_key-requires-clause-told : goal.next_16_bit_unit_with_key-requires-clause-told
-next_16_bit_unit_with_key-requires-clause-told g c = listed-told c.args.few.units c.args.few.len (sym c.do_bits_identify_units.ensures ∙ c.if-do_bits_identify_units.true)
+next_16_bit_unit_with_key-requires-clause-told g c = listed-told c.args.few (sym c.do_bits_identify_units.ensures ∙ c.if-do_bits_identify_units.true)
 
 pub next_16_bit_unit_with_key-requires-clause-at : goal.next_16_bit_unit_with_key-requires-clause-at
 next_16_bit_unit_with_key-requires-clause-at g c =
@@ -13,9 +13,9 @@ next_16_bit_unit_with_key-requires-clause-at g c =
 
 pub returns-then-do_bits_identify_units : goal.returns-then-do_bits_identify_units
 returns-then-do_bits_identify_units g c =
-    wide-found (g.W.SearchContext.searching c.args.context.now) (g.met.W.SearchContext.has_units c.args.context.now) c.requires.wide c.args.few.units c.args.few.len
+    wide-found (g.W.SearchContext.searching c.args.context.now) (g.met.W.SearchContext.has_units c.args.context.now) c.requires.wide c.args.few
     (λ k listed. all-listed bits_identify_key c.args.few.units c.args.few.len k (sym c.do_bits_identify_units.ensures ∙ c.if-do_bits_identify_units.true) listed)
     c.args.from c.next_16_bit_unit_with_key.result c.next_16_bit_unit_with_key.ensures
 
 pub first_allowed_offset-requires-clause-leads : goal.first_allowed_offset-requires-clause-leads
-first_allowed_offset-requires-clause-leads g c = wide-leads (g.W.SearchContext.searching c.args.context.now).encoding c.requires.wide c.args.few.units c.args.few.len
+first_allowed_offset-requires-clause-leads g c = wide-leads (g.W.SearchContext.searching c.args.context.now).encoding c.requires.wide c.args.few

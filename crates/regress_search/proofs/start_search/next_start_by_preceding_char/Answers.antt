@@ -6,11 +6,11 @@ use Rattle.regress_search.proofs.start_search.next_start_by_preceding_char.Goals
 
 pub start_after_unit-requires-clause-leads : goal.start_after_unit-requires-clause-leads
 start_after_unit-requires-clause-leads g c = λ single_unit.
-    few-leads c.args.before.keys c.args.before.len (is_16_bit_encoding (g.W.SearchContext.searching c.args.context.now).encoding) (c.requires.leads single_unit) single_unit
+    few-leads c.args.before.keys (is_16_bit_encoding (g.W.SearchContext.searching c.args.context.now).encoding) (c.requires.leads single_unit) single_unit
 
 pub start_after_unit-requires-else-edge-clause-leads : goal.start_after_unit-requires-else-edge-clause-leads
 start_after_unit-requires-else-edge-clause-leads g c = λ single_unit.
-    few-leads c.args.before.keys c.args.before.len (is_16_bit_encoding (g.W.SearchContext.searching c.args.context.now).encoding) (c.requires.leads single_unit) single_unit
+    few-leads c.args.before.keys (is_16_bit_encoding (g.W.SearchContext.searching c.args.context.now).encoding) (c.requires.leads single_unit) single_unit
 
 pub returns-in-Some : goal.returns-in-Some
 returns-in-Some g c =

@@ -2,7 +2,7 @@ use Rattle.std.proofs.Common.{◌+◌, Some, None, arith, sym, ◌∙◌, subst}
 use Rattle.std.specs.Prelude.{option_map}
 use Rattle.regex_pattern_front.specs.AstToSpecTree.{tree_of}
 use Rattle.regress_search.specs.AttemptsAndStarts.{NextStartSkipsNoMatch}
-use Rattle.regress_backtrack.proofs.CandidateStartLemmas.{next-further}
+use Rattle.regress_search.proofs.SkippedStartLemmas.{skips-compose}
 use Rattle.regress_backtrack.proofs.PlannedTreeLemmas.{can-be, search-run, end-context, next-tree, next-context}
 use Rattle.regress_backtrack.proofs.classicalbacktrack.BacktrackExecutorSingleAttemptExecutor.next_start_after_failure.Goals as goal
 
@@ -52,7 +52,7 @@ returns-then-may_rescan_leading_loop-clause-next g c =
     let to = offset c.in_ok-to.to in
     let last = option_map offset c.next_start_past_loop.result in
     let text = g.Input.InputIndexer.text s.searched.input in
-    next-further (tree_of s.program.regex) text behind to last
+    skips-compose (tree_of s.program.regex) text behind to last
     (next-context s.program.wide text s.same can.well_formed behind (offset c.in_ok-next.next) (Some to) c.in_ok-next.ensures.next c.in_ok-to.ensures)
     (next-tree s.program.wide (tree_of s.program.regex) _ can.well_formed to last c.next_start_past_loop.ensures)
 

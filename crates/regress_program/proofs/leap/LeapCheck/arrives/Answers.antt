@@ -7,7 +7,7 @@ pub returns-in-OneUnit : goal.returns-in-OneUnit
 returns-in-OneUnit c = λ yes.
     let leap = c.args.self.leap.now in
     let P : ℕ → Type 0 = λ k. is_goal_key leap k ≡ true in
-    arrives-by-unit c.args.self.plan.now leap c.args.ip c.in-OneUnit.key c.in-OneUnit.to c.in-OneUnit.ensures (subst P c.from.ensures (sym c.is_goal.ensures ∙ yes))
+    arrives-by-unit c.args.self.plan.now leap c.args.ip c.in-OneUnit.key c.in-OneUnit.to c.in-OneUnit.ensures (subst P c.from.ensures (sym c.has.ensures ∙ yes))
 
 pub returns-then-count-gt0 : goal.returns-then-count-gt0
 returns-then-count-gt0 c = λ yes.

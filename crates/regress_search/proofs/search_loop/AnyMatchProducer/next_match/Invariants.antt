@@ -8,7 +8,7 @@ use Rattle.regress_search.proofs.search_loop.AnyMatchProducer.next_match.Given a
 
 abbrev pub invariant-places : goal.invariant-places
 invariant-places g l =
-    let a = g.A.SingleAttemptExecutor in
+    let a = g.A.SearchState in
     let offset = g.A.Input.Position.PositionType.offset in
     record {
       walk : Walk (a.tree l.fn.self) (a.text l.fn.self) (offset l.fn.pos) (a.budget l.fn.self) (a.budget l.self) (option_map offset l.next);
@@ -23,4 +23,4 @@ invariant-places g l =
     }
 
 abbrev pub decreases-places : goal.decreases-places
-decreases-places g l = untried (g.A.SingleAttemptExecutor.text l.fn.self) (option_map g.A.Input.Position.PositionType.offset l.next)
+decreases-places g l = untried (g.A.SearchState.text l.fn.self) (option_map g.A.Input.Position.PositionType.offset l.next)

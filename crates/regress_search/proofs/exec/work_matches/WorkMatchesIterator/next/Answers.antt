@@ -7,7 +7,7 @@ use Rattle.regress_search.proofs.exec.work_matches.WorkMatchesIterator.next.Goal
 
 pub returns-clause-steps : goal.returns-clause-steps
 returns-clause-steps g c =
-    let p = g.P.MatchProducer in
+    let p = g.P.SearchState in
     let offset = g.P.Position.PositionType.offset in
     let counts = g.met.P.WorkLimitedProducer.is_counted in
     let found = c.advance_matches in

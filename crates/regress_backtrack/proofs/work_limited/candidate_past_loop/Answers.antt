@@ -1,0 +1,16 @@
+use Rattle.std.proofs.Common.{arith}
+use Rattle.std.specs.Prelude.{option_map}
+use Rattle.regress_search.proofs.SkippedStartLemmas.{skips-compose}
+use Rattle.regress_backtrack.proofs.work_limited.candidate_past_loop.Goals as goal
+
+pub next_start_past_loop_within-requires-clause-at : goal.next_start_past_loop_within-requires-clause-at
+next_start_past_loop_within-requires-clause-at g c = c.in_ok-to.ensures.0
+
+pub next_start_past_loop_within-requires-clause-ahead : goal.next_start_past_loop_within-requires-clause-ahead
+next_start_past_loop_within-requires-clause-ahead g c = omega (arith, c.in_ok-to.ensures.1, c.requires.ahead)
+
+pub returns : goal.returns
+returns g c =
+    let w = g.W.SearchContext.searching c.args.context.now in
+    let offset = g.W.Input.Position.PositionType.offset in
+    skips-compose w.tree w.text (offset c.args.next) (offset c.in_ok-to.to) (option_map offset c.next_start_past_loop_within.result) c.in_ok-to.ensures c.next_start_past_loop_within.ensures

@@ -1,11 +1,13 @@
 -- The cost of an attempt, in units of work.
 use Rattle.std.specs.Prelude.{◌≡◌, ◌≤◌, ℕ, ◌+◌, true, false, [], ◌∷◌, List, Option, Some, None, Result, IfOk, OnErr}
 use Rattle.regex_meaning.specs.Text.{Text, rightwards}
-use Rattle.regex_meaning.specs.CodeUnits.{Encoding, text_units_in_encoding, utf8}
+use Rattle.regex_meaning.specs.CodeUnits.{Encoding, text_units_in_encoding}
 use Rattle.regex_meaning.specs.Tree.{Tree}
 use Rattle.regress_machine.specs.Machine.{State, Thread, Found, running, search}
 use Rattle.regress_machine.specs.SearchFindsFirstOutcomeAtPlace.{state_before_first_insn}
 use Rattle.regress_program.specs.CompilationOfTreesAsFunction.{compiled}
+use Rattle.regress_program.specs.OptimizedTreeUnlessNoOpt.{planned_tree}
+use Rattle.regress_program.specs.TableKeysOfUnits.{is_16_bit_encoding}
 use Rattle.regress_search.specs.CostsOfSearches.{Failures, SpendsExactCost, WorkCosts}
 use Rattle.regress_backtrack.specs.RepeatableLoopBodies.{HasNoBackreference}
 use Rattle.regress_backtrack.specs.BudgetAccounting.{Budget, IsTakenFromBudget}
@@ -60,9 +62,13 @@ abbrev pub AttemptCostsWork : Encoding → Tree → Text → (before : Failures)
 AttemptCostsWork e tree text before at cost (Some after) = IsCostOfAttempt e tree text at cost × (after ≡ before)
 AttemptCostsWork e tree text before at cost None = IsCostOfBeginning e tree text at cost
 
--- The costs of searches in UTF-8 by `WorkLimitedExecutor`.
-abbrev pub work_costs : WorkCosts
-work_costs = record { of_attempt = AttemptCostsWork utf8; may_skip = true }
+-- The costs of searches by `WorkLimitedExecutor` in this encoding. An attempt costs what it costs
+-- with the tree whose code is executed: the tree itself, or the tree to run for 16-bit code units.
+abbrev pub work_costs : Encoding → WorkCosts
+work_costs e = record {
+  of_attempt = λ tree. AttemptCostsWork e (planned_tree (is_16_bit_encoding e) tree);
+  may_skip = true;
+}
 
 -- No failures are known.
 abbrev pub no_failures : Failures

@@ -346,7 +346,7 @@ static void print_next_in_work(const char *what, regress_c_pattern *pattern, reg
 static void next_in_work(void)
 {
     static const char text[] = "aaaaaaaaaaaaaaaaaaaaaaaaac";
-    static const uint16_t units[] = {'a'};
+    static const uint16_t units[] = {'a', 'a'};
     regress_c_search search = REGRESS_C_SEARCH_INIT;
     regress_c_pattern heavy = compiled("(?:a|a)*b", "");
     regress_c_pattern twice = compiled("(a)\\1", "");
@@ -366,8 +366,11 @@ static void next_in_work(void)
     print_next_in_work("by nothing", &nothing, &search, &work, 2);
     search.next = strlen(text) + 1;
     print_next_in_work("past the end", &twice, &search, &work, 2);
-    print_code("in UCS-2", regress_c_search_ucs2(&search, units, 1, 0));
-    print_next_in_work("with a limit", &twice, &search, &work, 2);
+    print_code("in UCS-2", regress_c_search_ucs2(&search, units, 2, 0));
+    print_next_in_work("its match", &twice, &search, &work, 2);
+    print_code("in UTF-16", regress_c_search_utf16(&search, units, 2, 0));
+    work = 5;
+    print_next_in_work("in 5 work", &twice, &search, &work, 2);
     regress_c_free(&twice);
     regress_c_free(&heavy);
 }

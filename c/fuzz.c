@@ -280,18 +280,17 @@ static void check_in_work(regress_c_pattern *pattern, text t, size_t start, matc
     free_matches(found);
 }
 
-/* All matches by calls within a work limit, and in as much work as these took; in less, the first of them. */
-static void check_next_in_work(regress_c_pattern *pattern, text t, size_t start, matches all, size_t ranges)
+/* All matches by calls within a work limit, and in as much work as these took; in less, the first of them. `len` is the
+   number of units of the text of the open search. */
+static void check_next_in_work(regress_c_pattern *pattern, regress_c_search opened, size_t len, matches all, size_t ranges)
 {
-    regress_c_search search = REGRESS_C_SEARCH_INIT, opened;
-    check(regress_c_search_utf8(&search, t.bytes, t.len, start) == REGRESS_C_DONE, "opening once more");
-    opened = search;
+    regress_c_search search = opened;
     size_t room = (all.count + 1) * ranges;
     regress_c_span *spans = malloc(room * sizeof *spans);
     check(spans != NULL, "memory");
     uint64_t left = UINT64_MAX;
     regress_c_reply reply = regress_c_next_in_work(pattern, &search, &left, spans, room);
-    check(reply.code == REGRESS_C_NO_MATCH && search.next > t.len, "work without end");
+    check(reply.code == REGRESS_C_NO_MATCH && search.next > len, "work without end");
     check_same((matches){spans, reply.count, 0, 0}, all, ranges, "matches in work without end");
     uint64_t taken = UINT64_MAX - left, again = taken;
     search = opened;
@@ -308,7 +307,7 @@ static void check_next_in_work(regress_c_pattern *pattern, text t, size_t start,
     reply = regress_c_next_in_work(pattern, &search, &half, spans, room);
     check_same((matches){spans, reply.count, 0, 0}, (matches){all.spans, reply.count, 0, 0}, ranges, "the first ones");
     if (reply.code == REGRESS_C_WORK_LIMIT) {
-        check(half == 0 && search.next <= t.len, "half of the work");
+        check(half == 0 && search.next <= len, "half of the work");
         half = UINT64_MAX;
         reply = regress_c_next_in_work(pattern, &search, &half, spans + reply.count * ranges, room - reply.count * ranges);
         check_same((matches){spans, all.count, 0, 0}, all, ranges, "matches in two calls");
@@ -334,13 +333,17 @@ static void check_wide(regress_c_pattern *pattern, text t, matches all, size_t r
     wide_text wide = units_of(t);
     regress_c_search search = REGRESS_C_SEARCH_INIT;
     check(regress_c_search_utf16(&search, wide.units, wide.len, 0) == REGRESS_C_DONE, "to open UTF-16");
+    regress_c_search opened = search;
     matches found = all_matches(pattern, &search, ranges, 1 + below(4), NULL);
     check(found.count == all.count, "matches in UTF-16");
+    check_next_in_work(pattern, opened, wide.len, found, ranges);
     if (is_ascii(t)) {
         check_same(found, all, ranges, "matches of ASCII in UTF-16");
         regress_c_search_ucs2(&search, wide.units, wide.len, 0);
+        opened = search;
         matches narrow = all_matches(pattern, &search, ranges, 1 + below(4), NULL);
         check_same(narrow, all, ranges, "matches of ASCII in UCS-2");
+        check_next_in_work(pattern, opened, wide.len, narrow, ranges);
         free_matches(narrow);
     }
     free_matches(found);
@@ -399,7 +402,8 @@ static int search_by(regress_c_pattern *pattern, text t)
     check_first(pattern, t, start, all, ranges);
     check_at(pattern, t, start, all, ranges);
     check_in_work(pattern, t, start, all, ranges);
-    check_next_in_work(pattern, t, start, all, ranges);
+    first.next = start;
+    check_next_in_work(pattern, first, t.len, all, ranges);
     check_numbers(pattern, ranges);
     if (start == 0) {
         check_wide(pattern, t, all, ranges);

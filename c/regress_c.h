@@ -37,7 +37,7 @@
  * - A limit for replacements, and replacements in UTF-16. The engine defines replacements of UTF-8 texts, without a
  *   limit. Find the matches with a limit (regress_c_next_within, regress_c_next_in_work) or in UTF-16, and copy the
  *   text between them.
- * - A limit for a match at one offset, and limits in UTF-16 and UCS-2. Steps and work are counted in UTF-8 only.
+ * - A limit for a match at one offset, and a limit of steps in UTF-16 and UCS-2. Steps are counted in UTF-8 only.
  * - A limit of the memory, other than that of the process. If an allocation fails, MEMORY is returned.
  * - A pattern that two threads use at the same time. Use a clone for each.
  */
@@ -92,7 +92,7 @@ enum regress_c_code {
     REGRESS_C_NO_GROUP = 16,
     /* The search is not open. */
     REGRESS_C_NOT_OPEN = 17,
-    /* Steps and work are counted in UTF-8 only. */
+    /* Steps are counted in UTF-8 only. */
     REGRESS_C_NOT_COUNTED = 18,
     /* No bound of the work of the pattern's searches is known, since the pattern has a lookaround. */
     REGRESS_C_UNBOUNDED_LOOKAROUND = 19,
@@ -227,7 +227,7 @@ regress_c_reply regress_c_range_count(regress_c_pattern *pattern);
 /*
  * Writes the name of a group, `count` bytes of UTF-8 without a terminating 0. A group without a name has the empty
  * name. Groups are numbered from 1. Returns DONE, EMPTY, NO_GROUP or SHORT_BUFFER. No two groups of a compiled pattern
- * have the same name.
+ * have the same name, other than the empty one.
  */
 regress_c_reply regress_c_group_name(regress_c_pattern *pattern, size_t number, uint8_t *name, size_t name_len);
 
@@ -292,8 +292,8 @@ regress_c_reply regress_c_match_at_ucs2(regress_c_pattern *pattern, const uint16
  * one of the UNBOUNDED codes if no bound is known (docs/LINEAR.md), and then `per_unit` is unchanged. A pattern with a
  * lookaround is UNBOUNDED_LOOKAROUND, and another pattern with a backreference is UNBOUNDED_BACKREFERENCE.
  *
- * A unit of work is one step of a thread, one character that a loop over characters examines, one way back to a waiting
- * thread, one thread that is dropped since it is known to fail, or one record of a failure that is reached.
+ * A unit of bounded work is one step of a thread, one character that a loop over characters examines, one way back to a
+ * waiting thread, one thread that is dropped since it is known to fail, or one record of a failure that is reached.
  */
 uint32_t regress_c_work_per_unit(regress_c_pattern *pattern, uint64_t *per_unit);
 
@@ -400,7 +400,7 @@ regress_c_reply regress_c_next_within(regress_c_pattern *pattern, regress_c_sear
  *
  * Returns WORK_LIMIT only if a beginning of the search for the next match costs more than is left. Then no work is
  * left, the matches before it are written, and the next call continues there with the work that it is given. Work is
- * counted in UTF-8; in another encoding, NOT_COUNTED is returned. A refused call takes no work.
+ * counted in every encoding. A refused call takes no work.
  */
 regress_c_reply regress_c_next_in_work(regress_c_pattern *pattern, regress_c_search *search, uint64_t *work,
                                        regress_c_span *spans, size_t spans_len);
@@ -462,7 +462,7 @@ static inline const char *regress_c_message(uint32_t code)
     case REGRESS_C_TOO_DEEP: return "the pattern is nested too deeply";
     case REGRESS_C_NO_GROUP: return "no such group";
     case REGRESS_C_NOT_OPEN: return "the search is not open";
-    case REGRESS_C_NOT_COUNTED: return "steps and work are counted in UTF-8 only";
+    case REGRESS_C_NOT_COUNTED: return "steps are counted in UTF-8 only";
     case REGRESS_C_WORK_LIMIT: return "the work limit is reached";
     case REGRESS_C_UNKNOWN_SYNTAX: return "unknown syntax";
     case REGRESS_C_UNBOUNDED_LOOKAROUND: return "no work bound is known: the pattern has a lookaround";

@@ -120,17 +120,19 @@ class Pattern:
         `steps` limits the steps of the search for all matches together. If more are needed, StepLimitError is raised
         after the matches that were found. `work` limits the work in the same way, and WorkLimitError is raised: a unit
         is an operation, a character that a loop tries, a code unit that a backreference compares or a search skips,
-        or a resumed choice point. Neither number depends on time. A string with surrogates has no limits, and a call
-        takes one of the two.
+        or a resumed choice point. Neither number depends on time. Steps are not counted in a string with surrogates,
+        and a call takes one of the two.
         """
         place = _Place(self, string, pos, endpos)
         if steps is not None and work is not None:
             raise ValueError("a search limits either steps or work")
         limit = None
         if steps is not None:
-            limit = (lib.library.regress_c_next_within, _left(steps, "steps", "are", place))
+            limit = (lib.library.regress_c_next_within, _left(steps, "steps"))
+            if not place.text.counts_steps:
+                raise ValueError("steps are not counted in a str with surrogates")
         if work is not None:
-            limit = (lib.library.regress_c_next_in_work, _left(work, "work", "is", place))
+            limit = (lib.library.regress_c_next_in_work, _left(work, "work"))
         text, search = place.text, lib.closed_search()
         lib.check(text.open(search, *place.arguments))
         return map(place.match, self._spans(place, search, limit))
@@ -231,12 +233,10 @@ def _shown(flags):
     return "|".join(f"regress_match.{flag.name}" for flag in [*_LETTERS, RegexFlag.PROFILE] if flags & flag)
 
 
-def _left(limit, what, verb, place):
+def _left(limit, what):
     """Returns the number of `what` that a search may take."""
     if limit < 0:
         raise ValueError(f"{what} must not be negative")
-    if not place.text.counts_steps:
-        raise ValueError(f"{what} {verb} not counted in a str with surrogates")
     return c_uint64(min(limit, 2**64 - 1))
 
 

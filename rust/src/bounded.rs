@@ -12,7 +12,7 @@ use std::iter::FusedIterator;
 const FIRST_ROOM: usize = 32;
 const GROWTH: usize = 8;
 
-/// A pattern with a known work bound: all matches in a text of n bytes take at most `work_per_unit` × (n + 1) work.
+/// A pattern with a known work bound: one search for all matches in a text of n bytes takes at most `work_per_unit` × (n + 1) work.
 ///
 /// A unit of work is one step of a thread, one backtrack to a pending thread, one thread that is dropped because it is known to fail,
 /// one character that a loop examines, or one record of a failure that is reached. On most texts these searches take longer than
@@ -33,7 +33,8 @@ impl<'r> BoundedRegex<'r> {
         self.per_unit
     }
 
-    /// Returns an iterator over the matches in `text` from byte offset `start` on, with at most `work` work for all of them together.
+    /// Returns an iterator over the matches in `text` from byte offset `start` on. Each search that it makes (see below) takes at most
+    /// `work` work for all matches together.
     ///
     /// The items are the list of matches, or a beginning of it followed by an error. The error is `WorkLimit` if more work is needed.
     /// It never occurs if `work` is at least `work_per_unit` × (n + 1) for a text of n bytes (tested, not proved).
@@ -111,7 +112,7 @@ pub struct MatchesInWork<'r> {
 }
 
 impl MatchesInWork<'_> {
-    /// Returns how much work was left after the search for all matches.
+    /// Returns how much work was left after the last search (see `find_from`).
     pub fn work_left(&self) -> u64 {
         self.work_left
     }

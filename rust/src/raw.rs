@@ -443,7 +443,7 @@ pub fn diagnose_utf16(
     }
 }
 
-/// Writes a pattern that matches exactly the text.
+/// Writes a pattern that matches the text, and without the flag `i` nothing else.
 pub fn escape(text: &str, escaped: &mut [u8]) -> Reply {
     // SAFETY: `escaped` is exclusive, and the slices are valid.
     unsafe {

@@ -565,7 +565,7 @@ impl Regex {
     }
 }
 
-/// Returns a pattern that matches exactly `text`: each syntax character gets a backslash.
+/// Returns a pattern that matches `text`, and without the flag `i` nothing else: each syntax character gets a backslash.
 pub fn escape(text: &str) -> String {
     written(2 * text.len(), |escaped| raw::escape(text, escaped))
 }

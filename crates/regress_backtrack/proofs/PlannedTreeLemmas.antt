@@ -1,6 +1,6 @@
 -- The tree that is executed in place of a regex's tree has the same matches and the same starts to try.
-use Rattle.std.proofs.Common.{◌≡◌, ℕ, ◌+◌, Bool, false, List, [], ◌∷◌, Option, Some, None, refl, ap, sym, ◌∙◌, subst, IsTrue}
-use Rattle.std.specs.Prelude.{option_map, option_and_then, Result, Ok, Err, IfOk, length, replicate}
+use Rattle.std.proofs.Common.{◌≡◌, ℕ, ◌+◌, Bool, true, false, List, [], ◌∷◌, Option, Some, None, refl, ap, sym, ◌∙◌, subst, arith, IsTrue}
+use Rattle.std.specs.Prelude.{option_map, option_and_then, Result, Ok, Err, IfOk, OnErr, is_err, length, replicate}
 use Rattle.std.proofs.lemmas.Result.{IfOk-weaker}
 use Rattle.regex_meaning.specs.Tree.{Node, Tree}
 use Rattle.regex_meaning.specs.Text.{Text, rightwards}
@@ -20,10 +20,12 @@ use Rattle.regress_program.specs.OptimizedTreeUnlessNoOpt.{planned_tree}
 use Rattle.regress_program.proofs.TreeToRunLemmas.{planned-same, flags-planned, well_formed-planned, reads_bytes-planned}
 use Rattle.regress_search.proofs.SearchableProgramLemmas.{can-search}
 use Rattle.regress_search.specs.AttemptsAndStarts.{NextStartSkipsNoMatch, NoMatchStartsBetween, match_end_and_groups_at, end_with_groups}
+use Rattle.regress_search.specs.CostsOfSearches.{SkipCostsMoreThanLeft, units_skipped}
 use Rattle.regress_program.specs.SearchableTexts.{IsByteText}
 use Rattle.regress_search.specs.SearchEffects.{SpendsNeedOrReachesLimit}
 use Rattle.regress_search.specs.declared.exec.SearchError.{SearchError}
 use Rattle.regress_search.specs.declared.exec.SearchError.TheVariants.{Memory, StepLimit}
+use Rattle.regress_backtrack.specs.BudgetAccounting.{Budget, IsRefusedByBudget}
 use Rattle.regress_backtrack.specs.TextsReadAsTreeRequires.{TreeCanSearchText}
 use Rattle.regress_search.proofs.SkippedStartLemmas.{skips-compose}
 
@@ -135,3 +137,11 @@ spends-unlimited need other (Err StepLimit) h = h
 -- If `wide` is false, the planned tree is the tree itself.
 pub context-single_unit : (wide : Bool) (t : Tree) → wide ≡ false → planned_tree wide t ≡ t
 context-single_unit wide t single_unit = ap (λ w. planned_tree w t) single_unit
+
+-- ---- Skips that the work limit refuses
+
+-- If the budget refuses to pay for a skip, the skip costs more than is left.
+pub refused-skip : {X E : Type 0} (tree : Tree) (text : Text) (at : ℕ) (next : Option ℕ) (skipped : ℕ) (before after : Budget) (r : Result X E) → true ≡ is_err r
+    → NextStartSkipsNoMatch tree text at next → skipped ≡ units_skipped text at next → OnErr r (IsRefusedByBudget true skipped before after) → SkipCostsMoreThanLeft true tree text at before.left
+refused-skip tree text at next skipped before after (Ok x) e none is refused = cc
+refused-skip tree text at next skipped before after (Err x) e none is refused = (refl, ∣ (next, none, (let few = refused.few in omega (arith, few, is))) ∣₁)

@@ -1,9 +1,8 @@
 //! The executor with a limited amount of work.
 
-ghost use Rattle.std.specs.Prelude.{◌≡◌, ◌≤◌, IfOk, IfSome, true, false, refl, option_map};
+ghost use Rattle.std.specs.Prelude.{◌≡◌, ◌≤◌, IsAscii, IfOk, IfSome, true, false, refl, option_map};
 ghost use Rattle.std.proofs.Props.{props};
-ghost use Rattle.regex_meaning.specs.Text.{utf8_text};
-ghost use Rattle.regex_meaning.proofs.CodeUnitOffsetsLemmas.{utf8_text-IsText};
+ghost use Rattle.regex_meaning.specs.Text.{ascii_text, ucs2_text, utf16_text, utf8_text};
 ghost use Rattle.regex_meaning.specs.CodeUnitOffsets.{IsBoundary, units};
 ghost use Rattle.regex_pattern_front.specs.AstToSpecTree.{tree_of};
 ghost use Rattle.regress_machine.specs.SearchFindsFirstOutcomeAtPlace.{TreeProgramCanSearchText};
@@ -18,8 +17,8 @@ use crate::classicalbacktrack::{
 use crate::failure_memo::{NoMemo, StepsAndMemo};
 use crate::next_candidate_start_by_plan::is_candidate_start;
 use crate::step_and_work_budgets::{StepCounter, WorkBudget};
-use regress_input::indexing::{InputIndexer, Utf8Input};
-use regress_program::insn::{CompiledRegex, Program};
+use regress_input::indexing::{AsciiInput, InputIndexer, Ucs2Input, Utf8Input, Utf16Input};
+use regress_program::insn::{CompiledRegex, CompiledRegexFor16BitUnits, Program};
 use regress_program::leading_char_loop::LeadingCharLoop;
 use regress_search::exec::{
     ProducerFromProgramAndText, SearchError, SearchState, WorkLimitedProducer,
@@ -30,23 +29,42 @@ use regress_search::search_context::{
 use regress_search::search_loop::SingleAttemptExecutor;
 use std::alloc::AllocError;
 
-/// Searches a text in UTF-8 like `BacktrackExecutor`, but does at most a given amount of work for
-/// all matches together. It records no failures.
+/// Searches a text like `BacktrackExecutor`, but does at most a given amount of work for all matches
+/// together. It records no failures.
 ///
-/// Each attempt takes exactly what it costs (`AttemptCostsWork`) from the work that is left, before
-/// that work is done. Between attempts, a prefilter skips to the next candidate start. After a
-/// failed attempt, the leading loop is skipped too. A skip takes one unit for each code unit that
-/// is skipped. What a search costs does not depend on the work that is left.
+/// Each attempt takes exactly what it costs (`work_costs`) from the work that is left, before that
+/// work is done. Between attempts, a prefilter skips to the next candidate start. After a failed
+/// attempt, the leading loop is skipped too. A skip takes one unit for each code unit that is
+/// skipped. What a search costs does not depend on the work that is left.
 #[derive(Drop)]
-pub struct WorkLimitedExecutor<'r, 't> {
-    executor: BacktrackExecutor<'r, Utf8Input<'t>>,
+pub struct WorkLimitedExecutor<'r, Input: InputIndexer> {
+    executor: BacktrackExecutor<'r, Input>,
     // The work that is left, and whether the last attempt was refused some.
     work: WorkBudget,
     // No work is left after some was refused.
     ghost spent: { work.out ≡ true → work.left ≡ 0 } by { Prim.hlevel props },
 }
 
-impl<'r, 't> WorkLimitedExecutor<'r, 't> {
+impl<'r, Input: InputIndexer> WorkLimitedExecutor<'r, Input> {
+    // Limits the work of an executor.
+    fn from_executor(executor: BacktrackExecutor<'r, Input>, work: u64) -> Self
+        ensures tree { tree_of result.executor.search.program.regex
+            ≡ tree_of executor.entry.search.program.regex }
+        ensures text { Input.text result.executor.search.searched.input
+            ≡ Input.text executor.entry.search.searched.input }
+        ensures left { result.work.left ≡ work }
+    {
+        WorkLimitedExecutor {
+            executor,
+            work: WorkBudget {
+                left: work,
+                out: false,
+            },
+        }
+    }
+}
+
+impl<'r, 't> WorkLimitedExecutor<'r, Utf8Input<'t>> {
     /// Creates an executor that searches `text` with the program `re`, in at most `work` units of
     /// work.
     ///
@@ -54,27 +72,91 @@ impl<'r, 't> WorkLimitedExecutor<'r, 't> {
     ///
     /// Returns `Err` if an allocation fails.
     pub fn new(re: &'r CompiledRegex, text: &'t str, work: u64) -> Result<Self, AllocError>
-        ensures tree { IfOk result (λ e. ⟦<WorkLimitedExecutor<'r, 't> as SearchState>⟧.tree e
+        ensures tree { IfOk result (λ e. ⟦<WorkLimitedExecutor<'r, Utf8Input<'t>> as SearchState>⟧.tree e
             ≡ tree_of re.now) }
-        ensures text { IfOk result (λ e. ⟦<WorkLimitedExecutor<'r, 't> as SearchState>⟧.text e
+        ensures text { IfOk result (λ e. ⟦<WorkLimitedExecutor<'r, Utf8Input<'t>> as SearchState>⟧.text e
             ≡ utf8_text text.now (tree_of re.now).flags.unicode) }
-        ensures left { IfOk result (λ e. ⟦<WorkLimitedExecutor<'r, 't> as SearchState>⟧.left e ≡ work) }
+        ensures left { IfOk result (λ e. ⟦<WorkLimitedExecutor<'r, Utf8Input<'t>> as SearchState>⟧.left e
+            ≡ work) }
     {
         let executor = BacktrackExecutor::<Utf8Input>::new(re, text)?;
-        Ok(WorkLimitedExecutor {
-            executor,
-            work: WorkBudget {
-                left: work,
-                out: false,
-            },
-        })
+        Ok(WorkLimitedExecutor::from_executor(executor, work))
     }
 }
 
-impl<'r, 't> SearchState for WorkLimitedExecutor<'r, 't> {
+impl<'r, 't> WorkLimitedExecutor<'r, AsciiInput<'t>> {
+    /// Creates an executor that searches an ASCII text (`is_ascii`) with the program `re`, in at
+    /// most `work` units of work.
+    ///
+    /// # Errors
+    ///
+    /// Returns `Err` if an allocation fails.
+    pub fn new_ascii(re: &'r CompiledRegex, text: &'t str, work: u64) -> Result<Self, AllocError>
+        requires { IsAscii text.now }
+        ensures tree { IfOk result (λ e. ⟦<WorkLimitedExecutor<'r, AsciiInput<'t>> as SearchState>⟧.tree e
+            ≡ tree_of re.now) }
+        ensures text { IfOk result (λ e. ⟦<WorkLimitedExecutor<'r, AsciiInput<'t>> as SearchState>⟧.text e
+            ≡ ascii_text text.now (tree_of re.now).flags.unicode) }
+        ensures left { IfOk result (λ e. ⟦<WorkLimitedExecutor<'r, AsciiInput<'t>> as SearchState>⟧.left e
+            ≡ work) }
+    {
+        let executor = BacktrackExecutor::<AsciiInput>::new(re, text)?;
+        Ok(WorkLimitedExecutor::from_executor(executor, work))
+    }
+}
+
+impl<'r, 't> WorkLimitedExecutor<'r, Utf16Input<'t>> {
+    /// Creates an executor that searches 16-bit units, read as UTF-16, with the program `re`, in
+    /// at most `work` units of work.
+    ///
+    /// # Errors
+    ///
+    /// Returns `Err` if an allocation fails.
+    pub fn new_utf16(
+        re: &'r CompiledRegexFor16BitUnits,
+        text: &'t [u16],
+        work: u64,
+    ) -> Result<Self, AllocError>
+        ensures tree { IfOk result (λ e. ⟦<WorkLimitedExecutor<'r, Utf16Input<'t>> as SearchState>⟧.tree e
+            ≡ tree_of re.now) }
+        ensures text { IfOk result (λ e. ⟦<WorkLimitedExecutor<'r, Utf16Input<'t>> as SearchState>⟧.text e
+            ≡ utf16_text text.now (tree_of re.now).flags.unicode) }
+        ensures left { IfOk result (λ e. ⟦<WorkLimitedExecutor<'r, Utf16Input<'t>> as SearchState>⟧.left e
+            ≡ work) }
+    {
+        let executor = BacktrackExecutor::<Utf16Input>::new_utf16(re, text)?;
+        Ok(WorkLimitedExecutor::from_executor(executor, work))
+    }
+}
+
+impl<'r, 't> WorkLimitedExecutor<'r, Ucs2Input<'t>> {
+    /// Creates an executor that searches 16-bit units, each of which is a character, with the
+    /// program `re`, in at most `work` units of work.
+    ///
+    /// # Errors
+    ///
+    /// Returns `Err` if an allocation fails.
+    pub fn new_ucs2(
+        re: &'r CompiledRegexFor16BitUnits,
+        text: &'t [u16],
+        work: u64,
+    ) -> Result<Self, AllocError>
+        ensures tree { IfOk result (λ e. ⟦<WorkLimitedExecutor<'r, Ucs2Input<'t>> as SearchState>⟧.tree e
+            ≡ tree_of re.now) }
+        ensures text { IfOk result (λ e. ⟦<WorkLimitedExecutor<'r, Ucs2Input<'t>> as SearchState>⟧.text e
+            ≡ ucs2_text text.now (tree_of re.now).flags.unicode) }
+        ensures left { IfOk result (λ e. ⟦<WorkLimitedExecutor<'r, Ucs2Input<'t>> as SearchState>⟧.left e
+            ≡ work) }
+    {
+        let executor = BacktrackExecutor::<Ucs2Input>::new_ucs2(re, text)?;
+        Ok(WorkLimitedExecutor::from_executor(executor, work))
+    }
+}
+
+impl<'r, Input: InputIndexer> SearchState for WorkLimitedExecutor<'r, Input> {
     ghost tree = { λ e. tree_of e.executor.search.program.regex };
 
-    ghost text = { λ e. ⟦<Utf8Input<'t> as InputIndexer>⟧.text e.executor.search.searched.input };
+    ghost text = { λ e. Input.text e.executor.search.searched.input };
 
     ghost enough = { λ _. false };
 
@@ -84,29 +166,25 @@ impl<'r, 't> SearchState for WorkLimitedExecutor<'r, 't> {
 
     ghost counts_work = { true };
 
-    ghost costs = { work_costs };
+    ghost costs = { work_costs Input.Units.encoding };
 }
 
-impl<'r, 't> SingleAttemptExecutor for WorkLimitedExecutor<'r, 't> {
-    type Input = Utf8Input<'t>;
+impl<'r, Input: InputIndexer> SingleAttemptExecutor for WorkLimitedExecutor<'r, Input> {
+    type Input = Input;
 
     ghost groups = { λ e. (current_thread_state_of e.executor.memory 0 0).groups };
 
-    ghost is_text = { λ e. utf8_text-IsText e.executor.search.searched.input.input.now
-        e.executor.search.searched.input.unicode };
+    ghost is_text = { λ e. Input.is_text e.executor.search.searched.input };
 
     fn program(&self) -> &Program {
         self.executor.program()
     }
 
-    fn input(&self) -> &Utf8Input<'t> {
+    fn input(&self) -> &Input {
         self.executor.input()
     }
 
-    fn attempt(
-        &mut self,
-        pos: <Utf8Input<'t> as InputIndexer>::Position,
-    ) -> Result<Option<<Utf8Input<'t> as InputIndexer>::Position>, SearchError> {
+    fn attempt(&mut self, pos: Input::Position) -> Result<Option<Input::Position>, SearchError> {
         let mut progress = StepsAndMemo {
             steps: WorkBudget {
                 left: self.work.left,
@@ -126,29 +204,15 @@ impl<'r, 't> SingleAttemptExecutor for WorkLimitedExecutor<'r, 't> {
         self.executor.group_count()
     }
 
-    fn group(
-        &self,
-        id: usize,
-    ) -> Option<
-        (
-            <Utf8Input<'t> as InputIndexer>::Position,
-            <Utf8Input<'t> as InputIndexer>::Position,
-        ),
-    > {
+    fn group(&self, id: usize) -> Option<(Input::Position, Input::Position)> {
         self.executor.group(id)
     }
 
-    fn first_start_to_try_from(
-        &self,
-        pos: <Utf8Input<'t> as InputIndexer>::Position,
-    ) -> Option<<Utf8Input<'t> as InputIndexer>::Position> {
+    fn first_start_to_try_from(&self, pos: Input::Position) -> Option<Input::Position> {
         Some(pos)
     }
 
-    fn next_start_after_failure(
-        &self,
-        tried: <Utf8Input<'t> as InputIndexer>::Position,
-    ) -> Option<<Utf8Input<'t> as InputIndexer>::Position> {
+    fn next_start_after_failure(&self, tried: Input::Position) -> Option<Input::Position> {
         self.executor.search.searched.position_after_failure(tried)
     }
 
@@ -156,8 +220,8 @@ impl<'r, 't> SingleAttemptExecutor for WorkLimitedExecutor<'r, 't> {
     // reached.
     fn skip_to_candidate(
         &mut self,
-        from: <Utf8Input<'t> as InputIndexer>::Position,
-    ) -> Result<Option<<Utf8Input<'t> as InputIndexer>::Position>, SearchError> {
+        from: Input::Position,
+    ) -> Result<Option<Input::Position>, SearchError> {
         if self.executor.search.searched.is_anchored() {
             return Ok(Some(from));
         }
@@ -170,9 +234,9 @@ impl<'r, 't> SingleAttemptExecutor for WorkLimitedExecutor<'r, 't> {
 
     fn skip_after_failure(
         &mut self,
-        tried: <Utf8Input<'t> as InputIndexer>::Position,
-        next: <Utf8Input<'t> as InputIndexer>::Position,
-    ) -> Result<Option<<Utf8Input<'t> as InputIndexer>::Position>, SearchError> {
+        tried: Input::Position,
+        next: Input::Position,
+    ) -> Result<Option<Input::Position>, SearchError> {
         let leading_loop = self.executor.leading_loop;
         let work = self.work.left;
         let (start, skipped) = skip_past_loop(
@@ -286,8 +350,7 @@ fn next_candidate_start_within<W: SearchContext>(
     }
 }
 
-// Does what `next_candidate_start_within` does, and reads no code unit past the character at
-// `limit`.
+// Does what `next_candidate_start_within` does, and tests no start past `limit`.
 #[inline(never)]
 fn next_start_by_single_tests<W: SearchContext>(
     context: &W,
@@ -360,7 +423,7 @@ fn next_start_past_loop_within<W: SearchContext>(
     next_candidate_start_within(context, past, limit)
 }
 
-impl<'r, 't> WorkLimitedProducer for WorkLimitedExecutor<'r, 't> {
+impl<'r, Input: InputIndexer> WorkLimitedProducer for WorkLimitedExecutor<'r, Input> {
     fn work_left(&self) -> u64 {
         self.work.left
     }

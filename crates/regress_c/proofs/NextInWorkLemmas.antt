@@ -1,5 +1,5 @@
 -- A call within a work limit takes the work of its matches, and replies with the outcome of the search.
-use Rattle.std.proofs.Common.{◌≡◌, ℕ, ◌+◌, ◌<◌, Bool, List, Option, Some, None, Ok, Err, refl, sym, ap, ◌∙◌, subst, length, arith}
+use Rattle.std.proofs.Common.{◌≡◌, ℕ, ◌+◌, ◌<◌, Bool, List, Option, Some, None, Result, Ok, Err, refl, sym, ap, ◌∙◌, subst, length, arith}
 use Rattle.regex_meaning.specs.Text.{Text}
 use Rattle.regex_meaning.specs.Tree.{Tree}
 use Rattle.regress_search.specs.CostsOfSearches.{Failures, IfWorkIsCounted, LeavesWorkWithoutResult, TakesExactCost, WorkCosts}
@@ -8,7 +8,7 @@ use Rattle.regress_match.specs.Resuming.{offset_after_first_match}
 use Rattle.regress_match.specs.declared.api.regex.Regex.{Regex}
 use Rattle.regress_c.specs.Codes.{code_of_refusal}
 use Rattle.regress_c.specs.NextInWork.{FillsInWork, IsOutcomeInWork, IsOutcomeInWorkIfOpen, IsOutcomeInWorkOfHandle, MatchesCost, OutcomeInWork}
-use Rattle.regress_c.specs.NextInWork.{RepliesNextInWork, SearchFromCosts, StopLeavesWork, TakesWorkOfCall, TakesWorkOfMatches}
+use Rattle.regress_c.specs.NextInWork.{RepliesNextInWork, SearchFromCosts, StopLeavesWork, TakesWorkInEncoding, TakesWorkOfMatches}
 use Rattle.regress_c.specs.NextInWork.{code_of_stop_in_work, no_matches, one_more, ran, refused, short}
 use Rattle.regress_c.specs.NextMatches.{HasSameText, number_of_ranges, tree_for_encoding}
 use Rattle.regress_c.specs.Opening.{encoding_of}
@@ -16,7 +16,7 @@ use Rattle.regress_c.specs.declared.next_in_work.FilledInWork.{FilledInWork}
 use Rattle.regress_c.specs.declared.next_matches.Stop.{Stop}
 use Rattle.regress_c.specs.declared.next_matches.Stop.TheVariants.{Full, Over, Refused}
 use Rattle.regress_c.specs.declared.refusal.Refusal.{Refusal}
-use Rattle.regress_c.specs.declared.refusal.Refusal.TheVariants.{Empty, NotBoundary, NotCounted, NotOpen, ShortBuffer, Memory}
+use Rattle.regress_c.specs.declared.refusal.Refusal.TheVariants.{Empty, NotBoundary, NotOpen, ShortBuffer, Memory}
 use Rattle.regress_c.specs.declared.reply.Reply.{Reply}
 use Rattle.regress_c.specs.declared.reply.Span.{Span}
 use Rattle.regress_c.specs.declared.search.Encoding.{Encoding}
@@ -109,14 +109,12 @@ module _ (re : Regex) (s : Search) (work : ℕ) (before : List Span) where
       written = refl;
     }
 
-    refuses : (r : Refusal) (left : ℕ) (after : List Span) → FillsInWork re s.bytes.now s.next work left e before after (Err r)
-        → IsOutcomeInWork re s e work left (length before) (refused r) × (after ≡ before)
-    refuses NotCounted left after (other, l, a) = ((other, l), a)
-    refuses NotBoundary left after (is, splits, l, a) = (((is, splits), l), a)
-    refuses Memory left after (is, l, a) = ((is, l), a)
+    refuses : (r : Refusal) (left : ℕ) (after : List Span) → FillsInWork re s e work left before after (Err r) → IsOutcomeInWork re s e work left (length before) (refused r) × (after ≡ before)
+    refuses NotBoundary left after (splits, l, a) = ((splits, l), a)
+    refuses Memory left after (l, a) = ((tt, l), a)
     refuses _ left after h = absurd h
 
-    pub is-refused : (left : ℕ) (after : List Span) (r : Refusal) (reply : Reply) → FillsInWork re s.bytes.now s.next work left e before after (Err r)
+    pub is-refused : (left : ℕ) (after : List Span) (r : Refusal) (reply : Reply) → FillsInWork re s e work left before after (Err r)
         → reply ≡ record { code = code_of_refusal r; count = 0 } → RepliesNextInWork (Some re) s s work left before after reply
     is-refused left after r reply h is =
         let goes = refuses r left after h in
@@ -130,17 +128,24 @@ module _ (re : Regex) (s : Search) (work : ℕ) (before : List Span) where
         }
 
     pub is-filled : (s' : Search) (left : ℕ) (after : List Span) (f : FilledInWork) (code : ℕ) → HasSameText s s' → s'.next ≡ f.filled.next
-        → FillsInWork re s.bytes.now s.next work left e before after (Ok f) → code ≡ code_of_stop_in_work f.filled.stop f.out
+        → FillsInWork re s e work left before after (Ok f) → code ≡ code_of_stop_in_work f.filled.stop f.out
         → RepliesNextInWork (Some re) s s' work left before after (record { code = code; count = f.filled.matches })
-    is-filled s' left after f code same next (is, fills, takes) c =
+    is-filled s' left after f code same next (fills, takes) c =
         let takes_of_run =
-        subst (λ n. TakesWorkOfCall re s.bytes.now s.next work left n fills.run.stop f.out) fills.matches
-        (subst (λ stop. TakesWorkOfCall re s.bytes.now s.next work left f.filled.matches stop f.out) fills.stop takes) in
+        subst (λ n. TakesWorkInEncoding re s e work left n fills.run.stop f.out) fills.matches
+        (subst (λ stop. TakesWorkInEncoding re s e work left f.filled.matches stop f.out) fills.stop takes) in
         record {
           went = ran fills.run f.out;
-          goes = by-encoding left (ran fills.run f.out) (is, fills.is, takes_of_run);
+          goes = by-encoding left (ran fills.run f.out) (fills.is, takes_of_run);
           reply_is = λ i. record { code = (c ∙ ap (λ stop. code_of_stop_in_work stop f.out) fills.stop) i; count = fills.matches i };
           same_text = same;
           next = next ∙ fills.next;
           written = fills.written;
         }
+
+-- ---- Encodings
+
+-- If the encoding is the other one, the matches of a search in that one are written.
+pub fills-in : (re : Regex) (s : Search) (e e' : Encoding) (work left : ℕ) (before after : List Span) (r : Result FilledInWork Refusal) → e ≡ e' → FillsInWork re s e' work left before after r
+    → FillsInWork re s e work left before after r
+fills-in re s e e' work left before after r is h = subst (λ e. FillsInWork re s e work left before after r) (sym is) h

@@ -22,7 +22,7 @@ message_of_code code =
     else if code == 15 then codes "the pattern is nested too deeply"
     else if code == 16 then codes "no such group"
     else if code == 17 then codes "the search is not open"
-    else if code == 18 then codes "steps and work are counted in UTF-8 only"
+    else if code == 18 then codes "steps are counted in UTF-8 only"
     else if code == 19 then codes "no work bound is known: the pattern has a lookaround"
     else if code == 20 then codes "the work limit is reached"
     else if code == 21 then codes "unknown syntax"

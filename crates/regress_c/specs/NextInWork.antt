@@ -1,27 +1,27 @@
 -- The matches that one call writes within a work limit, and what they cost in units of work.
-use Rattle.std.specs.Prelude.{◌≡◌, ◌≢◌, ◌<◌, ◌+◌, ℕ, Bool, true, List, Option, Some, None, Result, Ok, Err, flat_map, length}
+use Rattle.std.specs.Prelude.{◌≡◌, ◌<◌, ◌+◌, ℕ, Bool, true, List, Option, Some, None, Result, Ok, Err, flat_map, length}
 use Rattle.regex_meaning.specs.CodeUnitOffsets.{offset_within}
+use Rattle.regex_meaning.specs.CodeUnits.{ucs2, utf16, utf8}
 use Rattle.regex_meaning.specs.Text.{Text}
 use Rattle.regex_meaning.specs.Tree.{Tree}
 use Rattle.regress_backtrack.specs.WorkOfAttempts.{no_failures, work_costs}
 use Rattle.regress_search.specs.CostsOfSearches.{Failures, LeavesWorkWithoutResult, SearchCosts, TakesExactCost, WorkCosts}
-use Rattle.regress_match.specs.ProgramTreesAndAnswers.{bytes_as_utf8_text, tree_for_byte_units}
 use Rattle.regress_match.specs.Resuming.{offset_after_first_match}
 use Rattle.regress_match.specs.declared.api.regex.Regex.{Regex}
 use Rattle.regress_c.specs.Codes.{code_of_refusal}
-use Rattle.regress_c.specs.NextMatches.{Fills, HasSameText, IsRunOfCall, Run, code_of_stop_reason, number_of_ranges, tree_for_encoding}
+use Rattle.regress_c.specs.NextMatches.{Fills, HasSameText, IsNextStartOnBoundary, IsRunOfCall, Run, code_of_stop_reason}
+use Rattle.regress_c.specs.NextMatches.{number_of_ranges, text_of_search_in_encoding, tree_for_encoding}
 use Rattle.regress_c.specs.Opening.{encoding_of}
 use Rattle.regress_c.specs.Replies.{spans_of, with_front_overwritten}
-use Rattle.regress_c.specs.Searching.{can_start_utf8}
 use Rattle.regress_c.specs.declared.next_in_work.FilledInWork.{FilledInWork}
 use Rattle.regress_c.specs.declared.next_matches.Stop.{Stop}
 use Rattle.regress_c.specs.declared.next_matches.Stop.TheVariants.{Full, Over, Refused}
 use Rattle.regress_c.specs.declared.refusal.Refusal.{Refusal}
-use Rattle.regress_c.specs.declared.refusal.Refusal.TheVariants.{Empty, NotBoundary, NotCounted, NotOpen, ShortBuffer, Memory, WorkLimit}
+use Rattle.regress_c.specs.declared.refusal.Refusal.TheVariants.{Empty, NotBoundary, NotOpen, ShortBuffer, Memory, WorkLimit}
 use Rattle.regress_c.specs.declared.reply.Reply.{Reply}
 use Rattle.regress_c.specs.declared.reply.Span.{Span}
 use Rattle.regress_c.specs.declared.search.Encoding.{Encoding}
-use Rattle.regress_c.specs.declared.search.Encoding.TheVariants.{Utf8}
+use Rattle.regress_c.specs.declared.search.Encoding.TheVariants.{Utf8, Utf16, Ucs2}
 use Rattle.regress_c.specs.declared.search.Search.{Search}
 
 -- ---- Costs
@@ -71,25 +71,44 @@ code_of_stop_in_work stop out = code_of_stop_reason stop
 abbrev pub IsWorkSpentIf : (out : Bool) → (left : ℕ) → Type 0
 IsWorkSpentIf out left = out ≡ true → left ≡ 0
 
--- A search with this pattern in a UTF-8 text from `start` on.
-module _ (re : Regex) (text : List ℕ) (start work left : ℕ) where
+-- A call for matches from `start` on, at these costs, which had `work` work and leaves `left`.
+module _ (costs : WorkCosts) (tree : Tree) (text : Text) (start work left : ℕ) where
   -- The call takes the work of its matches and of the search that stops it.
   abbrev pub TakesWorkOfCall : (count : ℕ) → Stop → (out : Bool) → Type 0
   TakesWorkOfCall count stop out =
-      TakesWorkOfMatches work_costs (tree_for_byte_units re) (bytes_as_utf8_text re text) no_failures start
-      work count stop out left × IsWorkSpentIf out left
+      TakesWorkOfMatches costs tree text no_failures start work count stop out left × IsWorkSpentIf out left
 
-  -- The matches of the tree are written, as by a call without a limit, and their work is taken; or
-  -- the call is refused, and neither the buffer nor the work changes.
-  abbrev pub FillsInWork : Encoding → (before after : List Span) → Result FilledInWork Refusal → Type 0
-  FillsInWork e before after (Ok f) =
-      (e ≡ Utf8) × Fills (tree_for_byte_units re) (bytes_as_utf8_text re text) None start before after f.filled None
+  -- The matches of the tree are written, as by a call without a limit, and their work is taken.
+  abbrev pub WritesInWork : (before after : List Span) → FilledInWork → Type 0
+  WritesInWork before after f = Fills tree text None start before after f.filled None
       × TakesWorkOfCall f.filled.matches f.filled.stop f.out
-  FillsInWork e before after (Err NotCounted) = (e ≢ Utf8) × (left ≡ work) × (after ≡ before)
-  FillsInWork e before after (Err NotBoundary) = (e ≡ Utf8) × (¬ can_start_utf8 text start) × (left ≡ work)
-      × (after ≡ before)
-  FillsInWork e before after (Err Memory) = (e ≡ Utf8) × (left ≡ work) × (after ≡ before)
-  FillsInWork e before after (Err _) = ⊥
+
+  -- This is so, or the call is refused, and neither the buffer nor the work changes.
+  abbrev pub FillsInWorkFrom : (can_start : Type 0) → (before after : List Span) → Result FilledInWork Refusal → Type 0
+  FillsInWorkFrom can_start before after (Ok f) = WritesInWork before after f
+  FillsInWorkFrom can_start before after (Err NotBoundary) = (¬ can_start) × (left ≡ work) × (after ≡ before)
+  FillsInWorkFrom can_start before after (Err Memory) = (left ≡ work) × (after ≡ before)
+  FillsInWorkFrom can_start before after (Err _) = ⊥
+
+-- The costs of searches of a text in this encoding.
+abbrev pub costs_in_encoding : Encoding → WorkCosts
+costs_in_encoding Utf8 = work_costs utf8
+costs_in_encoding Utf16 = work_costs utf16
+costs_in_encoding Ucs2 = work_costs ucs2
+
+-- A search with this pattern in this encoding.
+module _ (re : Regex) (s : Search) (e : Encoding) (work left : ℕ) where
+  -- A call takes the work of its matches and of the search that stops it.
+  abbrev pub TakesWorkInEncoding : (count : ℕ) → Stop → (out : Bool) → Type 0
+  TakesWorkInEncoding count stop out =
+      TakesWorkOfCall (costs_in_encoding e) (tree_for_encoding re e) (text_of_search_in_encoding re s e) s.next
+      work left count stop out
+
+  -- The matches are written and their work is taken, or the call is refused.
+  abbrev pub FillsInWork : (before after : List Span) → Result FilledInWork Refusal → Type 0
+  FillsInWork before after result =
+      FillsInWorkFrom (costs_in_encoding e) (tree_for_encoding re e) (text_of_search_in_encoding re s e) s.next
+      work left (IsNextStartOnBoundary s e) before after result
 
 -- The outcome of a call: it ran, and its last search reached the work limit or not; it had less
 -- room than the `ranges` of one match; or it was refused.
@@ -98,19 +117,17 @@ pub data OutcomeInWork : Type 0 where
   short : (ranges : ℕ) → OutcomeInWork
   refused : Refusal → OutcomeInWork
 
--- When an open search that has room for one match is refused. Work is counted in UTF-8 only.
+-- When an open search that has room for one match is refused.
 abbrev pub RefusesSearchInWork : Search → Encoding → Refusal → Type 0
-RefusesSearchInWork s e NotCounted = e ≢ Utf8
-RefusesSearchInWork s e NotBoundary = (e ≡ Utf8) × ¬ can_start_utf8 s.bytes.now s.next
-RefusesSearchInWork s e Memory = e ≡ Utf8
+RefusesSearchInWork s e NotBoundary = ¬ IsNextStartOnBoundary s e
+RefusesSearchInWork s e Memory = Unit {0}
 RefusesSearchInWork s e _ = ⊥
 
 -- The outcome of a search with this pattern in this encoding.
 abbrev pub IsOutcomeInWork : Regex → Search → Encoding → (work left room : ℕ) → OutcomeInWork → Type 0
 IsOutcomeInWork re s e work left room (ran run out) =
-    (e ≡ Utf8)
-    × IsRunOfCall (tree_for_byte_units re) (bytes_as_utf8_text re s.bytes.now) None s.next room run
-    × TakesWorkOfCall re s.bytes.now s.next work left (length run.found) run.stop out
+    IsRunOfCall (tree_for_encoding re e) (text_of_search_in_encoding re s e) None s.next room run
+    × TakesWorkInEncoding re s e work left (length run.found) run.stop out
 IsOutcomeInWork re s e work left room (short ranges) = (ranges ≡ number_of_ranges (tree_for_encoding re e))
     × (room < ranges) × (left ≡ work)
 IsOutcomeInWork re s e work left room (refused r) = RefusesSearchInWork s e r × (left ≡ work)

@@ -585,8 +585,8 @@ pub extern "C" fn regress_c_next_within(
     went.reply
 }
 
-/// Writes the next matches of a search in UTF-8, with at most `work` work. Sets `work` to the work
-/// that is left.
+/// Writes the next matches of a search, with at most `work` work. Sets `work` to the work that is
+/// left.
 ///
 /// Each search takes exactly its cost (`work_costs`) from `work`. No bound of the pattern is
 /// needed, and no number suffices for every text.

@@ -26,7 +26,7 @@ pub(crate) fn message_of_code(code: u32) -> &'static str
         15 => "the pattern is nested too deeply",
         16 => "no such group",
         17 => "the search is not open",
-        18 => "steps and work are counted in UTF-8 only",
+        18 => "steps are counted in UTF-8 only",
         19 => "no work bound is known: the pattern has a lookaround",
         20 => "the work limit is reached",
         21 => "unknown syntax",

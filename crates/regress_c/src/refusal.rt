@@ -51,7 +51,7 @@ pub(crate) enum Refusal {
     NoGroup,
     /// No search is open.
     NotOpen,
-    /// Steps and work are not counted in this encoding.
+    /// Steps are not counted in this encoding.
     NotCounted,
     /// No work bound of the pattern is known, for this reason.
     Unbounded(Unbounded),

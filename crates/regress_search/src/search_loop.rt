@@ -23,7 +23,7 @@ use std::ops::Range;
 /// An executor that tries one start position at a time.
 ///
 /// If steps are counted, only the positions that the start predicate admits are tried. If work is
-/// counted, each position is tried.
+/// counted, each position is tried, or skipped and paid for.
 pub trait SingleAttemptExecutor: SearchState {
     /// The text that is searched.
     type Input: InputIndexer;

@@ -128,8 +128,31 @@ fn exact_work_taken(
     Ok(if is_exact { Some(taken) } else { None })
 }
 
+// Checks whether the default executor finds the same matches in UTF-16 within a work limit: with
+// exactly the work that they take. Half of it suffices for a prefix of the matches.
+fn do_work_limits_agree_in_utf16(
+    alloc: Global,
+    re: &Regex,
+    known: Known<'_>,
+) -> Result<bool, ParseFault> {
+    let units: Vec<u16> = known.text.encode_utf16().collect(alloc)?;
+    let found = all(alloc, re.find_from_utf16_in_work(&units, 0, u64::MAX)?)?;
+    let taken = u64::MAX.saturating_sub(found.left);
+    let again = all(alloc, re.find_from_utf16_in_work(&units, 0, taken)?)?;
+    let half = all(alloc, re.find_from_utf16_in_work(&units, 0, taken / 2)?)?;
+    let list = found.list.as_slice();
+    Ok(
+        !found.ran_out_of_work
+            && match_same_places(known.text, known.list, list)
+            && again.left == 0
+            && again.has_exactly_these_matches(list)
+            && (half.has_exactly_these_matches(list) || half.is_prefix_until_work_ran_out(list)),
+    )
+}
+
 /// Checks whether the default executor finds the same matches within a work limit: with exactly the
-/// work that they take. One unit less, and half of it, suffice for a prefix of the matches.
+/// work that they take. One unit less, and half of it, suffice for a prefix of the matches. Checks
+/// the same in UTF-16.
 pub fn do_work_limits_agree(
     alloc: Global,
     re: &Regex,
@@ -142,7 +165,10 @@ pub fn do_work_limits_agree(
         return Ok(false);
     };
     let half = all_in_bytes(alloc, pattern, text, taken / 2)?;
-    Ok(half.has_exactly_these_matches(list) || half.is_prefix_until_work_ran_out(list))
+    if !half.has_exactly_these_matches(list) && !half.is_prefix_until_work_ran_out(list) {
+        return Ok(false);
+    }
+    do_work_limits_agree_in_utf16(alloc, re, known)
 }
 
 // Checks whether all matches in bytes are found with the work that the bound requires.

@@ -18,6 +18,7 @@ use crate::executor_aliases::{
     search_with_executor_from,
 };
 use regex_parser::parse::try_parse_in;
+use regress_input::indexing::{AsciiInput, Utf8Input};
 use regress_program::emit::emit_both;
 use regress_program::insn::{CompiledRegex, CompiledRegexFor16BitUnits};
 use regress_search::exec;
@@ -34,9 +35,9 @@ pub type AsciiMatches<'r, 't> = exec::Matches<DefaultAsciiExecutor<'r, 't>>;
 /// the remaining answers, and whether `StepLimit` follows them instead of the end.
 pub type LimitedMatches<'r, 't> = exec::Matches<LimitedExecutor<'r, 't>>;
 
-/// An iterator over the matches of a pattern in a UTF-8 text, within a work limit. Contracts see
-/// the remaining answers, how much work is left, and what determines the cost of the next call.
-pub type WorkLimitedMatches<'r, 't> = exec::WorkMatches<WorkLimitedExecutor<'r, 't>>;
+/// An iterator over the matches of a pattern in a text, within a work limit. Contracts see the
+/// remaining answers, how much work is left, and what determines the cost of the next call.
+pub type WorkLimitedMatches<'r, Input> = exec::WorkMatches<WorkLimitedExecutor<'r, Input>>;
 
 /// A compiled pattern.
 #[derive(Drop)]
@@ -361,19 +362,19 @@ impl Regex {
         text: &'t str,
         start: usize,
         work: u64,
-    ) -> Result<WorkLimitedMatches<'r, 't>, SearchError>
+    ) -> Result<WorkLimitedMatches<'r, Utf8Input<'t>>, SearchError>
         requires { IsCharBoundary text.now start ⊎ (length text.now < start) }
         ensures answers { IfOk result (λ it. YieldsMatches (tree_for_byte_units self.now)
             (bytes_as_utf8_text self.now text.now) start it.remaining) }
         ensures left { IfOk result (λ it. it.left ≡ work) }
-        ensures begins { let e = ⟦<WorkLimitedExecutor<'r, 't> as SearchState>⟧ in
+        ensures begins { let e = ⟦<WorkLimitedExecutor<'r, Utf8Input<'t>> as SearchState>⟧ in
             IfOk result (IteratorBeginsSearches e (tree_for_byte_units self.now)
             (bytes_as_utf8_text self.now text.now) start) }
         ensures in_text { IfOk result (λ it. MatchesFitTextInOrderFrom text.now start it.remaining.answers) }
         ensures ended { IfOk result (λ it. it.remaining.ended ≡ is_past start (length text.now)) }
         ensures refused { IfErr result IsOutOfMemory }
     {
-        let executor = WorkLimitedExecutor::new(&self.byte_program, text, work)?;
+        let executor = WorkLimitedExecutor::<Utf8Input>::new(&self.byte_program, text, work)?;
         let matches = exec::WorkMatches::new(executor, start);
         Ok(matches)
     }
@@ -397,6 +398,34 @@ impl Regex {
         ensures refused { IfErr result IsOutOfMemory }
     {
         search_with_executor_from::<DefaultAsciiExecutor<'r, 't>>(&self.byte_program, text, start)
+    }
+
+    /// Like `find_from_in_work`, in an ASCII text (`is_ascii`).
+    ///
+    /// # Errors
+    ///
+    /// The same as `find_from_in_work`.
+    pub fn find_from_ascii_in_work<'r, 't>(
+        &'r self,
+        text: &'t str,
+        start: usize,
+        work: u64,
+    ) -> Result<WorkLimitedMatches<'r, AsciiInput<'t>>, SearchError>
+        requires { IsAscii text.now }
+        ensures answers { IfOk result (λ it. YieldsMatches (tree_for_byte_units self.now)
+            (bytes_as_ascii_text self.now text.now) start it.remaining) }
+        ensures left { IfOk result (λ it. it.left ≡ work) }
+        ensures begins { let e = ⟦<WorkLimitedExecutor<'r, AsciiInput<'t>> as SearchState>⟧ in
+            IfOk result (IteratorBeginsSearches e (tree_for_byte_units self.now)
+            (bytes_as_ascii_text self.now text.now) start) }
+        ensures in_text { IfOk result (λ it. MatchesFitTextInOrderFrom text.now start it.remaining.answers) }
+        ensures ended { IfOk result (λ it. it.remaining.ended ≡ is_past start (length text.now)) }
+        ensures refused { IfErr result IsOutOfMemory }
+    {
+        let program = &self.byte_program;
+        let executor = WorkLimitedExecutor::<AsciiInput>::new_ascii(program, text, work)?;
+        let matches = exec::WorkMatches::new(executor, start);
+        Ok(matches)
     }
 }
 

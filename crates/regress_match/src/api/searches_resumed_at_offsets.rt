@@ -11,7 +11,7 @@ use crate::executor_aliases::{
     DefaultExecutor, DefaultUcs2Executor, DefaultUtf16Executor, LimitedExecutor,
     WorkLimitedExecutor,
 };
-use regress_input::indexing::InputIndexer;
+use regress_input::indexing::{InputIndexer, Ucs2Input, Utf8Input, Utf16Input};
 use regress_search::exec::{MatchProducer, ProducerFromProgramAndText, SearchState};
 use regress_search::search_loop::SingleAttemptExecutor;
 
@@ -80,15 +80,15 @@ impl Regex {
         &'r self,
         text: &'t str,
         work: u64,
-    ) -> Result<WorkLimitedExecutor<'r, 't>, SearchError>
-        ensures tree { IfOk result (λ e. ⟦<WorkLimitedExecutor<'r, 't> as SearchState>⟧.tree e ≡
+    ) -> Result<WorkLimitedExecutor<'r, Utf8Input<'t>>, SearchError>
+        ensures tree { IfOk result (λ e. ⟦<WorkLimitedExecutor<'r, Utf8Input<'t>> as SearchState>⟧.tree e ≡
             tree_for_byte_units self.now) }
-        ensures text { IfOk result (λ e. ⟦<WorkLimitedExecutor<'r, 't> as SearchState>⟧.text e
+        ensures text { IfOk result (λ e. ⟦<WorkLimitedExecutor<'r, Utf8Input<'t>> as SearchState>⟧.text e
             ≡ bytes_as_utf8_text self.now text.now) }
-        ensures left { IfOk result (λ e. ⟦<WorkLimitedExecutor<'r, 't> as SearchState>⟧.left e ≡ work) }
+        ensures left { IfOk result (λ e. ⟦<WorkLimitedExecutor<'r, Utf8Input<'t>> as SearchState>⟧.left e ≡ work) }
         ensures refused { IfErr result IsOutOfMemory }
     {
-        Ok(WorkLimitedExecutor::new(self.byte_program(), text, work)?)
+        Ok(WorkLimitedExecutor::<Utf8Input>::new(self.byte_program(), text, work)?)
     }
 
     /// Returns a search for the matches in a UTF-16 text. `next_from` finds them one after another.
@@ -110,6 +110,28 @@ impl Regex {
         Ok(DefaultUtf16Executor::new_utf16(self.unit_program(), text)?)
     }
 
+    /// Like `utf16_search`, but all calls together take at most `work` units of work, as in
+    /// `utf8_search_in_work`.
+    ///
+    /// # Errors
+    ///
+    /// `Memory` if an allocation for the search fails.
+    pub fn utf16_search_in_work<'r, 't>(
+        &'r self,
+        text: &'t [u16],
+        work: u64,
+    ) -> Result<WorkLimitedExecutor<'r, Utf16Input<'t>>, SearchError>
+        ensures tree { IfOk result (λ e. ⟦<WorkLimitedExecutor<'r, Utf16Input<'t>> as SearchState>⟧.tree e
+            ≡ tree_for_16_bit_units self.now) }
+        ensures text { IfOk result (λ e. ⟦<WorkLimitedExecutor<'r, Utf16Input<'t>> as SearchState>⟧.text e
+            ≡ units_as_utf16_text self.now text.now) }
+        ensures left { IfOk result (λ e. ⟦<WorkLimitedExecutor<'r, Utf16Input<'t>> as SearchState>⟧.left e
+            ≡ work) }
+        ensures refused { IfErr result IsOutOfMemory }
+    {
+        Ok(WorkLimitedExecutor::<Utf16Input>::new_utf16(self.unit_program(), text, work)?)
+    }
+
     /// Returns a search for the matches in a UCS-2 text. `next_from` finds them one after another.
     ///
     /// # Errors
@@ -127,6 +149,28 @@ impl Regex {
         ensures refused { IfErr result IsOutOfMemory }
     {
         Ok(DefaultUcs2Executor::new_ucs2(self.unit_program(), text)?)
+    }
+
+    /// Like `ucs2_search`, but all calls together take at most `work` units of work, as in
+    /// `utf8_search_in_work`.
+    ///
+    /// # Errors
+    ///
+    /// `Memory` if an allocation for the search fails.
+    pub fn ucs2_search_in_work<'r, 't>(
+        &'r self,
+        text: &'t [u16],
+        work: u64,
+    ) -> Result<WorkLimitedExecutor<'r, Ucs2Input<'t>>, SearchError>
+        ensures tree { IfOk result (λ e. ⟦<WorkLimitedExecutor<'r, Ucs2Input<'t>> as SearchState>⟧.tree e
+            ≡ tree_for_16_bit_units self.now) }
+        ensures text { IfOk result (λ e. ⟦<WorkLimitedExecutor<'r, Ucs2Input<'t>> as SearchState>⟧.text e
+            ≡ units_as_ucs2_text self.now text.now) }
+        ensures left { IfOk result (λ e. ⟦<WorkLimitedExecutor<'r, Ucs2Input<'t>> as SearchState>⟧.left e
+            ≡ work) }
+        ensures refused { IfErr result IsOutOfMemory }
+    {
+        Ok(WorkLimitedExecutor::<Ucs2Input>::new_ucs2(self.unit_program(), text, work)?)
     }
 }
 

@@ -1,9 +1,12 @@
-use Rattle.std.proofs.Common.{subst, sym}
-use Rattle.std.specs.Prelude.{IsUtf8}
-use Rattle.regress_match.proofs.SearchStartLemmas.{utf8_start}
+use Rattle.regress_c.proofs.NextInWorkLemmas.{fills-in}
+use Rattle.regress_c.specs.declared.search.Encoding.TheVariants.{Utf8, Utf16, Ucs2}
 use Rattle.regress_c.proofs.next_in_work.fill_in_work.Goals as goal
 
-pub fill-filled-requires-clause-starts : goal.fill-filled-requires-clause-starts
-fill-filled-requires-clause-starts c =
-    utf8_start _ c.text-text.result.now _ c.in_ok-executor.ensures.text (subst IsUtf8 (sym c.text-text.ensures) c.args.search.now.utf8) c.args.search.now.next
-    (c.splits_utf8_character.ensures.whole c.if-splits_utf8_character.false)
+pub returns-in-Utf8 : goal.returns-in-Utf8
+returns-in-Utf8 c = fills-in c.args.re.now c.args.search.now c.args.encoding Utf8 c.args.work.now _ c.args.spans.now _ _ c.in-Utf8.is (rw (← c.text.ensures) c.fill_utf8_in_work.ensures)
+
+pub returns-in-Utf16 : goal.returns-in-Utf16
+returns-in-Utf16 c = fills-in c.args.re.now c.args.search.now c.args.encoding Utf16 c.args.work.now _ c.args.spans.now _ _ c.in-Utf16.is c.fill_utf16_in_work.ensures
+
+pub returns-in-Ucs2 : goal.returns-in-Ucs2
+returns-in-Ucs2 c = fills-in c.args.re.now c.args.search.now c.args.encoding Ucs2 c.args.work.now _ c.args.spans.now _ _ c.in-Ucs2.is c.fill_ucs2_in_work.ensures

@@ -1,46 +1,46 @@
-use Rattle.std.proofs.Common.{true, false, refl, ap, ◌∙◌, subst, true≢false, sym}
-use Rattle.std.specs.Prelude.{None}
-use Rattle.std.proofs.lemmas.Result.{IfOk-weaker}
-use Rattle.regex_meaning.specs.Text.{utf8_text}
+use Rattle.std.proofs.Common.{true, refl, ap, true≢false, sym}
 use Rattle.regex_pattern_front.specs.AstToSpecTree.{tree_of}
-use Rattle.regress_search.specs.AttemptsAndStarts.{match_end_and_groups_at, ticks_of_attempt_at}
-use Rattle.regress_search.specs.SearchEffects.{SpendsNeedOrReachesLimit}
+use Rattle.regress_program.specs.OptimizedTreeUnlessNoOpt.{planned_tree}
+use Rattle.regress_search.specs.AttemptsAndStarts.{ticks_of_attempt_at}
+use Rattle.regress_backtrack.specs.ProgramsAndPlans.{executed_tree_of}
+use Rattle.regress_backtrack.specs.State.{current_thread_state_of}
 use Rattle.regress_backtrack.proofs.PaidAttemptLemmas.{paid-with-tree}
-use Rattle.regress_backtrack.proofs.PlannedTreeLemmas.{can-be, can-context, context-single_unit}
+use Rattle.regress_backtrack.proofs.PlannedTreeLemmas.{can-be, can-run, ends-context, spends-unlimited}
 use Rattle.regress_backtrack.proofs.work_limited.WorkLimitedExecutorSingleAttemptExecutor.attempt.Goals as goal
 
 pub attempt-end-requires-clause-executable : goal.attempt-end-requires-clause-executable
-attempt-end-requires-clause-executable c =
+attempt-end-requires-clause-executable g c =
     let s = c.args.self.now.executor.search in
-    (can-context s.program.wide (tree_of s.program.regex) _ (can-be s.same s.searched.well_formed s.searched.unicode s.searched.bytes), c.requires)
+    (can-run s.program.wide s.same s.searched.well_formed s.searched.unicode s.searched.bytes, c.requires)
 
 pub returns-clause-found : goal.returns-clause-found
-returns-clause-found c =
-    let search = c.args.self.now.executor.search in
-    let text = utf8_text search.searched.input.input.now search.searched.input.unicode in
-    let is = context-single_unit search.program.wide (tree_of search.program.regex) search.wide in
-    IfOk-weaker c.attempt-end.result _ _ (λ end found. found ∙ ap (λ t. match_end_and_groups_at t text c.args.pos.offset) is) c.attempt-end.ensures.found
+returns-clause-found g c =
+    let s = c.args.self.now.executor.search in
+    let can = can-be s.same s.searched.well_formed s.searched.unicode s.searched.bytes in
+    let offset = g.Input.Position.PositionType.offset in
+    ends-context offset s.program.wide (tree_of s.program.regex) (g.Input.InputIndexer.text s.searched.input) can.well_formed (offset c.args.pos)
+    (current_thread_state_of c.attempt-end.new.memory 0 0).groups c.attempt-end.result c.attempt-end.ensures.found
 
 pub returns-clause-steps : goal.returns-clause-steps
-returns-clause-steps c =
-    let search = c.args.self.now.executor.search in
-    let text = utf8_text search.searched.input.input.now search.searched.input.unicode in
-    let is = context-single_unit search.program.wide (tree_of search.program.regex) search.wide in
-    subst (λ t. SpendsNeedOrReachesLimit (ticks_of_attempt_at t text c.args.pos.offset) None c.attempt-end.result None) is c.attempt-end.ensures.steps
+returns-clause-steps g c =
+    let s = c.args.self.now.executor.search in
+    let text = g.Input.InputIndexer.text s.searched.input in
+    let at = g.Input.Position.PositionType.offset c.args.pos in
+    spends-unlimited (ticks_of_attempt_at (executed_tree_of s.program) text at) (ticks_of_attempt_at (tree_of s.program.regex) text at) c.attempt-end.result c.attempt-end.ensures.steps
 
 pub returns-clause-work : goal.returns-clause-work
-returns-clause-work c = λ ordered. absurd (true≢false (sym ordered.is))
+returns-clause-work g c = λ ordered. absurd (true≢false (sym ordered.is))
 
 pub returns-clause-left : goal.returns-clause-left
-returns-clause-left c = (c.attempt-end.ensures.paid refl refl refl).less
+returns-clause-left g c = (c.attempt-end.ensures.paid refl refl refl).less
 
 pub returns-clause-within : goal.returns-clause-within
-returns-clause-within c = (c.attempt-end.ensures.paid refl refl refl).within
+returns-clause-within g c = (c.attempt-end.ensures.paid refl refl refl).within
 
 pub returns-clause-cost : goal.returns-clause-cost
-returns-clause-cost c =
-    let search = c.args.self.now.executor.search in
-    (paid-with-tree (context-single_unit search.program.wide (tree_of search.program.regex) search.wide) (c.attempt-end.ensures.paid refl refl refl)).cost
+returns-clause-cost g c =
+    let s = c.args.self.now.executor.search in
+    (paid-with-tree (ap (λ wide. planned_tree wide (tree_of s.program.regex)) s.wide) (c.attempt-end.ensures.paid refl refl refl)).cost
 
 pub invariant_of-self : goal.invariant_of-self
-invariant_of-self c = record { spent = (c.attempt-end.ensures.paid refl refl refl).spent }
+invariant_of-self g c = record { spent = (c.attempt-end.ensures.paid refl refl refl).spent }

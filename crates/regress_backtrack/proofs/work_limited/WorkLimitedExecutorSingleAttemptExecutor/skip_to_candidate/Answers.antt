@@ -1,9 +1,28 @@
 use Rattle.std.proofs.Common.{◌≤◌, arith}
-use Rattle.regex_meaning.proofs.CodeUnitOffsetsLemmas.{utf8_text-IsText}
-use Rattle.regress_backtrack.proofs.PlannedTreeLemmas.{search-run}
+use Rattle.std.specs.Prelude.{option_map}
+use Rattle.regex_pattern_front.specs.AstToSpecTree.{tree_of}
+use Rattle.regress_backtrack.proofs.PlannedTreeLemmas.{can-be, next-tree, refused-skip, search-run}
 use Rattle.regress_backtrack.proofs.work_limited.WorkLimitedExecutorSingleAttemptExecutor.skip_to_candidate.Goals as goal
 
 pub skip_by_prefilter-next-requires-clause-executable : goal.skip_by_prefilter-next-requires-clause-executable
-skip_by_prefilter-next-requires-clause-executable c =
+skip_by_prefilter-next-requires-clause-executable g c =
     let s = c.args.self.now.executor.search in
-    search-run s.program.wide s.same s.searched.well_formed s.searched.unicode s.searched.bytes (utf8_text-IsText s.searched.input.input.now s.searched.input.unicode)
+    search-run s.program.wide s.same s.searched.well_formed s.searched.unicode s.searched.bytes (g.met.Input.InputIndexer.is_text s.searched.input)
+
+pub returns-clause-next : goal.returns-clause-next
+returns-clause-next g c =
+    let s = c.args.self.now.executor.search in
+    let can = can-be s.same s.searched.well_formed s.searched.unicode s.searched.bytes in
+    let offset = g.Input.Position.PositionType.offset in
+    next-tree s.program.wide (tree_of s.program.regex) _ can.well_formed (offset c.args.from) (option_map offset c.skip_by_prefilter-next.result.0) c.skip_by_prefilter-next.ensures.next
+
+pub returns-then-is_err-clause-paid : goal.returns-then-is_err-clause-paid
+returns-then-is_err-clause-paid g c =
+    let s = c.args.self.now.executor.search in
+    let can = can-be s.same s.searched.well_formed s.searched.unicode s.searched.bytes in
+    let offset = g.Input.Position.PositionType.offset in
+    let tree = tree_of s.program.regex in
+    let text = g.Input.InputIndexer.text s.searched.input in
+    let next = option_map offset c.skip_by_prefilter-next.result.0 in
+    refused-skip tree text (offset c.args.from) next _ _ _ c.pay.result c.if-is_err.ensures.value
+    (next-tree s.program.wide tree text can.well_formed (offset c.args.from) next c.skip_by_prefilter-next.ensures.next) c.skip_by_prefilter-next.ensures.skipped c.pay.ensures.short

@@ -102,7 +102,7 @@ impl<'r, Input: InputIndexer> BacktrackExecutor<'r, Input> {
         let alloc = search.searched.program.allocator();
         let units = search.searched.input.unit_count();
         let work = initial_work_budget(units, search.program.insns().len());
-        let leading_loop = LeadingCharLoop::of(search.program.plan());
+        let leading_loop = search.program.plan().leading_loop;
         let leap = LeapMemory::new(&search.program.plan().leap);
         BacktrackExecutor {
             search,

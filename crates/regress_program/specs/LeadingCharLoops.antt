@@ -4,6 +4,7 @@ use Rattle.std.specs.Option.{option_map_or}
 use Rattle.regress_program.specs.declared.ops.Op.{Op}
 use Rattle.regress_program.specs.declared.ops.Op.TheVariants.{OpenGroup, MatchBackref}
 use Rattle.regress_program.specs.declared.plan.Plan.{Plan}
+use Rattle.regress_program.specs.declared.leading_char_loop.LeadingCharLoop.{LeadingCharLoop}
 
 -- Whether an operation opens a group.
 abbrev pub opens_group : Op → Bool
@@ -28,3 +29,7 @@ refers_back_at ops ip = option_map_or is_backreference_op (slice_get ops ip) fal
 pub record OnlyOpensGroups (plan : Plan) (opens : ℕ) : Type 0 where
   pub opened : (ip : ℕ) → ip < opens → opens_group_at plan.ops.items ip ≡ true
   pub unasked : 0 < opens → (ip : ℕ) → refers_back_at plan.ops.items ip ≡ false
+
+-- The value for a plan whose matches are not known to begin with a char loop.
+abbrev pub no_leading_loop : LeadingCharLoop
+no_leading_loop = record { max_char_units = 0; opens = 0 }

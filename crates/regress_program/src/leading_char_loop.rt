@@ -10,8 +10,7 @@ use crate::plan::Plan;
 // The maximum number of code units of a character.
 const MOST_UNITS: usize = 4;
 
-// The maximum number of operations that are searched for a backreference. This search is done once
-// for each search of a text.
+// The maximum number of operations that are searched for a backreference.
 const MOST_OPS: usize = 256;
 
 /// The char loop with which each match begins, if it has no maximum, so that scanning it again
@@ -29,8 +28,14 @@ pub struct LeadingCharLoop {
 }
 
 impl LeadingCharLoop {
-    /// Returns the leading char loop of a plan.
-    pub fn of(plan: &Plan) -> LeadingCharLoop
+    /// The value for a plan whose matches are not known to begin with a char loop.
+    pub(crate) const NONE: LeadingCharLoop = LeadingCharLoop {
+        max_char_units: 0,
+        opens: 0,
+    };
+
+    /// Finds the leading char loop in the operations of a plan.
+    pub(crate) fn of(plan: &Plan) -> LeadingCharLoop
         ensures { OnlyOpensGroups plan.now result.opens }
     {
         let opens = leading_opens(&plan.ops);

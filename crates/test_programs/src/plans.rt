@@ -50,7 +50,7 @@ pub(crate) fn write_leading_loop(
     let LeadingCharLoop {
         max_char_units,
         opens,
-    } = LeadingCharLoop::of(program.plan());
+    } = program.plan().leading_loop;
     if max_char_units == 0 {
         return text.push_str("none");
     }

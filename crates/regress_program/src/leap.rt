@@ -82,19 +82,34 @@ impl Leap {
         requires { key < 256 }
         ensures { result ≡ true → slice_index_or class.now.steps key 0 ≢ 0 → is_passed_key self.now key ≡ true }
     {
-        class.steps[key] == 0 || self.passes_key(key)
+        (class.steps[key] == 0) | self.passes_key(key)
     }
 
     // Checks whether a match may read each character of a class before its goal.
     fn passes_class(&self, class: &Class) -> bool
         ensures { result ≡ true → PassesReadLengths self.now class.now.steps }
     {
+        // Without an early exit, the loop can process many keys at a time.
+        let mut passes = true;
         for key in 0..KEYS {
-            if !self.passes_class_at(class, key) {
-                return false;
-            }
+            passes = passes & self.passes_class_at(class, key);
         }
-        true
+        passes
+    }
+
+    // Allows the characters of a class before the goal.
+    fn pass_class(&mut self, class: &Class) {
+        for key in 0..128 {
+            self.over[key] |= class.steps[key] != 0;
+        }
+        if has_high_key(class) {
+            self.pass_high_keys();
+        }
+    }
+
+    // Allows units with the keys from 128 on before the goal.
+    fn pass_high_keys(&mut self) {
+        self.over[128..].fill(true);
     }
 
     // Checks whether the entry of a key is equal to that of the key 128.
@@ -109,12 +124,12 @@ impl Leap {
     fn treats_high_keys_alike(&self) -> bool
         ensures { result ≡ true → AreHighKeysAlike self.now }
     {
+        // Without an early exit, the loop can process many keys at a time.
+        let mut alike = true;
         for key in 128..KEYS {
-            if !self.is_like_first_high_key(key) {
-                return false;
-            }
+            alike = alike & self.is_like_first_high_key(key);
         }
-        true
+        alike
     }
 
     // Checks whether the goal is at most three units, all below 128.
@@ -366,7 +381,7 @@ impl<'p> LeapWalk<'p> {
         if key < 128 {
             self.leap.over[key] = true;
         } else {
-            self.leap.over[128..].fill(true);
+            self.leap.pass_high_keys();
         }
     }
 
@@ -401,7 +416,17 @@ impl<'p> LeapWalk<'p> {
         let Some(class) = self.plan.classes.get(number as usize) else {
             return false;
         };
-        let mut arrives = may_be_goal && are_few_and_rare(class);
+        if may_be_goal && are_few_and_rare(class) {
+            return self.add_few_keys_to_goal_or_pass(class);
+        }
+        self.leap.pass_class(class);
+        false
+    }
+
+    // Makes the few units of a class part of the goal, as far as the goal has room, and allows the
+    // others before the goal. Returns whether all are part of the goal.
+    fn add_few_keys_to_goal_or_pass(&mut self, class: &Class) -> bool {
+        let mut arrives = true;
         for key in 0..KEYS {
             if class.steps[key] != 0 {
                 arrives = arrives && self.add_to_goal(key as u8);
@@ -515,8 +540,21 @@ impl<'p> LeapWalk<'p> {
     }
 }
 
+// Checks whether a class may accept a character whose first unit has a key from 128 on.
+fn has_high_key(class: &Class) -> bool {
+    // Without an early exit, the loop can process many keys at a time.
+    let mut has = false;
+    for key in 128..KEYS {
+        has |= class.steps[key] != 0;
+    }
+    has
+}
+
 // Checks whether a class accepts at most three units, all of which are rare.
 fn are_few_and_rare(class: &Class) -> bool {
+    if !class.single_unit {
+        return false;
+    }
     let mut count = 0usize;
     for key in 0..KEYS {
         if class.steps[key] != 0 {
@@ -526,7 +564,7 @@ fn are_few_and_rare(class: &Class) -> bool {
             }
         }
     }
-    class.single_unit && count > 0
+    count > 0
 }
 
 // Estimates how often one of a few units occurs in texts, in a thousand.
@@ -604,6 +642,34 @@ fn leap_of_walk(
     }
 }
 
+// Checks whether a plan reads a unit that may be the goal of a leap. If it does not, no walk finds
+// a goal.
+fn has_rare_unit(plan: &Plan) -> bool {
+    has_rare_char(&plan.ops) || has_rare_class(&plan.classes)
+}
+
+// Checks whether one of these classes may be the goal of a leap.
+fn has_rare_class(classes: &[Class]) -> bool {
+    for class in classes {
+        if are_few_and_rare(class) {
+            return true;
+        }
+    }
+    false
+}
+
+// Checks whether one of these operations reads a character that may be the goal of a leap.
+fn has_rare_char(ops: &[Op]) -> bool {
+    for op in ops {
+        if let Op::UnitChar(c) = op {
+            if is_rare((*c).min(128) as usize) {
+                return true;
+            }
+        }
+    }
+    false
+}
+
 /// Returns the leap of a plan for texts of these units. `None` if there is none, or if the plan's
 /// start is searched for as fast.
 ///
@@ -618,7 +684,7 @@ pub(crate) fn leap_of(
     ensures { let wide = is_16_bit_width units in IfOk result (λ found. IfSome found (λ leap.
         (program : Program) → AreOpsOfProgram wide program plan.now → IsLeapRightForProgram wide program leap)) }
 {
-    if is_start_fast(&plan.start) {
+    if is_start_fast(&plan.start) || !has_rare_unit(plan) {
         return Ok(None);
     }
     let leap = leap_of_walk(alloc, plan, units, false)?;

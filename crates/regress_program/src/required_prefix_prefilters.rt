@@ -90,14 +90,15 @@ const NO_UNIT: CommonBitsOfUnits = CommonBitsOfUnits {
 };
 
 impl CommonBitsOfUnits {
-    // Adds a unit that occurs in texts with this frequency.
+    // Adds a unit that occurs in texts with this frequency. The sums are of at most 128 units, so
+    // they do not wrap.
     #[inline(always)]
     fn with(self, unit: u8, often: u8) -> CommonBitsOfUnits {
         CommonBitsOfUnits {
             all: self.all & unit,
             some: self.some | unit,
-            count: self.count.saturating_add(1),
-            often: self.often.saturating_add(u32::from(often)),
+            count: self.count.wrapping_add(1),
+            often: self.often.wrapping_add(u32::from(often)),
         }
     }
 

@@ -1,9 +1,7 @@
 //! Sets of at most three keys of units.
 
-ghost use Rattle.std.specs.Prelude.{◌≡◌, ℕ, Bool, IfSome};
-ghost use Rattle.regress_program.specs.ListedUnits.{is_listed, ListsKeysThatPass};
-
-use crate::table_keys_of_units::KEYS;
+ghost use Rattle.std.specs.Prelude.{◌≡◌, ◌≤◌, ◌<◌, ◌+◌, ℕ, Bool, true, false, IfSome};
+ghost use Rattle.regress_program.specs.ListedUnits.{is_listed, ListsKeysBelow, ListsKeysThatPass};
 
 /// A set of keys of units: the first `len` of `units`. A key below 128 is the unit itself.
 #[derive(Clone, Copy)]
@@ -21,6 +19,9 @@ pub(crate) trait KeySelection {
         ensures { result ≡ selects_key self.now key };
 }
 
+/// The number of keys that are tested at a time, an eighth of all keys.
+const BLOCK: usize = 32;
+
 impl UpToThreeUnits {
     /// Returns the keys that pass a test. `None` if there are more than three.
     pub(crate) fn of_selected<Selection: KeySelection>(selection: &Selection) -> Option<Self>
@@ -30,16 +31,39 @@ impl UpToThreeUnits {
             units: [0; 3],
             len: 0,
         };
-        for key in 0..KEYS {
-            if selection.selects(key as u8) {
-                if few.len == 3 {
-                    return None;
-                }
-                few.units[few.len] = key as u8;
-                few.len += 1;
+        for block in 0..8 {
+            if !few.add_selected_of_block(selection, block * BLOCK) {
+                return None;
             }
         }
         Some(few)
+    }
+
+    // Adds those of the keys `from..from + BLOCK` that pass a test. Returns `false` if there are
+    // more than three keys then.
+    fn add_selected_of_block<Selection: KeySelection>(
+        &mut self,
+        selection: &Selection,
+        from: usize,
+    ) -> bool
+        requires inside { from + 32 ≤ 256 }
+        requires before { ListsKeysBelow (Selection.selects_key selection.now) self.old.units self.old.len from }
+        ensures { result ≡ true
+            → ListsKeysBelow (Selection.selects_key selection.now) self.new.units self.new.len (from + 32) }
+    {
+        if !is_some_key_of_block_selected(selection, from) {
+            return true;
+        }
+        for key in from..from + BLOCK {
+            if selection.selects(key as u8) {
+                if self.len == 3 {
+                    return false;
+                }
+                self.units[self.len] = key as u8;
+                self.len += 1;
+            }
+        }
+        true
     }
 
     /// Checks whether the set has a key.
@@ -55,4 +79,20 @@ impl UpToThreeUnits {
             _ => key == usize::from(a) || key == usize::from(b) || key == usize::from(c),
         }
     }
+}
+
+// Checks whether some of the keys `from..from + BLOCK` pass a test.
+fn is_some_key_of_block_selected<Selection: KeySelection>(
+    selection: &Selection,
+    from: usize,
+) -> bool
+    requires { from + 32 ≤ 256 }
+    ensures { result ≡ false → (k : ℕ) → from ≤ k → k < from + 32 → Selection.selects_key selection.now k ≡ false }
+{
+    // Without an early exit, the loop can process many keys at a time.
+    let mut some = false;
+    for key in from..from + BLOCK {
+        some |= selection.selects(key as u8);
+    }
+    some
 }

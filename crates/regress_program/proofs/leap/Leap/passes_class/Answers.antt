@@ -1,13 +1,14 @@
 use Rattle.std.proofs.Common.{◌≡◌, ◌≢◌, ℕ, true, arith}
 use Rattle.std.specs.Prelude.{slice_index_or}
+use Rattle.regex_meaning.proofs.BoolLemmas.{and-left, and-right}
 use Rattle.regress_program.specs.Leaps.{is_passed_key}
 use Rattle.regress_program.proofs.AlternationDispatchLemmas.{below-more}
 use Rattle.regress_program.proofs.leap.Leap.passes_class.Goals as goal
 
 pub loop-key-preserved : goal.loop-key-preserved
-loop-key-preserved c =
+loop-key-preserved c = λ both.
     let P : ℕ → Type 0 = λ k. slice_index_or c.args.class.now.steps k 0 ≢ 0 → is_passed_key c.args.self.now k ≡ true in
-    below-more P c.loop-key.key c.loop-key.invariant (c.passes_class_at.ensures c.if-not-passes_class_at.false)
+    below-more P c.loop-key.key (c.loop-key.invariant (and-left _ _ both)) (c.passes_class_at-passes.ensures (and-right _ _ both))
 
 pub returns : goal.returns
-returns c = λ yes k below. c.loop-key.invariant k (omega (arith, below, c.loop-key-test.false))
+returns c = λ yes k below. c.loop-key.invariant yes k (omega (arith, below, c.loop-key-test.false))

@@ -1,9 +1,9 @@
 -- If each match begins with a group of one character of one unit that a backreference repeats, no
 -- match begins where the next unit is another one.
-use Rattle.std.proofs.Common.{◌≡◌, ℕ, zero, suc, ◌+◌, ◌-◌, ◌<◌, ◌≤◌, Bool, true, false, ◌&&◌, List, [], ◌∷◌, length, take, drop, Option, Some, None, refl, ap, ap₂, sym, ◌∙◌, subst, arith, slice_get}
+use Rattle.std.proofs.Common.{◌≡◌, ℕ, zero, suc, ◌+◌, ◌-◌, ◌<◌, ◌≤◌, Bool, true, false, ◌&&◌, ◌||◌, List, [], ◌∷◌, length, take, drop, Option, Some, None, refl, ap, ap₂, sym, ◌∙◌, subst, arith, slice_get}
 use Rattle.std.proofs.Common.{get_or}
 use Rattle.std.specs.Prelude.{slice_set, slice_range, slice_index_or, ◌==◌, nat_lt, nat_le, option_map, option_and_then, if◌then◌else◌}
-use Rattle.std.proofs.lemmas.Bool.{cases_lt, ltb-true, lt-ltb, eqb-true}
+use Rattle.std.proofs.lemmas.Bool.{cases_lt, ltb-true, lt-ltb, le-leb, leb-true, eqb-true}
 use Rattle.std.proofs.lemmas.List.{append-nil}
 use Rattle.std.proofs.lemmas.Option.{slice_get_within, slice_get-get_or}
 use mathlib.Core.Logic.{inl, inr}
@@ -41,11 +41,13 @@ use Rattle.regex_pattern_front.specs.declared.canonical.Sameness.TheVariants.{Ex
 use Rattle.regress_machine.proofs.FirstSetTableLemmas.{passed}
 use Rattle.regress_machine.proofs.UnchangedGroupsAndLoops.{slice_get-set_same}
 use Rattle.regress_program.specs.InsnsAsSpec.{insn_as_spec_insn}
-use Rattle.regress_search.specs.DeadThreads.{MatchFailureExtendsUntil, BeginsWithRepeatedChar, NextUnitDoesNotRepeatAsciiUnit}
+use Rattle.regress_search.specs.DeadThreads.{MatchFailureExtendsUntil, BeginsWithRepeatedChar, NextUnitDoesNotRepeatCharUnit, may_be_char_unit}
 use Rattle.regress_search.specs.ReadsAtOffset.{input_unit_at}
 use Rattle.regress_search.specs.TreePlanAndText.{SearchInput, program_of}
+use Rattle.regress_search.proofs.AsciiUnitLemmas.{EndsNoPair, low-boundary, beside-boundary}
 use Rattle.regress_search.proofs.LeadingLoopOperations.{insn-of-op}
 use Rattle.regress_search.proofs.NextCharByUnit.{next-is, past-next, excluded, stepped, own-spelled}
+use Rattle.regress_search.proofs.WideUnitLemmas.{key-high}
 
 -- ---- Lists of characters and groups
 
@@ -171,12 +173,6 @@ module _ (program : Program) (text : Text) (has_text : HasRisingPlaceOffsets tex
 
 -- ---- Units of a repeated character
 
--- An encoding whose units have fewer than 16 bits is UTF-8.
-in-utf8 : (e : Encoding) → is_16_bit_encoding e ≡ false → e ≡ utf8
-in-utf8 utf8 is = refl
-in-utf8 utf16 is = cc
-in-utf8 ucs2 is = cc
-
 one-low : (c : ℕ) → length (code_units_of_character utf8 c) ≡ 1 → c < 128
 one-low c one = elim (cases_lt c 128) [
   | inl low ↦ low
@@ -189,65 +185,115 @@ one-low c one = elim (cases_lt c 128) [
   ]
 ]
 
-module _ (text : Text) (has : HasUnitsForTables utf8 text) (test : ℕ → Bool) (steps : List ℕ) (are : AreReadLengthsByKey false test steps)
+module _ (e : Encoding) (text : Text) (has : HasUnitsForTables e text) (test : ℕ → Bool) (steps : List ℕ) (are : AreReadLengthsByKey (is_16_bit_encoding e) test steps)
     (single : (k : ℕ) → slice_index_or steps k 0 ≤ 1) (at p c : ℕ) (on : IsBoundary text at) (place_is : place_at text at ≡ Some p) (there : slice_get text.characters p ≡ Some c)
     (accepted : test c ≡ true) where
-  -- An accepted character is a unit below 128, and the next one begins at the next unit.
-  pub accepted-low : (u : ℕ) → slice_get (text_units_in_encoding utf8 text) at ≡ Some u → (u ≡ c) × (u < 128) × (offset text (p + 1) ≡ at + 1)
-  accepted-low u unit =
-      let n = next-is utf8 text has at u on unit in
-      let reads : Some (c, offset text (p + 1)) ≡ Some (n.0, at + length (code_units_of_character utf8 n.0)) =
+  -- An accepted character is one unit, and the next one begins at the next unit.
+  pub accepted-single : (u : ℕ) → slice_get (text_units_in_encoding e text) at ≡ Some u
+      → (length (code_units_of_character e c) ≡ 1) × (offset text (p + 1) ≡ at + 1) × (0 < slice_index_or steps (key (is_16_bit_encoding e) u) 0)
+  accepted-single u unit =
+      let k = key (is_16_bit_encoding e) u in
+      let keyed = ap (option_map (key (is_16_bit_encoding e))) unit in
+      let n = next-is e text has at u on unit in
+      let reads : Some (c, offset text (p + 1)) ≡ Some (n.0, at + length (code_units_of_character e n.0)) =
       sym (read-place text rightwards at p place_is ∙ ap (option_map {U = ℕ × ℕ} (λ c. (c, offset text (p + 1)))) there) ∙ n.1.read_is in
-      let pair : (c, offset text (p + 1)) ≡ (n.0, at + length (code_units_of_character utf8 n.0)) = cc in
+      let pair : (c, offset text (p + 1)) ≡ (n.0, at + length (code_units_of_character e n.0)) = cc in
       let same : n.0 ≡ c = sym (ap (λ (r : ℕ × ℕ). r.0) pair) in
-      let behind : offset text (p + 1) ≡ at + length (code_units_of_character utf8 n.0) = ap (λ (r : ℕ × ℕ). r.1) pair in
-      let past : past_if text test rightwards at ≡ Some (at + length (code_units_of_character utf8 n.0)) =
-      past-next utf8 text has test at u n.0 n.1 ∙ ap (λ b. if b then Some (at + length (code_units_of_character utf8 n.0)) else None) (ap test same ∙ accepted) in
-      let least = single u in
-      let one : length (code_units_of_character utf8 n.0) ≡ 1 = elim (cases_lt 0 (slice_index_or steps u 0)) [
+      let behind : offset text (p + 1) ≡ at + length (code_units_of_character e n.0) = ap (λ (r : ℕ × ℕ). r.1) pair in
+      let past : past_if text test rightwards at ≡ Some (at + length (code_units_of_character e n.0)) =
+      past-next e text has test at u n.0 n.1 ∙ ap (λ b. if b then Some (at + length (code_units_of_character e n.0)) else None) (ap test same ∙ accepted) in
+      let least = single k in
+      elim (cases_lt 0 (slice_index_or steps k 0)) [
         | inl some ↦
-            let led = stepped utf8 text has test steps are at u on (ap (option_map (key false)) unit) 1 (at + 1) (omega (arith, some, least)) (λ z. omega (arith, z)) (λ z. omega (arith, z)) refl in
-            let e : Some (at + 1) ≡ Some (at + length (code_units_of_character utf8 n.0)) = led ∙ past in
-            let f : at + 1 ≡ at + length (code_units_of_character utf8 n.0) = cc in omega (arith, f)
+            let led = stepped e text has test steps are at k on keyed 1 (at + 1) (omega (arith, some, least)) (λ z. omega (arith, z)) (λ z. omega (arith, z)) refl in
+            let ends : Some (at + 1) ≡ Some (at + length (code_units_of_character e n.0)) = led ∙ past in
+            let f : at + 1 ≡ at + length (code_units_of_character e n.0) = cc in
+            let one : length (code_units_of_character e n.0) ≡ 1 = omega (arith, f) in
+            (ap (λ c. length (code_units_of_character e c)) (sym same) ∙ one, behind ∙ ap (λ n. at + n) one, some)
         | inr none ↦
-            let no : None ≡ Some (at + length (code_units_of_character utf8 n.0)) = excluded utf8 text has test steps are at u on (ap (option_map (key false)) unit) (omega (arith, none)) ∙ past in cc
-      ] in
-      let low = one-low n.0 one in
-      let begins : Some n.0 ≡ Some u = sym (ap (λ (l : List ℕ). slice_get l 0) (own-spelled utf8 n.0 (lt-ltb n.0 0x80 low))) ∙ n.1.first in
-      let is : n.0 ≡ u = cc in
-      (sym is ∙ same, omega (arith, low, is), behind ∙ ap (λ n. at + n) one)
+            let no : None ≡ Some (at + length (code_units_of_character e n.0)) = excluded e text has test steps are at k on keyed (omega (arith, none)) ∙ past in cc
+      ]
+
+-- ---- Units that may be characters
+
+beside-told : (u : ℕ) → EndsNoPair u → (nat_lt u 0xDC00 || nat_le 0xE000 u) ≡ true
+beside-told u (inl less) = ap (λ b. b || nat_le 0xE000 u) (lt-ltb u 0xDC00 less)
+beside-told u (inr more) = by (nat_lt u 0xDC00)
+  where
+    by : (b : Bool) → (b || nat_le 0xE000 u) ≡ true
+    by true = refl
+    by false = le-leb 0xE000 u more
+
+told-beside : (u : ℕ) → (nat_lt u 0xDC00 || nat_le 0xE000 u) ≡ true → EndsNoPair u
+told-beside u told = by (nat_lt u 0xDC00) refl told
+  where
+    by : (b : Bool) → nat_lt u 0xDC00 ≡ b → (b || nat_le 0xE000 u) ≡ true → EndsNoPair u
+    by true less h = inl (ltb-true u 0xDC00 less)
+    by false less h = inr (leb-true 0xE000 u h)
+
+-- A unit that may be a character is at a boundary.
+pub char-boundary : (e : Encoding) (text : Text) → HasUnitsForTables e text → (at u : ℕ) → slice_get (text_units_in_encoding e text) at ≡ Some u
+    → may_be_char_unit (is_16_bit_encoding e) u ≡ true → IsBoundary text at
+char-boundary utf8 text has at u there may = low-boundary utf8 text has at u there (ltb-true u 128 may)
+char-boundary utf16 text has at u there may = beside-boundary utf16 refl text has at u there (told-beside u may)
+char-boundary ucs2 text has at u there may = beside-boundary ucs2 refl text has at u there (told-beside u may)
+
+-- A unit may be a character if it is one, and ends no pair.
+single-may : (e : Encoding) (c u : ℕ) → length (code_units_of_character e c) ≡ 1 → slice_get (code_units_of_character e c) 0 ≡ Some u → (is_16_bit_encoding e ≡ true → EndsNoPair u)
+    → may_be_char_unit (is_16_bit_encoding e) u ≡ true
+single-may utf8 c u one first beside =
+    let low = one-low c one in
+    let begins : Some c ≡ Some u = sym (ap (λ (l : List ℕ). slice_get l 0) (own-spelled utf8 c (lt-ltb c 0x80 low))) ∙ first in
+    let is : c ≡ u = cc in
+    lt-ltb u 128 (omega (arith, low, is))
+single-may utf16 c u one first beside = beside-told u (beside refl)
+single-may ucs2 c u one first beside = beside-told u (beside refl)
+
+-- A table that excludes the keys of trail surrogates has an entry for no other unit that ends a pair.
+entered-beside : (steps : List ℕ) → slice_index_or steps 238 0 ≡ 0 → slice_index_or steps 239 0 ≡ 0 → (u : ℕ) → 0 < slice_index_or steps (key true u) 0 → EndsNoPair u
+entered-beside steps low high u some = elim (cases_lt u 0xDC00) [
+  | inl less ↦ inl less
+  | inr more ↦ elim (cases_lt u 0xE000) [
+    | inl below ↦
+        let is = key-high u (omega (arith, more)) in
+        elim (cases_lt (key true u) 239) [
+          | inl first ↦
+              let k : key true u ≡ 238 = omega (arith, is, first, more) in
+              let none : slice_index_or steps (key true u) 0 ≡ 0 = ap (λ k. slice_index_or steps k 0) k ∙ low in absurd (omega (arith, none, some))
+          | inr second ↦
+              let k : key true u ≡ 239 = omega (arith, is, second, below) in
+              let none : slice_index_or steps (key true u) 0 ≡ 0 = ap (λ k. slice_index_or steps k 0) k ∙ high in absurd (omega (arith, none, some))
+        ]
+    | inr beyond ↦ inr beyond
+  ]
+]
 
 -- ---- Searches
 
 module _ (w : SearchInput) (has : HasUnitsForTables w.encoding w.text) (plan : IsPlanOf (is_16_bit_encoding w.encoding) (program_of w) w.plan)
-    (can : TreeProgramCanSearchText (program_of w) w.tree w.text) (bytes : is_16_bit_encoding w.encoding ≡ false) (number : ℕ) (begins : BeginsWithRepeatedChar w.plan number)
-    (class : Class) (there : slice_get w.plan.classes.items number ≡ Some class) (single : class.single_unit ≡ true) where
-  is_utf8 : w.encoding ≡ utf8
-  is_utf8 = in-utf8 w.encoding bytes
-
-  in_bytes : HasUnitsForTables utf8 w.text
-  in_bytes = subst (λ e. HasUnitsForTables e w.text) is_utf8 has
-
-  unit : (at : ℕ) → slice_get (text_units_in_encoding utf8 w.text) at ≡ input_unit_at w at
-  unit at = ap (λ e. slice_get (text_units_in_encoding e w.text) at) (sym is_utf8)
-
-  module _ (at p : ℕ) (on : IsBoundary w.text at) (place_is : place_at w.text at ≡ Some p) (alone : NextUnitDoesNotRepeatAsciiUnit w at) where
-    apart-there : (test : ℕ → Bool) → AreReadLengthsByKey false test class.steps → (c : ℕ) → slice_get w.text.characters p ≡ Some c → test c ≡ true
+    (can : TreeProgramCanSearchText (program_of w) w.tree w.text) (number : ℕ) (begins : BeginsWithRepeatedChar w.plan number)
+    (class : Class) (there : slice_get w.plan.classes.items number ≡ Some class) (single : class.single_unit ≡ true)
+    (trails : is_16_bit_encoding w.encoding ≡ true → (slice_index_or class.steps 238 0 ≡ 0) × (slice_index_or class.steps 239 0 ≡ 0)) where
+  module _ (at p : ℕ) (on : IsBoundary w.text at) (place_is : place_at w.text at ≡ Some p) (alone : NextUnitDoesNotRepeatCharUnit w at) where
+    apart-there : (test : ℕ → Bool) → AreReadLengthsByKey (is_16_bit_encoding w.encoding) test class.steps → (c : ℕ) → slice_get w.text.characters p ≡ Some c → test c ≡ true
         → slice_get w.text.characters (p + 1) ≡ Some c → ⊥
     apart-there test are c first accepted second =
-        let begun : slice_get (code_units_of_character utf8 c) 0 ≡ Some (get_or (code_units_of_character utf8 c) 0 0) = slice_get-get_or (code_units_of_character utf8 c) 0 0 (has-unit utf8 c) in
-        let u = get_or (code_units_of_character utf8 c) 0 0 in
-        let here : slice_get (text_units_in_encoding utf8 w.text) at ≡ Some u =
-        unit-there utf8 w.text has.is_text in_bytes.spelled at p place_is ∙ ap (option_and_then (λ c. slice_get (code_units_of_character utf8 c) 0)) first ∙ begun in
-        let low = accepted-low w.text in_bytes test class.steps are ((plan.classes number class there).single_unit single) at p c on place_is first accepted u here in
+        let e = w.encoding in
+        let u = get_or (code_units_of_character e c) 0 0 in
+        let begun : slice_get (code_units_of_character e c) 0 ≡ Some u = slice_get-get_or (code_units_of_character e c) 0 0 (has-unit e c) in
+        let here : input_unit_at w at ≡ Some u =
+        unit-there e w.text has.is_text has.spelled at p place_is ∙ ap (option_and_then (λ c. slice_get (code_units_of_character e c) 0)) first ∙ begun in
+        let one = accepted-single e w.text has test class.steps are ((plan.classes number class there).single_unit single) at p c on place_is first accepted u here in
         let less = slice_get_within w.text.characters (p + 1) c second in
-        let next_place : place_at w.text (at + 1) ≡ Some (p + 1) = ap (place_at w.text) (sym low.2) ∙ place_at-offset w.text (p + 1) has.is_text (omega (arith, less)) in
-        let next : slice_get (text_units_in_encoding utf8 w.text) (at + 1) ≡ Some u =
-        unit-there utf8 w.text has.is_text in_bytes.spelled (at + 1) (p + 1) next_place ∙ ap (option_and_then (λ c. slice_get (code_units_of_character utf8 c) 0)) second ∙ begun in
-        alone u low.1 (sym (unit at) ∙ here) (sym (unit (at + 1)) ∙ next)
+        let next_place : place_at w.text (at + 1) ≡ Some (p + 1) = ap (place_at w.text) (sym one.1) ∙ place_at-offset w.text (p + 1) has.is_text (omega (arith, less)) in
+        let next : input_unit_at w (at + 1) ≡ Some u =
+        unit-there e w.text has.is_text has.spelled (at + 1) (p + 1) next_place ∙ ap (option_and_then (λ c. slice_get (code_units_of_character e c) 0)) second ∙ begun in
+        let beside : is_16_bit_encoding e ≡ true → EndsNoPair u = λ wide.
+        entered-beside class.steps (trails wide).0 (trails wide).1 u (subst (λ b. 0 < slice_index_or class.steps (key b u) 0) wide one.2) in
+        alone u (single-may e c u one.0 begun beside) here next
 
   -- If no unit of a range is repeated by the next one, failures extend over the range.
-  pub repeated-vain : (from to : ℕ) → ((at : ℕ) → from ≤ at → at < to → NextUnitDoesNotRepeatAsciiUnit w at) → MatchFailureExtendsUntil w from to
+  pub repeated-vain : (from to : ℕ) → ((at : ℕ) → from ≤ at → at < to → NextUnitDoesNotRepeatCharUnit w at) → MatchFailureExtendsUntil w from to
   repeated-vain from to alone none at on le less p is =
       let first = insn-of-op w plan 0 (variant.OpenGroup begins.group) begins.opens in
       let second = insn-of-op w plan 1 (variant.One number) begins.reads in
@@ -262,13 +308,13 @@ module _ (w : SearchInput) (has : HasUnitsForTables w.encoding w.text) (plan : I
       p here.1
       (λ test tests c there_c accepted again.
       apart-there at p on is (alone at le less) test
-      (subst (λ b. AreReadLengthsByKey b test class.steps) bytes ((plan.classes number class there).steps test (ap (λ i. test_of (program_of w) (Some i)) (sym reader_is) ∙ tests)))
+      ((plan.classes number class there).steps test (ap (λ i. test_of (program_of w) (Some i)) (sym reader_is) ∙ tests))
       c there_c accepted again)
       (state_before_first_insn (program_of w) (offset w.text p)) refl refl)
 
 -- The last unit of a text is not repeated.
-pub unrepeated-last : (w : SearchInput) → HasUnitsForTables w.encoding w.text → (at : ℕ) → units w.text ≤ at + 1 → NextUnitDoesNotRepeatAsciiUnit w at
-unrepeated-last w has at last u low here next =
+pub unrepeated-last : (w : SearchInput) → HasUnitsForTables w.encoding w.text → (at : ℕ) → units w.text ≤ at + 1 → NextUnitDoesNotRepeatCharUnit w at
+unrepeated-last w has at last u may here next =
     let long = units-length w.encoding w.text has.spelled in
     let less = slice_get_within (text_units_in_encoding w.encoding w.text) (at + 1) u next in
     absurd (omega (arith, last, long, less))

@@ -105,7 +105,7 @@ module _ (w : SearchInput) (has : HasUnitsForTables w.encoding w.text) (wide : i
 key-low : (unit : ℕ) → unit < 128 → key true unit ≡ unit
 key-low unit low = ap (λ (b : Bool). if b then unit else 128 + unit / 512) (lt-ltb unit 128 low)
 
-key-high : (unit : ℕ) → 128 ≤ unit → key true unit ≡ 128 + unit / 512
+pub key-high : (unit : ℕ) → 128 ≤ unit → key true unit ≡ 128 + unit / 512
 key-high unit high = ap (λ (b : Bool). if b then unit else 128 + unit / 512) (le-ltb unit 128 high)
 
 -- ---- Keys that bits identify

@@ -146,6 +146,57 @@ fn first_unit_with_bits<W: SearchContext>(
     }
 }
 
+// Returns the offset of the first unit in `from..to` with the bits of one of two kinds.
+#[inline(always)]
+fn first_unit_of_two_kinds<W: SearchContext>(
+    context: &W,
+    a: UnitBits,
+    b: UnitBits,
+    from: usize,
+    to: usize,
+) -> Option<usize>
+    requires order { from ≤ to }
+    requires inside { to ≤ units (W.searching context.now).text }
+    ensures { let w = W.searching context.now in
+        IsFirstPassingOffset (λ at. is_some_and (input_unit_at w at) (has_bits a.mask a.bits)
+        || is_some_and (input_unit_at w at) (has_bits b.mask b.bits)) from to result }
+{
+    if a.mask == 0xFFFF {
+        let a = SingleUnitTest { unit: a.bits };
+        first_by_marks(context, &Either { a, b }, from, to)
+    } else {
+        first_by_marks(context, &Either { a, b }, from, to)
+    }
+}
+
+// Returns the offset of the first unit in `from..to` with the bits of one of three kinds.
+#[inline(always)]
+fn first_unit_of_three_kinds<W: SearchContext>(
+    context: &W,
+    a: UnitBits,
+    b: UnitBits,
+    c: UnitBits,
+    from: usize,
+    to: usize,
+) -> Option<usize>
+    requires order { from ≤ to }
+    requires inside { to ≤ units (W.searching context.now).text }
+    ensures { let w = W.searching context.now in
+        IsFirstPassingOffset (λ at. (is_some_and (input_unit_at w at) (has_bits a.mask a.bits)
+        || is_some_and (input_unit_at w at) (has_bits b.mask b.bits))
+        || is_some_and (input_unit_at w at) (has_bits c.mask c.bits)) from to result }
+{
+    if a.mask == 0xFFFF && b.mask == 0xFFFF {
+        let a = SingleUnitTest { unit: a.bits };
+        let b = SingleUnitTest { unit: b.bits };
+        let a = Either { a, b };
+        first_by_marks(context, &Either { a, b: c }, from, to)
+    } else {
+        let a = Either { a, b };
+        first_by_marks(context, &Either { a, b: c }, from, to)
+    }
+}
+
 /// Returns the offset of the first 16-bit unit at `from` or later that has one of these keys.
 #[inline(always)]
 pub(crate) fn next_16_bit_unit_with_key<W: SearchContext>(
@@ -164,17 +215,11 @@ pub(crate) fn next_16_bit_unit_with_key<W: SearchContext>(
     match few.len {
         0 => None,
         1 => first_unit_with_bits(context, units_of_key(a), from, end),
-        2 => {
-            let a = units_of_key(a);
-            let b = units_of_key(b);
-            first_by_marks(context, &Either { a, b }, from, end)
-        }
+        2 => first_unit_of_two_kinds(context, units_of_key(a), units_of_key(b), from, end),
         _ => {
             let a = units_of_key(a);
             let b = units_of_key(b);
-            let c = units_of_key(c);
-            let a = Either { a, b };
-            first_by_marks(context, &Either { a, b: c }, from, end)
+            first_unit_of_three_kinds(context, a, b, units_of_key(c), from, end)
         }
     }
 }

@@ -1,11 +1,11 @@
 //! Skips the char loop or the word characters with which each match begins, or the units before a
 //! repeated character with which each match begins.
 
-ghost use Rattle.std.specs.Prelude.{◌≡◌, ◌≤◌, ◌<◌, ◌+◌, ℕ, true, false, Some, IfSome, option_and_then, option_map, slice_get};
+ghost use Rattle.std.specs.Prelude.{◌≡◌, ◌≤◌, ◌<◌, ◌+◌, ℕ, true, false, Some, IfSome, option_and_then, option_map, slice_get, slice_index_or};
 ghost use Rattle.regex_meaning.specs.CodeUnitOffsets.{IsBoundary, units};
 ghost use Rattle.regress_machine.specs.SearchFindsFirstOutcomeAtPlace.{TreeProgramCanSearchText};
-ghost use Rattle.regress_program.specs.{Plans.{op_as_char_loop}, LeadingCharLoops.{OnlyOpensGroups}};
-ghost use Rattle.regress_search.specs.DeadThreads.{MatchFailureExtendsUntil, BeginsWithRepeatedChar, NextUnitDoesNotRepeatAsciiUnit};
+ghost use Rattle.regress_program.specs.{Plans.{op_as_char_loop}, TableKeysOfUnits.{is_16_bit_encoding}, LeadingCharLoops.{OnlyOpensGroups}};
+ghost use Rattle.regress_search.specs.DeadThreads.{MatchFailureExtendsUntil, BeginsWithRepeatedChar, NextUnitDoesNotRepeatCharUnit, may_be_char_unit};
 ghost use Rattle.regress_search.specs.{CharLoopExits.{HasScannedClassCharsTo, ClassFitsText}, TreePlanAndText.{PlanFitsProgram, program_of}};
 
 use crate::class_char_and_table_lookups::unit_at_offset;
@@ -22,7 +22,7 @@ use regress_program::ops::{CharLoop, Op};
 /// boundary. Returns the offset at which this loop, or a run of word characters, ends if it begins
 /// at `from`. If no match begins at `from`, no match begins before the returned offset: it would
 /// continue where a match from `from` continues. If each match begins with a repeated character of
-/// one byte, returns the next offset at which a unit is repeated. Returns `from` if matches begin
+/// one unit, returns the next offset at which a unit is repeated. Returns `from` if matches begin
 /// otherwise, or if the loop's maximum is less than the length of the text.
 #[inline(always)]
 pub fn skip_leading_char_loop<W: SearchContext>(context: &W, opens: usize, from: usize) -> usize
@@ -84,7 +84,7 @@ fn end_of_leading_word_chars<W: SearchContext>(context: &W, from: usize) -> usiz
 }
 
 // Returns the first offset from `from` on of a unit that the next one repeats, or the end of the
-// text, if each match begins with a group of a character of one byte that a backreference repeats.
+// text, if each match begins with a group of a character of one unit that a backreference repeats.
 #[inline(always)]
 fn skip_to_repeated_unit<W: SearchContext>(context: &W, from: usize) -> usize
     requires at { IsBoundary (W.searching context.now).text from }
@@ -92,19 +92,29 @@ fn skip_to_repeated_unit<W: SearchContext>(context: &W, from: usize) -> usize
     ensures at { IsBoundary (W.searching context.now).text result }
     ensures no_match { MatchFailureExtendsUntil (W.searching context.now) from result }
 {
-    if !<<W::Input as HasUnitType>::Units as CodeUnitEncoding>::ARE_BYTES {
-        return from;
-    }
     let Some(number) = number_of_repeated_leading_class(context) else {
         return from;
     };
     let Some(class) = class_by_number(context, number) else {
         return from;
     };
-    if !class.single_unit {
+    if !class.single_unit || may_have_trail_surrogates::<W>(class) {
         return from;
     }
     next_repeated_unit(context, from)
+}
+
+// Checks whether the class may contain a 16-bit unit that is a trail surrogate, which has the key 238
+// or 239.
+#[inline(always)]
+fn may_have_trail_surrogates<W: SearchContext>(class: &Class) -> bool
+    ensures { result ≡ false → is_16_bit_encoding W.Input.Units.encoding ≡ true
+        → (slice_index_or class.now.steps 238 0 ≡ 0) × (slice_index_or class.now.steps 239 0 ≡ 0) }
+{
+    if <<W::Input as HasUnitType>::Units as CodeUnitEncoding>::ARE_BYTES {
+        return false;
+    }
+    class.steps[238] != 0 || class.steps[239] != 0
 }
 
 // Returns the class with this number, or `None` if there is none.
@@ -145,18 +155,18 @@ fn number_of_repeated_leading_class<W: SearchContext>(context: &W) -> Option<u32
     }
 }
 
-// Returns the first offset from `from` on of a unit below 128 that the next one repeats, or the end
-// of the text.
+// Returns the first offset from `from` on of a unit that may be a character and that the next one
+// repeats, or the end of the text.
 #[inline(always)]
 fn next_repeated_unit<W: SearchContext>(context: &W, from: usize) -> usize
     requires { IsBoundary (W.searching context.now).text from }
     ensures at { IsBoundary (W.searching context.now).text result }
-    ensures alone { (at : ℕ) → from ≤ at → at < result → NextUnitDoesNotRepeatAsciiUnit (W.searching context.now) at }
+    ensures alone { (at : ℕ) → from ≤ at → at < result → NextUnitDoesNotRepeatCharUnit (W.searching context.now) at }
 {
     let end = text_end(context);
     let mut at = from;
     'units: while end - at > 1 {
-        if is_ascii_unit_repeated_next(context, at) {
+        if is_char_unit_repeated_next(context, at) {
             return at;
         }
         at += 1;
@@ -164,18 +174,31 @@ fn next_repeated_unit<W: SearchContext>(context: &W, from: usize) -> usize
     end
 }
 
-// Checks whether the unit at an offset is below 128, and the next one repeats it.
+// Checks whether the unit at an offset may be a character, and the next one repeats it.
 #[inline(always)]
-fn is_ascii_unit_repeated_next<W: SearchContext>(context: &W, at: usize) -> bool
+fn is_char_unit_repeated_next<W: SearchContext>(context: &W, at: usize) -> bool
     requires { at + 1 < units (W.searching context.now).text }
     ensures boundary { result ≡ true → IsBoundary (W.searching context.now).text at }
-    ensures alone { result ≡ false → NextUnitDoesNotRepeatAsciiUnit (W.searching context.now) at }
+    ensures alone { result ≡ false → NextUnitDoesNotRepeatCharUnit (W.searching context.now) at }
 {
     let unit = unit_at_offset(context, at);
-    if unit >= 128 {
+    if !may_be_char::<W>(unit) {
         return false;
     }
     unit == unit_at_offset(context, at + 1)
+}
+
+// Checks whether a unit begins a character and may be all of it: a byte below 128, or a 16-bit unit
+// that is no trail surrogate.
+#[inline(always)]
+fn may_be_char<W: SearchContext>(unit: u32) -> bool
+    ensures { result ≡ may_be_char_unit (is_16_bit_encoding W.Input.Units.encoding) unit }
+{
+    if <<W::Input as HasUnitType>::Units as CodeUnitEncoding>::ARE_BYTES {
+        unit < 128
+    } else {
+        unit < 0xDC00 || 0xE000 <= unit
+    }
 }
 
 // Does what `skip_leading_char_loop` does, for a char loop that exists.

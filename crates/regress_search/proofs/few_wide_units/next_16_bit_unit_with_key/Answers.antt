@@ -23,8 +23,8 @@ returns-in-2 g c =
     let three : length keys ≡ 3 = search rules in
     let all = g.met.W.SearchContext.has_units c.args.context.now in
     let told = subst (λ len. contains (take len keys) 128 ≡ false) c.in-2.is c.requires.told in
-    subst (λ len. IsFirstPassingOffset (unit_has_listed_key false (listing keys len) w) c.args.from (units w.text) c.first_by_marks.result) (sym c.in-2.is)
-    (first-two w all c.requires.wide keys three c.args.from c.text_end-end.result c.first_by_marks.result c.text_end-end.ensures c.units_of_key-a.result c.units_of_key-b.result told c.units_of_key-a.ensures c.units_of_key-b.ensures c.first_by_marks.ensures)
+    subst (λ len. IsFirstPassingOffset (unit_has_listed_key false (listing keys len) w) c.args.from (units w.text) c.first_unit_of_two_kinds.result) (sym c.in-2.is)
+    (first-two w all c.requires.wide keys three c.args.from c.text_end-end.result c.first_unit_of_two_kinds.result c.text_end-end.ensures c.units_of_key-in-2.result c.units_of_key-in-2-2.result told c.units_of_key-in-2.ensures c.units_of_key-in-2-2.ensures c.first_unit_of_two_kinds.ensures)
 
 pub returns-in_default : goal.returns-in_default
 returns-in_default g c =
@@ -33,5 +33,5 @@ returns-in_default g c =
     let three : length keys ≡ 3 = search rules in
     let all = g.met.W.SearchContext.has_units c.args.context.now in
     let most : 3 ≤ c.args.few.len = omega arith in
-    first-three w all c.requires.wide keys three c.args.from c.text_end-end.result c.first_by_marks-in_default.result c.text_end-end.ensures c.args.few.len most
-    c.units_of_key-a-in_default.result c.units_of_key-b-in_default.result c.units_of_key-c.result c.requires.told c.units_of_key-a-in_default.ensures c.units_of_key-b-in_default.ensures c.units_of_key-c.ensures c.first_by_marks-in_default.ensures
+    first-three w all c.requires.wide keys three c.args.from c.text_end-end.result c.first_unit_of_three_kinds.result c.text_end-end.ensures c.args.few.len most
+    c.units_of_key-a.result c.units_of_key-b.result c.units_of_key-in_default.result c.requires.told c.units_of_key-a.ensures c.units_of_key-b.ensures c.units_of_key-in_default.ensures c.first_unit_of_three_kinds.ensures

@@ -5,7 +5,7 @@ use Rattle.regex_meaning.specs.CodeUnitOffsets.{IsBoundary}
 use Rattle.regex_meaning.specs.Text.{last_place}
 use Rattle.regex_meaning.proofs.CodeUnitOffsetsLemmas.{offset-IsBoundary}
 use Rattle.regress_input.proofs.BoundaryPositions.{boundary_inside}
-use Rattle.regress_search.specs.DeadThreads.{NextUnitDoesNotRepeatAsciiUnit}
+use Rattle.regress_search.specs.DeadThreads.{NextUnitDoesNotRepeatCharUnit}
 use Rattle.regress_search.proofs.RepeatedChars.{unrepeated-last}
 use Rattle.regress_search.proofs.leading_char_loop.next_repeated_unit.Goals as goal
 
@@ -22,7 +22,7 @@ units-preserved g c =
       omega (arith, c.units-test.true, c.text_end-end.ensures),
       λ x le less. elim (cases_lt x at) [
         | inl before ↦ c.units.invariant.2 x le before
-        | inr here ↦ subst (NextUnitDoesNotRepeatAsciiUnit w) (let z : at ≡ x = omega (arith, here, less) in z) (c.is_ascii_unit_repeated_next.ensures.alone c.if-is_ascii_unit_repeated_next.false)
+        | inr here ↦ subst (NextUnitDoesNotRepeatCharUnit w) (let z : at ≡ x = omega (arith, here, less) in z) (c.is_char_unit_repeated_next.ensures.alone c.if-is_char_unit_repeated_next.false)
       ],
     )
 

@@ -1,6 +1,6 @@
 -- The tree that is executed in place of a regex's tree has the same matches and the same starts to try.
 use Rattle.std.proofs.Common.{◌≡◌, ℕ, ◌+◌, Bool, true, false, List, [], ◌∷◌, Option, Some, None, refl, ap, sym, ◌∙◌, subst, arith, IsTrue}
-use Rattle.std.specs.Prelude.{option_map, option_and_then, Result, Ok, Err, IfOk, OnErr, is_err, length, replicate}
+use Rattle.std.specs.Prelude.{option_map, option_and_then, Result, Ok, Err, IfOk, IsErrAnd, length, replicate}
 use Rattle.std.proofs.lemmas.Result.{IfOk-weaker}
 use Rattle.regex_meaning.specs.Tree.{Node, Tree}
 use Rattle.regex_meaning.specs.Text.{Text, rightwards}
@@ -20,7 +20,7 @@ use Rattle.regress_program.specs.OptimizedTreeUnlessNoOpt.{planned_tree}
 use Rattle.regress_program.proofs.TreeToRunLemmas.{planned-same, flags-planned, well_formed-planned, reads_bytes-planned}
 use Rattle.regress_search.proofs.SearchableProgramLemmas.{can-search}
 use Rattle.regress_search.specs.AttemptsAndStarts.{NextStartSkipsNoMatch, NoMatchStartsBetween, match_end_and_groups_at, end_with_groups}
-use Rattle.regress_search.specs.CostsOfSearches.{SkipCostsMoreThanLeft, units_skipped}
+use Rattle.regress_search.specs.CostsOfSearches.{SkipSpendsExactCost, units_skipped}
 use Rattle.regress_program.specs.SearchableTexts.{IsByteText}
 use Rattle.regress_search.specs.SearchEffects.{SpendsNeedOrReachesLimit}
 use Rattle.regress_search.specs.declared.exec.SearchError.{SearchError}
@@ -141,7 +141,8 @@ context-single_unit wide t single_unit = ap (λ w. planned_tree w t) single_unit
 -- ---- Skips that the work limit refuses
 
 -- If the budget refuses to pay for a skip, the skip costs more than is left.
-pub refused-skip : {X E : Type 0} (tree : Tree) (text : Text) (at : ℕ) (next : Option ℕ) (skipped : ℕ) (before after : Budget) (r : Result X E) → true ≡ is_err r
-    → NextStartSkipsNoMatch tree text at next → skipped ≡ units_skipped text at next → OnErr r (IsRefusedByBudget true skipped before after) → SkipCostsMoreThanLeft true tree text at before.left
-refused-skip tree text at next skipped before after (Ok x) e none is refused = cc
-refused-skip tree text at next skipped before after (Err x) e none is refused = (refl, ∣ (next, none, (let few = refused.few in omega (arith, few, is))) ∣₁)
+pub refused-skip : {P E : Type 0} (offset : P → ℕ) (tree : Tree) (text : Text) (at : ℕ) (next : Option ℕ) (skipped : ℕ) (before after : Budget) (r : Result (Option P) E) (e : E) (left' : ℕ)
+    → IsErrAnd r (λ f. f ≡ e) → NextStartSkipsNoMatch tree text at next → skipped ≡ units_skipped text at next → IsRefusedByBudget true skipped before after
+    → SkipSpendsExactCost offset true tree text at before.left r left'
+refused-skip offset tree text at next skipped before after (Ok x) e left' h none is refused = absurd h
+refused-skip offset tree text at next skipped before after (Err f) e left' h none is refused = (refl, ∣ (next, none, (let few = refused.few in omega (arith, few, is))) ∣₁)

@@ -1,6 +1,6 @@
 //! The executor with a limited amount of work.
 
-ghost use Rattle.std.specs.Prelude.{◌≡◌, ◌≤◌, IsAscii, IfOk, IfSome, true, false, refl, option_map};
+ghost use Rattle.std.specs.Prelude.{◌≡◌, ◌≤◌, ◌<◌, ◌+◌, ◌-◌, IsAscii, IfErr, IfOk, IfSome, OnErr, OnOk, true, false, refl, option_map};
 ghost use Rattle.std.proofs.Props.{props};
 ghost use Rattle.regex_meaning.specs.Text.{ascii_text, ucs2_text, utf16_text, utf8_text};
 ghost use Rattle.regex_meaning.specs.CodeUnitOffsets.{IsBoundary, units};
@@ -8,6 +8,8 @@ ghost use Rattle.regex_pattern_front.specs.AstToSpecTree.{tree_of};
 ghost use Rattle.regress_machine.specs.SearchFindsFirstOutcomeAtPlace.{TreeProgramCanSearchText};
 ghost use Rattle.regress_program.specs.LeadingCharLoops.{OnlyOpensGroups};
 ghost use Rattle.regress_search.specs.{AttemptsAndStarts.{NextStartSkipsNoMatch, NoMatchAt}, CostsOfSearches.{units_skipped}, TreePlanAndText.{program_of}};
+ghost use Rattle.regress_search.specs.declared.exec.SearchError.TheVariants.{Memory};
+ghost use Rattle.regress_backtrack.specs.BudgetAccounting.{IsRefusedByBudget, IsTakenFromBudget};
 ghost use Rattle.regress_backtrack.specs.{State.{current_thread_state_of}, WorkOfAttempts.{AttemptsCostAtMostTheirSteps, work_costs}};
 
 use crate::attempts::attempt;
@@ -216,8 +218,6 @@ impl<'r, Input: InputIndexer> SingleAttemptExecutor for WorkLimitedExecutor<'r, 
         self.executor.search.searched.position_after_failure(tried)
     }
 
-    // `SearchError` has no variant for the work limit. `is_work_exhausted` tells whether it was
-    // reached.
     fn skip_to_candidate(
         &mut self,
         from: Input::Position,
@@ -226,9 +226,7 @@ impl<'r, Input: InputIndexer> SingleAttemptExecutor for WorkLimitedExecutor<'r, 
             return Ok(Some(from));
         }
         let (next, skipped) = skip_by_prefilter(&self.executor.search, from, self.work.left);
-        if self.work.pay(skipped).is_err() {
-            return Err(SearchError::Memory);
-        }
+        pay_or_refuse_search(&mut self.work, skipped)?;
         Ok(next)
     }
 
@@ -246,11 +244,26 @@ impl<'r, Input: InputIndexer> SingleAttemptExecutor for WorkLimitedExecutor<'r, 
             next,
             work,
         );
-        if self.work.pay(skipped).is_err() {
-            return Err(SearchError::Memory);
-        }
+        pay_or_refuse_search(&mut self.work, skipped)?;
         Ok(start)
     }
+}
+
+// Pays for units of work. If fewer are left, the search is refused by the work limit: no work is
+// left, and the result is an error. `SearchError` has no variant for the work limit.
+// `is_work_exhausted` tells whether it was reached.
+#[inline(always)]
+fn pay_or_refuse_search(work: &mut WorkBudget, units: usize) -> Result<(), SearchError>
+    ensures paid { let budget = ⟦<WorkBudget as StepCounter>⟧.work in
+        OnOk result (IsTakenFromBudget true units (budget work.old) (budget work.new)) }
+    ensures refused { let budget = ⟦<WorkBudget as StepCounter>⟧.work in
+        OnErr result (IsRefusedByBudget true units (budget work.old) (budget work.new)) }
+    ensures cause { IfErr result (λ e. e ≡ Memory) }
+{
+    if work.pay(units).is_err() {
+        return Err(SearchError::Memory);
+    }
+    Ok(())
 }
 
 // Returns the next candidate start at `from` or later, and the number of code units that it skips.
@@ -303,10 +316,13 @@ fn skip_past_loop<W: SearchContext>(
     (start, units_to_start(context, at, start))
 }
 
-// Returns the last offset to which a skip from offset `at` costs at most `work`.
+// Returns the last offset to which a skip from offset `at` costs at most `work`: the end of the text
+// if `work` pays for the whole rest of the text.
 #[inline(always)]
 fn last_affordable_offset<W: SearchContext>(context: &W, at: usize, work: u64) -> usize
     requires { at ≤ units (W.searching context.now).text }
+    ensures all { let end = units (W.searching context.now).text in end - at ≤ work → result ≡ end }
+    ensures part { work < units (W.searching context.now).text - at → result ≡ at + work }
 {
     let end = text_end(context);
     if work < (end - at) as u64 {

@@ -30,13 +30,13 @@ returns-clause-next g c =
     let can = can-be s.same s.searched.well_formed s.searched.unicode s.searched.bytes in
     next-tree s.program.wide (tree_of s.program.regex) _ can.well_formed (g.Input.Position.PositionType.offset c.args.next) (option_map g.Input.Position.PositionType.offset c.skip_past_loop-start.result.0) c.skip_past_loop-start.ensures.next
 
-pub returns-then-is_err-clause-paid : goal.returns-then-is_err-clause-paid
-returns-then-is_err-clause-paid g c =
+pub returns-in_err-pay_or_refuse_search-clause-paid : goal.returns-in_err-pay_or_refuse_search-clause-paid
+returns-in_err-pay_or_refuse_search-clause-paid g c =
     let s = c.args.self.now.executor.search in
     let can = can-be s.same s.searched.well_formed s.searched.unicode s.searched.bytes in
     let offset = g.Input.Position.PositionType.offset in
     let tree = tree_of s.program.regex in
     let text = g.Input.InputIndexer.text s.searched.input in
     let next = option_map offset c.skip_past_loop-start.result.0 in
-    refused-skip tree text (offset c.args.next) next _ _ _ c.pay.result c.if-is_err.ensures.value
-    (next-tree s.program.wide tree text can.well_formed (offset c.args.next) next c.skip_past_loop-start.ensures.next) c.skip_past_loop-start.ensures.skipped c.pay.ensures.short
+    refused-skip offset tree text (offset c.args.next) next c.skip_past_loop-start.result.1 _ _ c.from_residual.result c.in_err-pay_or_refuse_search.field-0.0 _ c.from_residual.ensures.1
+    (next-tree s.program.wide tree text can.well_formed (offset c.args.next) next c.skip_past_loop-start.ensures.next) c.skip_past_loop-start.ensures.skipped c.in_err-pay_or_refuse_search.ensures.refused

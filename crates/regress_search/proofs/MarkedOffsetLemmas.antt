@@ -31,6 +31,14 @@ module _ (test : ℕ → Bool) where
   first-behind from mid to (Some at) le none first =
       let more = first.0 in (omega (arith, le, more), first.1, first.2, none-then from mid at none first.3)
 
+  -- If a range ends with 32 offsets that overlap the failing ones, their first pass is that of the range.
+  pub first-overlapping : (from at to : ℕ) (found : Option ℕ) → from + 32 ≤ to → to < at + 32 → TestFailsThroughoutRange test from at
+      → IsFirstPassingOffset test (to - 32) (to - 32 + 32) found → IsFirstPassingOffset test from to found
+  first-overlapping from at to found room near none first =
+      let back : to - 32 + 32 ≡ to = omega (arith, room) in
+      first-behind from (to - 32) to found (omega (arith, room)) (λ x le less. none x le (omega (arith, less, near)))
+      (subst (λ end. IsFirstPassingOffset test (to - 32) end found) back first)
+
   pub first-wider : (from mid to at : ℕ) → mid ≤ to → IsFirstPassingOffset test from mid (Some at) → IsFirstPassingOffset test from to (Some at)
   first-wider from mid to at le first = let less = first.1 in (first.0, omega (arith, le, less), first.2, first.3)
 

@@ -83,6 +83,11 @@ pub(crate) fn first_by_marks<W: SearchContext, Test: OffsetTest<W>>(
         }
         at = past_blocks_without_marks(context, test, at + LANES, to);
     }
+    // The last block overlaps offsets at which the test is known to fail. In short texts, testing
+    // the rest one by one would take longer than all else.
+    if at < to && to - from >= LANES {
+        return first_in_block(context, test, to - LANES);
+    }
     first_one_by_one(context, test, at, to)
 }
 

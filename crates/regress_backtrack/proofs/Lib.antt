@@ -55,6 +55,7 @@ pub mod RecordValidityLemmas
 pub mod FailureMemoLemmas
 pub mod MemoizedExecutionLemmas
 pub mod PushedRecordLemmas
+mod FailingLazyExitLemmas
 pub mod MemoizedBacktracking
 pub mod TurnsWithRecords
 pub mod MemoizedCharLoopLemmas

@@ -34,3 +34,4 @@ pub mod RepeatableLoopBodies
 pub mod SurplusRequiredIterations
 pub mod InsnsOfGroupActions
 pub mod LeapMemory
+pub mod FailingLazyExits

@@ -8,6 +8,7 @@ mod capture_group_and_backref_ops;
 mod char_loops;
 mod choice_point_resumption;
 pub mod classicalbacktrack;
+mod failing_lazy_exits;
 pub mod failure_memo;
 pub mod failures_in_memo_table;
 mod interpreter;

@@ -37,6 +37,10 @@ ab|ac~ac~6~limit, 0 left
 ab|ac~ac~7~0..2, 0 left
 a*?b~ab~5~limit, 0 left
 a*?b~ab~6~0..2, 0 left
+a.*?b~axxxb~10~limit, 0 left
+a.*?b~axxxb~11~0..5, 0 left
+a(.*?)b~axxxb~15~limit, 0 left
+a(.*?)b~axxxb~16~0..5 1..4, 0 left
 (a)\1~aa~4~limit, 0 left
 (a)\1~aa~5~limit, 0 left
 (a)\1~aa~6~0..2 0..1, 0 left

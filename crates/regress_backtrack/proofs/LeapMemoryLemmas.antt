@@ -1,6 +1,7 @@
 -- No match begins before the offset to which a leap leads, so the search may start there.
 use Rattle.std.proofs.Common.{◌≡◌, ◌≤◌, ◌<◌, ℕ, ◌+◌, Option, Some, None, refl, sym, ◌∙◌, subst, arith, inl, inr}
-use Rattle.std.specs.Prelude.{option_map, max}
+use Rattle.std.specs.Option.{ForSome}
+use Rattle.std.specs.Prelude.{option_map, max, IfSome}
 use Rattle.std.proofs.lemmas.Bool.{cases_lt}
 use Rattle.regex_meaning.specs.Tree.{Tree}
 use Rattle.regex_meaning.specs.Text.{Text}
@@ -11,34 +12,45 @@ use Rattle.regress_input.proofs.BoundaryPositions.{boundary_inside}
 use Rattle.regress_machine.specs.SearchFindsFirstOutcomeAtPlace.{TreeProgramCanSearchText}
 use Rattle.regress_machine.specs.FirstSetTables.{HasUnitsForTables}
 use Rattle.regress_program.specs.declared.leap.Leap.{Leap}
-use Rattle.regress_program.specs.Leaps.{leap_to_goal, IsLeapRightForProgram, HasBarrierBetween}
+use Rattle.regress_program.specs.Leaps.{leap_to_goal, GoalIsAbsentBetween, GoalIsAbsentFrom, IsLeapRightForProgram, HasBarrierBetween}
 use Rattle.regress_program.specs.TableKeysOfUnits.{is_16_bit_encoding}
 use Rattle.regress_program.proofs.LeapCertificatesLemmas.{starts-cut-off, starts-without}
 use Rattle.regress_search.specs.AttemptsAndStarts.{NextStartSkipsNoMatch, NoMatchAt, NoMatchStartsBetween}
 use Rattle.regress_search.proofs.FirstMatchLemmas.{vain-at}
 use Rattle.regress_search.specs.TreePlanAndText.{SearchInput, program_of}
-use Rattle.regress_search.specs.Leaping.{IsTargetOfLeap}
+use Rattle.regress_search.specs.Leaping.{IsPastBarriersBeforeGoal, IsTargetOfLeap, IsTargetOfLeapWithin}
 use Rattle.regress_search.specs.declared.leaping.LeapTarget.{LeapTarget}
 use Rattle.regress_backtrack.specs.LeapMemory.{NoMatchBeforeLeapTarget}
 
--- No match begins before the target of a leap.
-pub leap-excludes : (w : SearchInput) → HasUnitsForTables w.encoding w.text → TreeProgramCanSearchText (program_of w) w.tree w.text → (leap : Leap)
-    → IsLeapRightForProgram (is_16_bit_encoding w.encoding) (program_of w) leap → (from : ℕ) (target : Option LeapTarget) → IsTargetOfLeap w leap from target
-    → NextStartSkipsNoMatch w.tree w.text from (option_map (λ t. t.to) target)
-leap-excludes w has can leap is from None absent = λ at on le less.
-    let p = IsBoundary-place w.text at has.is_text on in
-    vain-at w.tree w.text has.is_text at p.0 p.1
-    (starts-without w.encoding (program_of w) w.tree w.text (leap_to_goal leap) can has is.sound from absent p.0 p.3 (subst (λ n. from ≤ n) (sym p.2) le))
-leap-excludes w has can leap is from (Some target) leads = (
-  leads.behind.boundary,
-  leads.behind.ahead,
-  λ at on le less.
+module _ (w : SearchInput) (has : HasUnitsForTables w.encoding w.text) (can : TreeProgramCanSearchText (program_of w) w.tree w.text) (leap : Leap)
+    (is : IsLeapRightForProgram (is_16_bit_encoding w.encoding) (program_of w) leap) (from : ℕ) where
+  -- No match begins at an offset if no goal is there or later, or if barriers are before the goal.
+  no-goal-excludes : GoalIsAbsentFrom (leap_to_goal leap) w.encoding w.text from → NextStartSkipsNoMatch w.tree w.text from None
+  no-goal-excludes absent = λ at on le less.
       let p = IsBoundary-place w.text at has.is_text on in
-      let Barred : ℕ → Type 0 = λ n. HasBarrierBetween (leap_to_goal leap) w.encoding w.text n target.goal in
       vain-at w.tree w.text has.is_text at p.0 p.1
-      (starts-cut-off w.encoding (program_of w) w.tree w.text (leap_to_goal leap) can has is.sound from target.goal leads.absent p.0 p.3
-      (subst (λ n. from ≤ n) (sym p.2) le) (subst Barred (sym p.2) (leads.behind.barred at le less))),
-)
+      (starts-without w.encoding (program_of w) w.tree w.text (leap_to_goal leap) can has is.sound from absent p.0 p.3 (subst (λ n. from ≤ n) (sym p.2) le))
+
+  barriers-exclude : (goal to : ℕ) → GoalIsAbsentBetween (leap_to_goal leap) w.encoding w.text from goal → IsPastBarriersBeforeGoal w leap from goal to → NextStartSkipsNoMatch w.tree w.text from (Some to)
+  barriers-exclude goal to absent behind = (
+    behind.boundary,
+    behind.ahead,
+    λ at on le less.
+        let p = IsBoundary-place w.text at has.is_text on in
+        let Barred : ℕ → Type 0 = λ n. HasBarrierBetween (leap_to_goal leap) w.encoding w.text n goal in
+        vain-at w.tree w.text has.is_text at p.0 p.1
+        (starts-cut-off w.encoding (program_of w) w.tree w.text (leap_to_goal leap) can has is.sound from goal absent p.0 p.3
+        (subst (λ n. from ≤ n) (sym p.2) le) (subst Barred (sym p.2) (behind.barred at le less))),
+  )
+
+  -- No match begins before the target of a leap.
+  pub leap-excludes : (target : Option LeapTarget) → IsTargetOfLeap w leap from target → NextStartSkipsNoMatch w.tree w.text from (option_map (λ t. t.to) target)
+  leap-excludes None absent = no-goal-excludes absent
+  leap-excludes (Some target) leads = barriers-exclude target.goal target.to leads.absent leads.behind
+
+  pub leap-within-excludes : (limit : ℕ) (target : Option LeapTarget) → IsTargetOfLeapWithin w leap from limit target → NextStartSkipsNoMatch w.tree w.text from (option_map (λ t. t.to) target)
+  leap-within-excludes limit None absent = no-goal-excludes absent
+  leap-within-excludes limit (Some target) leads = barriers-exclude target.goal target.to leads.0.absent leads.1
 
 -- If no match begins before the next start, the memory of leaps may hold that start.
 pub leap-right : (tree : Tree) (text : Text) → HasRisingPlaceOffsets text → (from : ℕ) (next : Option ℕ) → NextStartSkipsNoMatch tree text from next
@@ -83,3 +95,14 @@ pub no-leap-yet : (tree : Tree) (text : Text) → HasRisingPlaceOffsets text →
 no-leap-yet tree text is from next none first =
     let zero-on : IsBoundary text 0 = subst (IsBoundary text) is.from_zero (offset-IsBoundary text 0 is (omega arith)) in
     rw (none, first) (leap-right tree text is 0 (Some 0) (at-once tree text 0 zero-on))
+
+-- ---- The next start as a position
+
+module _ {P : Type 0} (offset : P → ℕ) (tree : Tree) (text : Text) (from : ℕ) where
+  pub start-on : (start : Option P) → NextStartSkipsNoMatch tree text from (option_map offset start) → ForSome start (λ p. IsBoundary text (offset p))
+  start-on None none = λ p e. cc
+  start-on (Some to) next = λ p e. subst (λ q. IsBoundary text (offset q)) (some-same to p e) next.0
+
+  pub start-ahead : (at : ℕ) (start : Option P) → at ≡ from → NextStartSkipsNoMatch tree text from (option_map offset start) → IfSome start (λ p. at ≤ offset p)
+  start-ahead at None same none = tt
+  start-ahead at (Some to) same next = let ahead = next.1 in omega (arith, ahead, same)

@@ -23,7 +23,7 @@ use regress_search::exec::SearchError;
 use regress_search::search_context::{PositionOf, SearchContext, position_in_searched_text};
 
 // Returns why a search stopped: steps were refused, or otherwise an allocation failed.
-fn cause<S: StepCounter>(steps: &S) -> SearchError
+fn cause_of_stop<S: StepCounter>(steps: &S) -> SearchError
     ensures { result ≡ cause_of_error (S.budget steps.now).out }
 {
     if steps.steps_were_refused() {
@@ -81,7 +81,7 @@ pub(crate) fn attempt<W: SearchContext, S: StepCounter, M: FailureMemo>(
     let start = ThreadPos { ip: 0, at };
     match run_thread(context, start, memory, progress) {
         Ok(end) => Ok(end_position(context, end)),
-        Err(SearchStoppedWithoutResult) => Err(cause(&progress.steps)),
+        Err(SearchStoppedWithoutResult) => Err(cause_of_stop(&progress.steps)),
     }
 }
 

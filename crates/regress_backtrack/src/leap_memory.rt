@@ -22,13 +22,20 @@ pub(crate) struct LeapMemory {
     // `to`, or the greatest number if that is `None`. So a single comparison detects most offsets
     // past it.
     until: usize,
-    // An attempt at this offset or later is preceded by a leap.
+    // When the next leap is due.
+    schedule: LeapSchedule,
+    // Whether an attempt was made. A search at a given offset makes only one.
+    began: bool,
+}
+
+/// When the next leap of a search is due.
+#[derive(Clone, Copy)]
+pub(crate) struct LeapSchedule {
+    // A leap precedes an attempt at this offset or later.
     due: usize,
     // The number of leaps that did not advance the search, up to `MAX_UNPRODUCTIVE_LEAPS`. It is
     // halved by each leap that does.
     vain: u32,
-    // Whether an attempt was made. A search at a given offset makes only one.
-    began: bool,
 }
 
 /// After this many leaps that did not advance the search, no leap is made for
@@ -43,21 +50,13 @@ impl LeapMemory {
         ensures from { result.from ≡ 0 }
         ensures to { result.to ≡ Some 0 }
     {
-        let due = if leap.is_some() { 0 } else { usize::MAX };
         LeapMemory {
             from: 0,
             to: Some(0),
             until: 0,
-            due,
-            vain: 0,
+            schedule: LeapSchedule::new(leap),
             began: false,
         }
-    }
-
-    // Checks whether a leap precedes an attempt at an offset.
-    #[inline(always)]
-    fn is_leap_due(&self, at: usize) -> bool {
-        at >= self.due
     }
 
     /// Checks whether the last leap says nothing about an offset.
@@ -80,12 +79,28 @@ impl LeapMemory {
             None => None,
         }
     }
+}
 
-    // Determines when the next leap is due, after a leap from `from` that led to `target`.
-    fn schedule_next_leap(&mut self, from: usize, target: LeapTarget)
-        ensures from { self.new.from ≡ self.old.from }
-        ensures to { self.new.to ≡ self.old.to }
-    {
+impl LeapSchedule {
+    /// Returns the schedule of a search that has made no leap.
+    pub(crate) fn new(leap: &Option<Leap>) -> Self {
+        let due = if leap.is_some() { 0 } else { usize::MAX };
+        LeapSchedule { due, vain: 0 }
+    }
+
+    /// Checks whether a leap precedes an attempt at an offset.
+    #[inline(always)]
+    pub(crate) fn is_leap_due(&self, at: usize) -> bool {
+        at >= self.due
+    }
+
+    /// Determines that no further leap is made, because there is no further goal.
+    pub(crate) fn end_leaps(&mut self) {
+        self.due = usize::MAX;
+    }
+
+    /// Determines when the next leap is due, after a leap from `from` that led to `target`.
+    pub(crate) fn schedule_next_leap(&mut self, from: usize, target: LeapTarget) {
         self.due = target.goal.saturating_add(1);
         if target.to > from {
             self.vain /= 2;
@@ -110,7 +125,7 @@ pub(crate) fn make_leap_if_due<W: SearchContext>(
     ensures sound { let w = W.searching context.now in NoMatchBeforeRememberedLeap w.tree w.text memory.old
         → NoMatchBeforeRememberedLeap w.tree w.text memory.new }
 {
-    if !memory.is_leap_due(at) {
+    if !memory.schedule.is_leap_due(at) {
         return false;
     }
     make_leap_after_first_attempt(context, memory, at)
@@ -161,13 +176,13 @@ fn make_leap_and_store_it<W: SearchContext>(
         Some(target) => {
             memory.to = Some(target.to);
             memory.until = target.to;
-            memory.schedule_next_leap(at, target);
+            memory.schedule.schedule_next_leap(at, target);
             at < target.to
         }
         None => {
             memory.to = None;
             memory.until = usize::MAX;
-            memory.due = usize::MAX;
+            memory.schedule.end_leaps();
             true
         }
     }

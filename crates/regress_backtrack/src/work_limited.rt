@@ -1,12 +1,13 @@
 //! The executor with a limited amount of work.
 
-ghost use Rattle.std.specs.Prelude.{◌≡◌, ◌≤◌, ◌<◌, ◌+◌, ◌-◌, IsAscii, IfErr, IfOk, IfSome, OnErr, OnOk, true, false, refl, option_map};
+ghost use Rattle.std.specs.Option.{ForSome};
+ghost use Rattle.std.specs.Prelude.{◌≡◌, ◌≤◌, ◌<◌, ◌+◌, ◌-◌, ◌*◌, ◌/◌, ◌^◌, ℕ, IsAscii, IfErr, IfOk, IfSome, OnErr, OnOk, true, false, refl, min, option_map};
 ghost use Rattle.std.proofs.Props.{props};
 ghost use Rattle.regex_meaning.specs.Text.{ascii_text, ucs2_text, utf16_text, utf8_text};
 ghost use Rattle.regex_meaning.specs.CodeUnitOffsets.{IsBoundary, units};
 ghost use Rattle.regex_pattern_front.specs.AstToSpecTree.{tree_of};
 ghost use Rattle.regress_machine.specs.SearchFindsFirstOutcomeAtPlace.{TreeProgramCanSearchText};
-ghost use Rattle.regress_program.specs.LeadingCharLoops.{OnlyOpensGroups};
+ghost use Rattle.regress_program.specs.{LeadingCharLoops.{OnlyOpensGroups}, Leaps.{IsLeapRightForProgram}, TableKeysOfUnits.{is_16_bit_encoding}};
 ghost use Rattle.regress_search.specs.{AttemptsAndStarts.{NextStartSkipsNoMatch, NoMatchAt}, CostsOfSearches.{units_skipped}, TreePlanAndText.{program_of}};
 ghost use Rattle.regress_search.specs.declared.exec.SearchError.TheVariants.{Memory};
 ghost use Rattle.regress_backtrack.specs.BudgetAccounting.{IsRefusedByBudget, IsTakenFromBudget};
@@ -17,14 +18,17 @@ use crate::classicalbacktrack::{
     BacktrackExecutor, end_of_leading_loop, may_rescan_loop, next_candidate_start,
 };
 use crate::failure_memo::{NoMemo, StepsAndMemo};
+use crate::leap_memory::LeapSchedule;
 use crate::next_candidate_start_by_plan::is_candidate_start;
 use crate::step_and_work_budgets::{StepCounter, WorkBudget};
 use regress_input::indexing::{AsciiInput, InputIndexer, Ucs2Input, Utf8Input, Utf16Input};
 use regress_program::insn::{CompiledRegex, CompiledRegexFor16BitUnits, Program};
 use regress_program::leading_char_loop::LeadingCharLoop;
+use regress_program::leap::Leap;
 use regress_search::exec::{
     ProducerFromProgramAndText, SearchError, SearchState, WorkLimitedProducer,
 };
+use regress_search::leaping::{LeapTarget, leap_target_within};
 use regress_search::search_context::{
     PositionOf, SearchContext, offset_in_searched_text, position_in_searched_text, text_end,
 };
@@ -36,15 +40,58 @@ use std::alloc::AllocError;
 ///
 /// Each attempt takes exactly what it costs (`work_costs`) from the work that is left, before that
 /// work is done. Between attempts, a prefilter skips to the next candidate start. After a failed
-/// attempt, the leading loop is skipped too. A skip takes one unit for each code unit that is
-/// skipped. What a search costs does not depend on the work that is left.
+/// attempt, the leading loop is skipped too, and a leap is made if one is due. A skip takes one unit
+/// for each code unit that is skipped. What a search costs does not depend on the work that is left.
 #[derive(Drop)]
 pub struct WorkLimitedExecutor<'r, Input: InputIndexer> {
     executor: BacktrackExecutor<'r, Input>,
     // The work that is left, and whether the last attempt was refused some.
     work: WorkBudget,
+    // When leaps are made, and how far they may read ahead.
+    leaps: LeapsWithinWork,
     // No work is left after some was refused.
     ghost spent: { work.out ≡ true → work.left ≡ 0 } by { Prim.hlevel props },
+}
+
+/// The leaps of a search with a limited amount of work. They read at most as many units beyond the
+/// starts to which they lead as units of work were paid before, so that what they read is paid for
+/// whether or not the search goes on.
+#[derive(Clone, Copy)]
+struct LeapsWithinWork {
+    schedule: LeapSchedule,
+    // How much more this is than the work that is left is how many units leaps may read.
+    covered: u64,
+}
+
+impl LeapsWithinWork {
+    // Checks whether a leap precedes an attempt at an offset. None does before work was paid.
+    #[inline(always)]
+    fn is_leap_due(&self, at: usize, work: u64) -> bool
+        ensures { result ≡ true → work < self.now.covered }
+    {
+        self.schedule.is_leap_due(at) && self.covered > work
+    }
+
+    // Returns the offset up to which a leap from an offset may search for a goal. The units beyond
+    // its target are read twice.
+    #[inline(always)]
+    fn limit_of_leap(&self, from: usize, work: u64) -> usize
+        ensures ahead { from ≤ result }
+        ensures exact { result ≡ min (from + (self.now.covered - work) / 2) (2 ^ 64 - 1) }
+    {
+        from.saturating_add(((self.covered.saturating_sub(work)) / 2) as usize)
+    }
+
+    // Notes a leap from an offset that led to `target`. The units between it and the goal were read
+    // twice.
+    #[inline(always)]
+    fn note_leap(&mut self, from: usize, target: LeapTarget)
+        ensures { self.new.covered ≡ self.old.covered - min ((target.goal - target.to) * 2) (2 ^ 64 - 1) }
+    {
+        let ahead = target.goal.saturating_sub(target.to) as u64;
+        self.covered = self.covered.saturating_sub(ahead.saturating_mul(2));
+        self.schedule.schedule_next_leap(from, target);
+    }
 }
 
 impl<'r, Input: InputIndexer> WorkLimitedExecutor<'r, Input> {
@@ -56,12 +103,17 @@ impl<'r, Input: InputIndexer> WorkLimitedExecutor<'r, Input> {
             ≡ Input.text executor.entry.search.searched.input }
         ensures left { result.work.left ≡ work }
     {
+        let leaps = LeapsWithinWork {
+            schedule: LeapSchedule::new(&executor.search.program.plan().leap),
+            covered: work,
+        };
         WorkLimitedExecutor {
             executor,
             work: WorkBudget {
                 left: work,
                 out: false,
             },
+            leaps,
         }
     }
 }
@@ -225,7 +277,10 @@ impl<'r, Input: InputIndexer> SingleAttemptExecutor for WorkLimitedExecutor<'r, 
         if self.executor.search.searched.is_anchored() {
             return Ok(Some(from));
         }
-        let (next, skipped) = skip_by_prefilter(&self.executor.search, from, self.work.left);
+        let mut leaps = self.leaps;
+        let work = self.work.left;
+        let (next, skipped) = skip_by_prefilter(&self.executor.search, &mut leaps, from, work);
+        self.leaps = leaps;
         pay_or_refuse_search(&mut self.work, skipped)?;
         Ok(next)
     }
@@ -236,14 +291,17 @@ impl<'r, Input: InputIndexer> SingleAttemptExecutor for WorkLimitedExecutor<'r, 
         next: Input::Position,
     ) -> Result<Option<Input::Position>, SearchError> {
         let leading_loop = self.executor.leading_loop;
+        let mut leaps = self.leaps;
         let work = self.work.left;
         let (start, skipped) = skip_past_loop(
             &self.executor.search,
+            &mut leaps,
             leading_loop,
             tried,
             next,
             work,
         );
+        self.leaps = leaps;
         pay_or_refuse_search(&mut self.work, skipped)?;
         Ok(start)
     }
@@ -271,6 +329,7 @@ fn pay_or_refuse_search(work: &mut WorkBudget, units: usize) -> Result<(), Searc
 #[inline(always)]
 fn skip_by_prefilter<W: SearchContext>(
     context: &W,
+    leaps: &mut LeapsWithinWork,
     from: PositionOf<W>,
     work: u64,
 ) -> (Option<PositionOf<W>>, usize)
@@ -283,7 +342,8 @@ fn skip_by_prefilter<W: SearchContext>(
 {
     let at = offset_in_searched_text(context, from);
     let limit = last_affordable_offset(context, at, work);
-    let next = next_candidate_start_within(context, from, limit);
+    let start = next_candidate_start_within(context, from, limit);
+    let next = candidate_past_due_leap(context, leaps, start, work, limit);
     (next, units_to_start(context, at, next))
 }
 
@@ -293,6 +353,7 @@ fn skip_by_prefilter<W: SearchContext>(
 #[inline(always)]
 fn skip_past_loop<W: SearchContext>(
     context: &W,
+    leaps: &mut LeapsWithinWork,
     leading_loop: LeadingCharLoop,
     tried: PositionOf<W>,
     next: PositionOf<W>,
@@ -313,7 +374,84 @@ fn skip_past_loop<W: SearchContext>(
     let at = offset_in_searched_text(context, next);
     let limit = last_affordable_offset(context, at, work);
     let start = candidate_past_loop(context, leading_loop, tried, next, limit);
-    (start, units_to_start(context, at, start))
+    let to = candidate_past_due_leap(context, leaps, start, work, limit);
+    (to, units_to_start(context, at, to))
+}
+
+// Makes a leap from a candidate start, if there is one and a leap is due. Returns the first
+// candidate start from which the next goal may be reached. If it is past `limit`, the result may be
+// an earlier start past `limit`.
+#[inline(always)]
+fn candidate_past_due_leap<W: SearchContext>(
+    context: &W,
+    leaps: &mut LeapsWithinWork,
+    start: Option<PositionOf<W>>,
+    work: u64,
+    limit: usize,
+) -> Option<PositionOf<W>>
+    requires at { ForSome start (λ p. IsBoundary (W.searching context.now).text (W.Input.Position.offset p)) }
+    requires executable { let w = W.searching context.now in TreeProgramCanSearchText (program_of w) w.tree w.text }
+    ensures { let w = W.searching context.now in let at = W.Input.Position.offset in (from : ℕ)
+        → NextStartSkipsNoMatch w.tree w.text from (option_map at start)
+        → NextStartSkipsNoMatch w.tree w.text from (option_map at result) }
+{
+    let start = start?;
+    if !leaps.is_leap_due(offset_in_searched_text(context, start), work) {
+        return Some(start);
+    }
+    candidate_past_leap(context, leaps, start, work, limit)
+}
+
+// Does what `candidate_past_due_leap` does, if there is a candidate start and a leap is due.
+#[inline(never)]
+fn candidate_past_leap<W: SearchContext>(
+    context: &W,
+    leaps: &mut LeapsWithinWork,
+    start: PositionOf<W>,
+    work: u64,
+    limit: usize,
+) -> Option<PositionOf<W>>
+    requires at { IsBoundary (W.searching context.now).text (W.Input.Position.offset start) }
+    requires executable { let w = W.searching context.now in TreeProgramCanSearchText (program_of w) w.tree w.text }
+    ensures { let w = W.searching context.now in let at = W.Input.Position.offset in
+        NextStartSkipsNoMatch w.tree w.text (at start) (option_map at result) }
+{
+    let Some(leap) = &context.plan().leap else {
+        return Some(start);
+    };
+    leap_to_candidate(context, leap, leaps, start, work, limit)
+}
+
+// Makes a leap from a candidate start, and returns the first candidate start where it leads.
+#[inline(always)]
+fn leap_to_candidate<W: SearchContext>(
+    context: &W,
+    leap: &Leap,
+    leaps: &mut LeapsWithinWork,
+    start: PositionOf<W>,
+    work: u64,
+    limit: usize,
+) -> Option<PositionOf<W>>
+    requires at { IsBoundary (W.searching context.now).text (W.Input.Position.offset start) }
+    requires executable { let w = W.searching context.now in TreeProgramCanSearchText (program_of w) w.tree w.text }
+    requires leap { let w = W.searching context.now in IsLeapRightForProgram (is_16_bit_encoding w.encoding)
+        (program_of w) leap.now }
+    ensures { let w = W.searching context.now in let at = W.Input.Position.offset in
+        NextStartSkipsNoMatch w.tree w.text (at start) (option_map at result) }
+{
+    let from = offset_in_searched_text(context, start);
+    let reach = leaps.limit_of_leap(from, work);
+    match leap_target_within(context, leap, from, reach) {
+        Some(target) => {
+            leaps.note_leap(from, target);
+            let to = position_in_searched_text(context, target.to);
+            next_candidate_start_within(context, to, limit)
+        }
+        None => {
+            leaps.schedule.end_leaps();
+            None
+        }
+    }
 }
 
 // Returns the last offset to which a skip from offset `at` costs at most `work`: the end of the text

@@ -1,22 +1,35 @@
 -- A leap finds the next goal, and the barrier before it, by the keys of the units that it passes.
-use Rattle.std.proofs.Common.{◌≡◌, ◌<◌, ◌≤◌, ℕ, ◌+◌, ◌-◌, Bool, true, false, ◌||◌, List, Option, Some, None, refl, ap, sym, ◌∙◌, subst, arith, slice_get}
+use Rattle.std.proofs.Common.{◌≡◌, ◌<◌, ◌≤◌, ℕ, ◌+◌, ◌-◌, Bool, true, false, ◌&&◌, ◌||◌, List, Option, Some, None, refl, ap, sym, ◌∙◌, subst, arith, slice_get}
 use Rattle.std.specs.Prelude.{option_map, min, nat_le}
-use Rattle.std.proofs.lemmas.Bool.{cases_lt, lt-ltb, le-ltb, lt-leb, or_left}
+use Rattle.std.proofs.lemmas.Bool.{cases_lt, lt-ltb, le-ltb, lt-leb, or_left, false_from_ne_true}
 use mathlib.Core.Logic.{◌⊎◌, inl, inr}
 use Rattle.regex_meaning.specs.CodeUnitOffsets.{IsBoundary, units}
 use Rattle.regex_meaning.specs.CodeUnits.{text_units_in_encoding}
 use Rattle.regex_meaning.specs.Outcomes.{is_some_and}
+use Rattle.regress_input.proofs.BoundaryPositions.{boundary_inside}
 use Rattle.regress_machine.specs.FirstSetTables.{HasUnitsForTables, table_allows_key_or_end}
 use Rattle.regress_program.specs.declared.leap.Leap.{Leap}
+use Rattle.regress_search.specs.declared.leaping.LeapTarget.{LeapTarget}
 use Rattle.regress_program.specs.Leaps.{is_goal_key, is_passed_key, leap_to_goal, AreHighKeysAlike, AreGoalsFewAscii, goal_occurs_at, GoalIsAbsentBetween, GoalIsAbsentFrom}
-use Rattle.regress_program.specs.TableKeysOfUnits.{key, is_16_bit_encoding}
+use Rattle.regress_program.specs.TableKeysOfUnits.{key, is_16_bit_encoding, may_begin_surrogate_pair}
 use Rattle.regress_search.specs.TreePlanAndText.{SearchInput}
 use Rattle.regress_search.specs.StartSearch.{table_allows_unit_or_end_at, table_of_listed_units, NoBoundaryWhere}
 use Rattle.regress_search.specs.ReadsAtOffset.{unit_key_in_search}
-use Rattle.regress_search.specs.Leaping.{may_read_unit_before_goal, IsFirstOffsetReadableUpToGoal, IsPastBarriersBeforeGoal}
+use Rattle.regress_search.specs.Leaping.{may_read_unit_before_goal, IsFirstOffsetReadableUpToGoal, IsPastBarriersBeforeGoal, IsTargetOfLeap, IsTargetOfLeapWithin}
 use Rattle.regress_search.proofs.AsciiUnitLemmas.{low-boundary, key-small, key-own}
+use Rattle.regress_search.specs.WideUnits.{unit_has_listed_key}
 use Rattle.regress_search.proofs.NextCharByUnit.{unit-fits}
+use Rattle.regress_search.proofs.WideUnitLemmas.{key-low, key-high, or-none}
 use Rattle.regress_search.proofs.StartSearchLemmas.{low-listed}
+
+-- No key from 128 on is that of a goal.
+high-no-goal : (leap : Leap) → AreGoalsFewAscii leap → (k : ℕ) → 128 ≤ k → is_goal_key leap k ≡ false
+high-no-goal leap ascii k high = false_from_ne_true (is_goal_key leap k) (λ listed.
+    let low : k < 128 = low-listed leap.goal k ascii.low listed in
+    omega (arith, low, high))
+
+pub goal-not128 : (leap : Leap) → AreGoalsFewAscii leap → is_goal_key leap 128 ≡ false
+goal-not128 leap ascii = high-no-goal leap ascii 128 (omega arith)
 
 module _ (w : SearchInput) (has : HasUnitsForTables w.encoding w.text) where
   abbrev wide : Bool
@@ -64,6 +77,38 @@ module _ (w : SearchInput) (has : HasUnitsForTables w.encoding w.text) where
         by : (o : Option ℕ) → table_allows_key_or_end (table_of_listed_units leap.goal) o ≡ true → is_some_and o (leap_to_goal leap).goal ≡ true
         by None e = cc
         by (Some k) e = or_left (is_goal_key leap k) (nat_le 256 k) e
+
+    above : (k : ℕ) → k < 256 → is_goal_key leap k ≡ (leap_to_goal leap).goal k
+    above k small = or-none (is_goal_key leap k) ∙ sym (ap (λ b. is_goal_key leap k || b) (lt-leb 256 k small))
+
+    -- A unit has the same listed keys as a byte and as a 16-bit unit.
+    listed-alike : (b : Bool) (u : ℕ) → is_goal_key leap (key true u) ≡ is_goal_key leap (key b u)
+    listed-alike true u = refl
+    listed-alike false u = elim (cases_lt u 128) [
+      | inl low ↦ ap (is_goal_key leap) (key-low u low)
+      | inr high ↦
+          let more : 128 ≤ key true u = let is = key-high u high in omega (arith, is) in
+          high-no-goal leap ascii (key true u) more ∙ sym (high-no-goal leap ascii u high)
+    ]
+
+    -- The test for the goals' keys as those of 16-bit units passes where a goal occurs.
+    pub listed-goal : (at : ℕ) → unit_has_listed_key false leap.goal w at ≡ goal_occurs_at (leap_to_goal leap) w.encoding w.text at
+    listed-goal at = by (slice_get all-units at) refl
+      where
+        by : (o : Option ℕ) → slice_get all-units at ≡ o
+            → is_some_and o (λ unit. (false && may_begin_surrogate_pair (key true unit)) || is_goal_key leap (key true unit)) ≡ is_some_and (option_map (key wide) o) (leap_to_goal leap).goal
+        by None there = refl
+        by (Some u) there = listed-alike wide u ∙ above (key wide u) (key-small wide u (unit-fits w.encoding w.text has at u there))
+
+    -- A goal is at a boundary.
+    pub goal-boundary : (at : ℕ) → goal_occurs_at (leap_to_goal leap) w.encoding w.text at ≡ true → IsBoundary w.text at
+    goal-boundary at = by (slice_get all-units at) refl
+      where
+        by : (o : Option ℕ) → slice_get all-units at ≡ o → is_some_and (option_map (key wide) o) (leap_to_goal leap).goal ≡ true → IsBoundary w.text at
+        by None there occurs = cc
+        by (Some u) there occurs =
+            let one : is_goal_key leap (key wide u) ≡ true = above (key wide u) (key-small wide u (unit-fits w.encoding w.text has at u there)) ∙ occurs in
+            low-key at u there (low-listed leap.goal (key wide u) ascii.low one)
 
     pub absent-between : (from to : ℕ) → NoBoundaryWhere w (λ at. table_allows_unit_or_end_at w (table_of_listed_units leap.goal) at) from to
         → GoalIsAbsentBetween (leap_to_goal leap) w.encoding w.text from to
@@ -146,3 +191,27 @@ module _ (w : SearchInput) (has : HasUnitsForTables w.encoding w.text) where
       ahead = first.ahead;
       barred = λ s after less. absurd (omega (arith, after, less, le));
     }
+
+-- What is barred from a boundary is barred from a goal behind it.
+pub barred-further : (w : SearchInput) (leap : Leap) (from boundary goal to : ℕ) → boundary ≤ goal → IsPastBarriersBeforeGoal w leap from boundary to → IsPastBarriersBeforeGoal w leap from goal to
+barred-further w leap from boundary goal to le past = record {
+  boundary = past.boundary;
+  ahead = past.ahead;
+  barred = λ at after less.
+      let barrier = past.barred at after less in
+      record {
+        at = barrier.at;
+        after = barrier.after;
+        before = let before = barrier.before in omega (arith, before, le);
+        barred = barrier.barred;
+      };
+}
+
+-- A leap that is not limited leads where a limited one may, if the limit is not before the end of the text.
+pub leads-within : (w : SearchInput) → HasUnitsForTables w.encoding w.text → (leap : Leap) → AreGoalsFewAscii leap → (from limit : ℕ) → units w.text ≤ limit
+    → (target : Option LeapTarget) → IsTargetOfLeap w leap from target → IsTargetOfLeapWithin w leap from limit target
+leads-within w has leap ascii from limit end None absent = absent
+leads-within w has leap ascii from limit end (Some target) leads =
+    let inside = boundary_inside w.text has.is_text target.goal (goal-boundary w has leap ascii target.goal leads.occurs) in
+    let most : target.goal ≤ limit = omega (arith, inside, end) in
+    (record { is_one = inl leads.occurs; absent = leads.absent; within = most }, leads.behind)

@@ -102,7 +102,7 @@ module _ (w : SearchInput) (has : HasUnitsForTables w.encoding w.text) (wide : i
 
 -- ---- Keys of 16-bit units
 
-key-low : (unit : ℕ) → unit < 128 → key true unit ≡ unit
+pub key-low : (unit : ℕ) → unit < 128 → key true unit ≡ unit
 key-low unit low = ap (λ (b : Bool). if b then unit else 128 + unit / 512) (lt-ltb unit 128 low)
 
 pub key-high : (unit : ℕ) → 128 ≤ unit → key true unit ≡ 128 + unit / 512
@@ -187,14 +187,14 @@ module _ (w : SearchInput) (has : HasUnitsForTables w.encoding w.text) (wide : i
       by None there h = cc
       by (Some u) there h = beside-boundary w.encoding wide w.text has at u there (ends-no-pair u (told (key true u) h))
 
-  pub wide-found : (from : ℕ) (found : Option ℕ) → IsFirstPassingOffset (unit_has_listed_key false few w) from (units w.text) found → IsFirstAllowedBoundary w table from found
-  wide-found from None none = λ at on le less. elim (cases_lt at (units w.text)) [
-    | inl inside ↦ same-test at ∙ none at le inside
+  pub wide-found : (from end : ℕ) (found : Option ℕ) → end ≡ units w.text → IsFirstPassingOffset (unit_has_listed_key false few w) from end found → IsFirstAllowedBoundary w table from found
+  wide-found from end None ends none = λ at on le less. elim (cases_lt at (units w.text)) [
+    | inl inside ↦ same-test at ∙ none at le (omega (arith, inside, ends))
     | inr past ↦ past-allowed w has table at past
   ]
-  wide-found from (Some to) first =
+  wide-found from end (Some to) ends first =
       let less = first.1 in
-      (hit-boundary to first.2, first.0, same-test to ∙ first.2, none-before from to (omega (arith, less)) first.3)
+      (hit-boundary to first.2, first.0, same-test to ∙ first.2, none-before from to (omega (arith, less, ends)) first.3)
 
 -- ---- Units that may begin a pair
 
@@ -236,7 +236,7 @@ bits-mark w has mask bits at marks room are = record {
   within = are.within;
 }
 
-or-none : (b : Bool) → b ≡ (b || false)
+pub or-none : (b : Bool) → b ≡ (b || false)
 or-none true = refl
 or-none false = refl
 
@@ -281,7 +281,12 @@ either-of : (o : Option ℕ) (f h : ℕ → Bool) → (is_some_and o f || is_som
 either-of None f h = refl
 either-of (Some u) f h = refl
 
-module _ (w : SearchInput) (has : HasUnitsForTables w.encoding w.text) (wide : is_16_bit_encoding w.encoding ≡ true) (keys : List ℕ) (three : length keys ≡ 3) where
+-- A unit of any width is below 2¹⁶.
+fits-16-bits : (wide : Bool) (u : ℕ) → u < (if wide then 0x1_0000 else 0x100) → u < 0x1_0000
+fits-16-bits true u less = less
+fits-16-bits false u less = omega (arith, less)
+
+module _ (w : SearchInput) (has : HasUnitsForTables w.encoding w.text) (keys : List ℕ) (three : length keys ≡ 3) where
   abbrev Tells : UnitBits → (i : ℕ) → Type 0
   Tells kind i = (get_or keys i 0 ≡ 128 → ⊥) → BitsIdentifyUnitsOfKey kind (get_or keys i 0)
 
@@ -292,48 +297,54 @@ module _ (w : SearchInput) (has : HasUnitsForTables w.encoding w.text) (wide : i
   at_kind kind at = is_some_and (input_unit_at w at) (has_kind kind)
 
   -- Tests that agree with the listed keys on each 16-bit unit find the same first offset.
-  first-agree : (pairs : Bool) (test asks : ℕ → Bool) (len from end : ℕ) (found : Option ℕ) → end ≡ units w.text → ((at : ℕ) → test at ≡ is_some_and (input_unit_at w at) asks)
+  agree : (pairs : Bool) (test asks : ℕ → Bool) (len from end : ℕ) (found : Option ℕ) → ((at : ℕ) → test at ≡ is_some_and (input_unit_at w at) asks)
       → ((unit : ℕ) → unit < 0x1_0000 → asks unit ≡ ((pairs && may_begin_surrogate_pair (key true unit)) || contains (take len keys) (key true unit)))
-      → IsFirstPassingOffset test from end found → IsFirstPassingOffset (unit_has_listed_key pairs (listing keys len) w) from (units w.text) found
-  first-agree pairs test asks len from end found ends is same first =
-      first-same test (unit_has_listed_key pairs (listing keys len) w) from (units w.text) found (λ at less. is at ∙ by at (input_unit_at w at) refl)
-      (subst (λ to. IsFirstPassingOffset test from to found) ends first)
+      → IsFirstPassingOffset test from end found → IsFirstPassingOffset (unit_has_listed_key pairs (listing keys len) w) from end found
+  agree pairs test asks len from end found is same =
+      first-same test (unit_has_listed_key pairs (listing keys len) w) from end found (λ at less. is at ∙ by at (input_unit_at w at) refl)
     where
       by : (at : ℕ) (o : Option ℕ) → input_unit_at w at ≡ o
           → is_some_and o asks ≡ is_some_and o (λ unit. (pairs && may_begin_surrogate_pair (key true unit)) || contains (take len keys) (key true unit))
       by at None there = refl
-      by at (Some u) there = same u (subst (λ b. u < (if b then 0x1_0000 else 0x100)) wide (unit-fits w.encoding w.text has at u there))
+      by at (Some u) there = same u (fits-16-bits (is_16_bit_encoding w.encoding) u (unit-fits w.encoding w.text has at u there))
 
-  module _ (from end : ℕ) (found : Option ℕ) (ends : end ≡ units w.text) where
+  first-agree : (pairs : Bool) (test asks : ℕ → Bool) (len from end : ℕ) (found : Option ℕ) → end ≡ units w.text → ((at : ℕ) → test at ≡ is_some_and (input_unit_at w at) asks)
+      → ((unit : ℕ) → unit < 0x1_0000 → asks unit ≡ ((pairs && may_begin_surrogate_pair (key true unit)) || contains (take len keys) (key true unit)))
+      → IsFirstPassingOffset test from end found → IsFirstPassingOffset (unit_has_listed_key pairs (listing keys len) w) from (units w.text) found
+  first-agree pairs test asks len from end found ends is same first =
+      subst (λ to. IsFirstPassingOffset (unit_has_listed_key pairs (listing keys len) w) from to found) ends (agree pairs test asks len from end found is same first)
+
+  module _ (from end : ℕ) (found : Option ℕ) where
     pub first-one : (a : UnitBits) → contains (take 1 keys) 128 ≡ false → Tells a 0 → IsFirstPassingOffset (at_kind a) from end found
-        → IsFirstPassingOffset (unit_has_listed_key false (listing keys 1) w) from (units w.text) found
+        → IsFirstPassingOffset (unit_has_listed_key false (listing keys 1) w) from end found
     first-one a out tells =
         let a128 = not128 (get_or keys 0 0) (sym (listed-one keys 128 three) ∙ out) in
-        first-agree false (at_kind a) (has_kind a) 1 from end found ends (λ at. refl)
+        agree false (at_kind a) (has_kind a) 1 from end found (λ at. refl)
         (λ unit small. tells a128 unit small ∙ sym (listed-one keys (key true unit) three))
 
     pub first-two : (a b : UnitBits) → contains (take 2 keys) 128 ≡ false → Tells a 0 → Tells b 1 → IsFirstPassingOffset (λ at. at_kind a at || at_kind b at) from end found
-        → IsFirstPassingOffset (unit_has_listed_key false (listing keys 2) w) from (units w.text) found
+        → IsFirstPassingOffset (unit_has_listed_key false (listing keys 2) w) from end found
     first-two a b out tells_a tells_b =
         let outs = or_parts (128 == get_or keys 0 0) (128 == get_or keys 1 0) (sym (listed-two keys 128 three) ∙ out) in
-        first-agree false (λ at. at_kind a at || at_kind b at) (λ u. has_kind a u || has_kind b u) 2 from end found ends
+        agree false (λ at. at_kind a at || at_kind b at) (λ u. has_kind a u || has_kind b u) 2 from end found
         (λ at. either-of (input_unit_at w at) (has_kind a) (has_kind b))
         (λ unit small. (λ i. tells_a (not128 (get_or keys 0 0) outs.0) unit small i || tells_b (not128 (get_or keys 1 0) outs.1) unit small i)
         ∙ sym (listed-two keys (key true unit) three))
 
     pub first-three : (len : ℕ) → 3 ≤ len → (a b c : UnitBits) → contains (take len keys) 128 ≡ false → Tells a 0 → Tells b 1 → Tells c 2
-        → IsFirstPassingOffset (λ at. (at_kind a at || at_kind b at) || at_kind c at) from end found → IsFirstPassingOffset (unit_has_listed_key false (listing keys len) w) from (units w.text) found
+        → IsFirstPassingOffset (λ at. (at_kind a at || at_kind b at) || at_kind c at) from end found → IsFirstPassingOffset (unit_has_listed_key false (listing keys len) w) from end found
     first-three len most a b c out tells_a tells_b tells_c =
         let outs = or_parts (128 == get_or keys 0 0) (128 == get_or keys 1 0 || 128 == get_or keys 2 0) (sym (listed-three keys len 128 three most) ∙ out) in
         let last = or_parts (128 == get_or keys 1 0) (128 == get_or keys 2 0) outs.1 in
-        first-agree false (λ at. (at_kind a at || at_kind b at) || at_kind c at) (λ u. (has_kind a u || has_kind b u) || has_kind c u) len from end found ends
+        agree false (λ at. (at_kind a at || at_kind b at) || at_kind c at) (λ u. (has_kind a u || has_kind b u) || has_kind c u) len from end found
         (λ at. ap (λ x. x || at_kind c at) (either-of (input_unit_at w at) (has_kind a) (has_kind b)) ∙ either-of (input_unit_at w at) (λ u. has_kind a u || has_kind b u) (has_kind c))
         (λ unit small. (λ i. (tells_a (not128 (get_or keys 0 0) outs.0) unit small i || tells_b (not128 (get_or keys 1 0) last.0) unit small i) || tells_c (not128 (get_or keys 2 0) last.1) unit small i)
         ∙ or-assoc (key true unit == get_or keys 0 0) (key true unit == get_or keys 1 0) (key true unit == get_or keys 2 0)
         ∙ sym (listed-three keys len (key true unit) three most))
 
-    -- ---- With units that may begin a pair
+  -- ---- With units that may begin a pair
 
+  module _ (from end : ℕ) (found : Option ℕ) (ends : end ≡ units w.text) where
     abbrev has_pair : ℕ → Bool
     has_pair = has_bits 0xFC00 0xD800
 

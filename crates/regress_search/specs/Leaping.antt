@@ -1,5 +1,5 @@
 -- Where a leap leads: how far a search may advance because each match has to reach a goal.
-use Rattle.std.specs.Prelude.{◌≡◌, ◌≤◌, ◌<◌, ℕ, ◌-◌, Bool, true, false, Option, Some, None}
+use Rattle.std.specs.Prelude.{◌≡◌, ◌⊎◌, ◌≤◌, ◌<◌, ℕ, ◌-◌, Bool, true, false, Option, Some, None}
 use Rattle.regex_meaning.specs.CodeUnitOffsets.{IsBoundary}
 use Rattle.regress_program.specs.declared.leap.Leap.{Leap}
 use Rattle.regress_program.specs.Leaps.{leap_to_goal, may_read_before_goal, goal_occurs_at, GoalIsAbsentBetween, GoalIsAbsentFrom, HasBarrierBetween}
@@ -38,3 +38,18 @@ module _ (w : SearchInput) (leap : Leap) (from : ℕ) where
   abbrev pub IsTargetOfLeap : Option LeapTarget → Type 0
   IsTargetOfLeap None = GoalIsAbsentFrom (leap_to_goal leap) w.encoding w.text from
   IsTargetOfLeap (Some target) = LeadsTo target
+
+module _ (w : SearchInput) (leap : Leap) (from limit : ℕ) where
+  -- The offset is that of the first goal at `from` or later, or is the limit, and no goal is before.
+  -- It is at most the limit.
+  pub record IsFirstGoalOrLimit (goal : ℕ) : Type 0 where
+    pub is_one : (goal_occurs_at (leap_to_goal leap) w.encoding w.text goal ≡ true) ⊎ (goal ≡ limit)
+    pub absent : GoalIsAbsentBetween (leap_to_goal leap) w.encoding w.text from goal
+    pub within : goal ≤ limit
+
+  -- The target of a leap that searches for a goal only before the limit. If there is none, the limit
+  -- stands for it. `None` if there is no goal at `from` or later.
+  abbrev pub IsTargetOfLeapWithin : Option LeapTarget → Type 0
+  IsTargetOfLeapWithin None = GoalIsAbsentFrom (leap_to_goal leap) w.encoding w.text from
+  IsTargetOfLeapWithin (Some target) = IsFirstGoalOrLimit target.goal
+      × IsPastBarriersBeforeGoal w leap from target.goal target.to

@@ -1,8 +1,9 @@
 -- Sets of 16-bit units that can be recognized by some of their bits.
-use Rattle.std.specs.Prelude.{◌≡◌, ◌<◌, ◌==◌, ◌&&◌, ◌||◌, not, ℕ, Bool, true, false}
+use Rattle.std.specs.Prelude.{◌≡◌, ◌<◌, ◌==◌, ◌&&◌, ◌||◌, not, ℕ, Bool, true, false, slice_index_or}
 use Rattle.regex_meaning.specs.Outcomes.{is_some_and}
 use Rattle.regress_input.specs.TextCodeUnits.{has_bits}
 use Rattle.regress_program.specs.ListedUnits.{is_listed}
+use Rattle.regress_program.specs.declared.char_class_tables.Class.{Class}
 use Rattle.regress_program.specs.declared.up_to_three_units.UpToThreeUnits.{UpToThreeUnits}
 use Rattle.regress_program.specs.TableKeysOfUnits.{key, may_begin_surrogate_pair}
 use Rattle.regress_search.specs.declared.few_wide_units.UnitBits.{UnitBits}
@@ -17,6 +18,10 @@ BitsIdentifyUnitsOfKey kind k = (unit : ℕ) → unit < 0x1_0000 → has_bits ki
 -- pair.
 abbrev pub bits_identify_key : (k : ℕ) → Bool
 bits_identify_key k = not (k == 128 || k == 238 || k == 239)
+
+-- The class accepts no 16-bit unit that is a trail surrogate. Such a unit has the key 238 or 239.
+abbrev pub AcceptsNoTrailSurrogate : Class → Type 0
+AcceptsNoTrailSurrogate class = (slice_index_or class.steps 238 0 ≡ 0) × (slice_index_or class.steps 239 0 ≡ 0)
 
 -- Whether the key of the unit at an offset is one of up to three. If `pairs` is set, units that may
 -- begin a surrogate pair count too.

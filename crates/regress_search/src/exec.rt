@@ -30,7 +30,7 @@ pub use self::work_matches::{WorkError, WorkLimitedProducer, WorkMatches};
 /// Why a search failed.
 #[derive(Clone, Copy, Debug, PartialEq, Eq, Error)]
 pub enum SearchError {
-    /// An allocation failed.
+    /// An allocation failed. A `WorkLimitedProducer` returns it at its work limit too.
     #[error("out of memory")]
     Memory,
     /// The step limit was reached. This occurs only if there is a limit.

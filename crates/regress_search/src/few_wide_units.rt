@@ -197,29 +197,30 @@ fn first_unit_of_three_kinds<W: SearchContext>(
     }
 }
 
-/// Returns the offset of the first 16-bit unit at `from` or later that has one of these keys.
+/// Returns the offset of the first unit in `from..to` that has one of these keys of 16-bit units. A
+/// byte below 128 has the same key as a 16-bit unit.
 #[inline(always)]
-pub(crate) fn next_16_bit_unit_with_key<W: SearchContext>(
+pub(crate) fn first_unit_with_listed_key<W: SearchContext>(
     context: &W,
     few: UpToThreeUnits,
     from: usize,
+    to: usize,
 ) -> Option<usize>
-    requires wide { is_16_bit_encoding (W.searching context.now).encoding ≡ true }
     requires told { BitsIdentifyListedKeys few }
-    requires at { from ≤ units (W.searching context.now).text }
+    requires order { from ≤ to }
+    requires inside { to ≤ units (W.searching context.now).text }
     ensures { let w = W.searching context.now in
-        IsFirstPassingOffset (unit_has_listed_key false few w) from (units w.text) result }
+        IsFirstPassingOffset (unit_has_listed_key false few w) from to result }
 {
-    let end = text_end(context);
     let [a, b, c] = few.units;
     match few.len {
         0 => None,
-        1 => first_unit_with_bits(context, units_of_key(a), from, end),
-        2 => first_unit_of_two_kinds(context, units_of_key(a), units_of_key(b), from, end),
+        1 => first_unit_with_bits(context, units_of_key(a), from, to),
+        2 => first_unit_of_two_kinds(context, units_of_key(a), units_of_key(b), from, to),
         _ => {
             let a = units_of_key(a);
             let b = units_of_key(b);
-            first_unit_of_three_kinds(context, a, b, units_of_key(c), from, end)
+            first_unit_of_three_kinds(context, a, b, units_of_key(c), from, to)
         }
     }
 }

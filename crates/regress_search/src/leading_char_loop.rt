@@ -1,12 +1,12 @@
 //! Skips the char loop or the word characters with which each match begins, or the units before a
 //! repeated character with which each match begins.
 
-ghost use Rattle.std.specs.Prelude.{◌≡◌, ◌≤◌, ◌<◌, ◌+◌, ℕ, true, false, Some, IfSome, option_and_then, option_map, slice_get, slice_index_or};
+ghost use Rattle.std.specs.Prelude.{◌≡◌, ◌≤◌, ◌<◌, ◌+◌, ℕ, true, false, Some, IfSome, option_and_then, option_map, slice_get};
 ghost use Rattle.regex_meaning.specs.CodeUnitOffsets.{IsBoundary, units};
 ghost use Rattle.regress_machine.specs.SearchFindsFirstOutcomeAtPlace.{TreeProgramCanSearchText};
 ghost use Rattle.regress_program.specs.{Plans.{op_as_char_loop}, TableKeysOfUnits.{is_16_bit_encoding}, LeadingCharLoops.{OnlyOpensGroups}};
 ghost use Rattle.regress_search.specs.DeadThreads.{MatchFailureExtendsUntil, BeginsWithRepeatedChar, NextUnitDoesNotRepeatCharUnit, may_be_char_unit};
-ghost use Rattle.regress_search.specs.{CharLoopExits.{HasScannedClassCharsTo, ClassFitsText}, TreePlanAndText.{PlanFitsProgram, program_of}};
+ghost use Rattle.regress_search.specs.{CharLoopExits.{HasScannedClassCharsTo, ClassFitsText}, TreePlanAndText.{PlanFitsProgram, program_of}, WideUnits.{AcceptsNoTrailSurrogate}};
 
 use crate::class_char_and_table_lookups::unit_at_offset;
 use crate::class_scan::{scan_chars_of_class_end, scan_single_unit_chars};
@@ -108,8 +108,7 @@ fn skip_to_repeated_unit<W: SearchContext>(context: &W, from: usize) -> usize
 // or 239.
 #[inline(always)]
 fn may_have_trail_surrogates<W: SearchContext>(class: &Class) -> bool
-    ensures { result ≡ false → is_16_bit_encoding W.Input.Units.encoding ≡ true
-        → (slice_index_or class.now.steps 238 0 ≡ 0) × (slice_index_or class.now.steps 239 0 ≡ 0) }
+    ensures { result ≡ false → is_16_bit_encoding W.Input.Units.encoding ≡ true → AcceptsNoTrailSurrogate class.now }
 {
     if <<W::Input as HasUnitType>::Units as CodeUnitEncoding>::ARE_BYTES {
         return false;

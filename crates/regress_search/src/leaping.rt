@@ -3,12 +3,12 @@
 ghost use Rattle.std.specs.Prelude.{◌≤◌, ◌≡◌, ◌<◌, true};
 ghost use Rattle.regex_meaning.specs.CodeUnitOffsets.{IsBoundary, units};
 ghost use Rattle.regress_program.specs.Leaps.{AreGoalsFewAscii, AreHighKeysAlike};
-ghost use Rattle.regress_search.specs.Leaping.{may_read_unit_before_goal, IsPastBarriersBeforeGoal, IsFirstOffsetReadableUpToGoal, IsTargetOfLeap};
+ghost use Rattle.regress_search.specs.Leaping.{may_read_unit_before_goal, IsPastBarriersBeforeGoal, IsFirstOffsetReadableUpToGoal, IsTargetOfLeap, IsTargetOfLeapWithin};
 ghost use Rattle.regress_search.specs.StartSearch.{IsFirstAllowedBoundary, table_of_listed_units};
 
 use crate::class_char_and_table_lookups::{unit_at_offset, unit_key_at_offset};
-use crate::few_wide_units::next_16_bit_unit_with_key;
-use crate::search_context::SearchContext;
+use crate::few_wide_units::first_unit_with_listed_key;
+use crate::search_context::{SearchContext, text_end};
 use crate::start_search::next_of_few_units;
 use regress_input::indexing::{CodeUnitEncoding, HasUnitType};
 use regress_program::leap::Leap;
@@ -44,6 +44,59 @@ pub fn leap_target_from<W: SearchContext>(
     }
 }
 
+/// Returns where a leap from an offset leads that searches for a goal only before `limit`. If there
+/// is none, `limit` stands for the goal: the leap leads past the barriers before it. Returns `None`
+/// if there is no goal up to the end of the text.
+#[inline(never)]
+pub fn leap_target_within<W: SearchContext>(
+    context: &W,
+    leap: &Leap,
+    from: usize,
+    limit: usize,
+) -> Option<LeapTarget>
+    requires at { IsBoundary (W.searching context.now).text from }
+    requires ahead { from ≤ limit }
+    requires ascii { AreGoalsFewAscii leap.now }
+    requires alike { AreHighKeysAlike leap.now }
+    ensures { IsTargetOfLeapWithin (W.searching context.now) leap.now from limit result }
+{
+    if limit >= text_end(context) {
+        return leap_target_from(context, leap, from);
+    }
+    match first_unit_with_listed_key(context, leap.goal, from, limit) {
+        Some(found) => {
+            let to = offset_past_barrier_before_goal(context, leap, from, found);
+            Some(LeapTarget { to, goal: found })
+        }
+        None => {
+            let boundary = last_boundary_before(context, from, limit);
+            let to = offset_past_barrier_before_goal(context, leap, from, boundary);
+            Some(LeapTarget { to, goal: limit })
+        }
+    }
+}
+
+// Returns the offset of the last unit in `from..limit` that is below 128, which is a boundary.
+// Returns `from` if there is none.
+#[inline(always)]
+fn last_boundary_before<W: SearchContext>(context: &W, from: usize, limit: usize) -> usize
+    requires at { IsBoundary (W.searching context.now).text from }
+    requires ahead { from ≤ limit }
+    requires inside { limit ≤ units (W.searching context.now).text }
+    ensures boundary { IsBoundary (W.searching context.now).text result }
+    ensures ahead { from ≤ result }
+    ensures before { result ≤ limit }
+{
+    let mut at = limit;
+    'back: while at > from {
+        at -= 1;
+        if unit_key_at_offset(context, at) < 128 {
+            return at;
+        }
+    }
+    from
+}
+
 // Returns the first offset at `from` or later of a unit that is a goal.
 #[inline(always)]
 fn next_goal<W: SearchContext>(context: &W, leap: &Leap, from: usize) -> Option<usize>
@@ -55,7 +108,7 @@ fn next_goal<W: SearchContext>(context: &W, leap: &Leap, from: usize) -> Option<
     if <<W::Input as HasUnitType>::Units as CodeUnitEncoding>::ARE_BYTES {
         next_of_few_units(context, leap.goal, from)
     } else {
-        next_16_bit_unit_with_key(context, leap.goal, from)
+        first_unit_with_listed_key(context, leap.goal, from, text_end(context))
     }
 }
 

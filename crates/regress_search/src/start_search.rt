@@ -14,7 +14,7 @@ ghost use Rattle.regress_search.specs.TreePlanAndText.{PlanFitsProgram};
 
 use crate::class_char_and_table_lookups::{set_allows_next_unit, unit_key_at_offset};
 use crate::few_units_finder::FewUnitsFinder;
-use crate::few_wide_units::{do_bits_identify_units, next_16_bit_unit_with_key};
+use crate::few_wide_units::{do_bits_identify_units, first_unit_with_listed_key};
 use crate::literal_finder::LONG;
 use crate::prefix_search::{PrefixAndItsRequiredUnit, PrefixAndLiteralFinder};
 use crate::search_context::{
@@ -175,7 +175,7 @@ fn next_of_few_wide_units<W: SearchContext>(
     ensures { IsFirstAllowedBoundary (W.searching context.now) (table_of_listed_units few) from result }
 {
     if do_bits_identify_units(few) {
-        next_16_bit_unit_with_key(context, few, from)
+        first_unit_with_listed_key(context, few, from, text_end(context))
     } else {
         first_allowed_offset(context, &few, from)
     }

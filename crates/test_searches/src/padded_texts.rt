@@ -20,6 +20,7 @@ Needle~i~x~nEEDLE NEEDLe~a0..6; b0..6
 jab|jac~~x~jab jac~a0..3; b0..3
 [jq]k~~x~jk qk~a0..2; b0..2
 \d{3}~~x~123 456~a0..3; b0..3
+\d+~~x~12 4~a0..2; b0..1
 q~~x~q q~a0..1; b0..1
 [^x]~~x~q -~a0..1; b0..1
 \w+@~~-~j@ jk@~a0..2; b0..3
@@ -40,6 +41,8 @@ jx*k~~x~j k~a0..b1
 j(?:(?=(?:(x)|(-))*(k))x*q|(x*)k)~~x~j k~a0..b1 - - - a1..b0
 needle~~é~needle needle~a0..6; b0..6
 \d{3}~~€~123 456~a0..3; b0..3
+\d+~~€~12 4~a0..2; b0..1
+\d+|$~~€~12 4~a0..2; b0..1; b1..1
 [а-я]+~~é~я аб~a0..2; b0..4
 [^é]~~é~q €~a0..1; b0..3
 (?<=я)k~~é~яk яk~a2..3; b2..3
@@ -50,8 +53,10 @@ j[^k]*k~~€~j k~a0..b1
 jé*k~~é~j k~a0..b1
 "#;
 
-// Numbers of repetitions around 16, 32, 48 and 64, and around 1,024 remaining units.
-const COUNTS: [usize; 13] = [15, 16, 17, 31, 32, 33, 48, 64, 65, 1017, 1018, 1022, 1023];
+// Numbers of repetitions around 8, 16, 32, 48 and 64, and around 1,024 remaining units.
+const COUNTS: [usize; 18] = [
+    1, 4, 5, 7, 8, 15, 16, 17, 31, 32, 33, 48, 64, 65, 1017, 1018, 1022, 1023,
+];
 
 // The fields of a row after its flags.
 #[derive(Clone, Copy)]

@@ -85,7 +85,7 @@ returns-in-Err-clause-steps g c =
     let counts = g.S.StepCounter.COUNTS in
     let before = budget c.args.progress.now.steps in
     let after = budget c.run_thread.new.progress.steps in
-    subst (λ e. SpendsNeedOrReachesLimit {X = Option g.row.W-Input-Position.Denot} (ticks_of_attempt_at w.tree w.text at) (step_limit counts before) (Err e) (step_limit counts after)) (sym c.cause.ensures)
+    subst (λ e. SpendsNeedOrReachesLimit {X = Option g.row.W-Input-Position.Denot} (ticks_of_attempt_at w.tree w.text at) (step_limit counts before) (Err e) (step_limit counts after)) (sym c.cause_of_stop.ensures)
     (attempt-stops w at c.pos_to_offset-at.result c.begin.new.self before after counts b first (Option g.row.W-Input-Position.Denot) c.requires.fresh c.in-Err.ensures.stopped)
 
 pub returns-in-Err-clause-begun : goal.returns-in-Err-clause-begun
@@ -96,7 +96,7 @@ returns-in-Err-clause-begun g c =
     let before = budget c.args.progress.now.steps in
     let after = budget c.run_thread.new.progress.steps in
     let begun = HasSlotPerGroupAndLoop w.tree c.run_thread.new.memory in
-    subst (λ e. AllocFailureCostsAStep {X = Option g.row.W-Input-Position.Denot} begun (step_limit counts before) (Err e) (step_limit counts after)) (sym c.cause.ensures)
+    subst (λ e. AllocFailureCostsAStep {X = Option g.row.W-Input-Position.Denot} begun (step_limit counts before) (Err e) (step_limit counts after)) (sym c.cause_of_stop.ensures)
     (stopped-takes (Option g.row.W-Input-Position.Denot) counts begun (NeedStepsAtLeast w true (running (current_thread_state_of c.begin.new.self 0 c.pos_to_offset-at.result) ∷ [])) before after c.requires.fresh c.in-Err.ensures.stopped)
 
 pub returns-in_err-begin-clause-steps : goal.returns-in_err-begin-clause-steps

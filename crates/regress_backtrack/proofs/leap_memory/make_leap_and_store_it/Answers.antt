@@ -19,9 +19,8 @@ returns-in-Some-clause-none g c = λ yes.
 pub returns-in-Some-clause-sound : goal.returns-in-Some-clause-sound
 returns-in-Some-clause-sound g c =
     let w = g.W.SearchContext.searching c.args.context.now in
-    rw (c.schedule_next_leap.ensures.from, c.schedule_next_leap.ensures.to)
-    (leap-right w.tree w.text (g.met.W.SearchContext.is_text c.args.context.now) c.args.at (Some c.in-Some.target.to)
-    (leap-excludes w (g.met.W.SearchContext.has_units c.args.context.now) c.requires.executable c.args.leap.now c.requires.leap c.args.at (Some c.in-Some.target) c.in-Some.ensures))
+    leap-right w.tree w.text (g.met.W.SearchContext.is_text c.args.context.now) c.args.at (Some c.in-Some.target.to)
+    (leap-excludes w (g.met.W.SearchContext.has_units c.args.context.now) c.requires.executable c.args.leap.now c.requires.leap c.args.at (Some c.in-Some.target) c.in-Some.ensures)
 
 pub returns-in-None-clause-none : goal.returns-in-None-clause-none
 returns-in-None-clause-none g c = λ yes.

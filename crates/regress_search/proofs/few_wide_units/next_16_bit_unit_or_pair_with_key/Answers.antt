@@ -13,7 +13,7 @@ returns-in-0 g c =
     let three : length keys ≡ 3 = search rules in
     let all = g.met.W.SearchContext.has_units c.args.context.now in
     subst (λ len. IsFirstPassingOffset (unit_has_listed_key true (listing keys len) w) c.args.from (units w.text) c.first_by_marks.result) (sym c.in-0.is)
-    (pair-none w all c.requires.wide keys three c.args.from c.text_end-end.result c.first_by_marks.result c.text_end-end.ensures c.first_by_marks.ensures)
+    (pair-none w all keys three c.args.from c.text_end-end.result c.first_by_marks.result c.text_end-end.ensures c.first_by_marks.ensures)
 
 pub returns-in-1 : goal.returns-in-1
 returns-in-1 g c =
@@ -23,7 +23,7 @@ returns-in-1 g c =
     let all = g.met.W.SearchContext.has_units c.args.context.now in
     let told = subst (λ len. contains (take len keys) 128 ≡ false) c.in-1.is c.requires.told in
     subst (λ len. IsFirstPassingOffset (unit_has_listed_key true (listing keys len) w) c.args.from (units w.text) c.first_by_marks-in-1.result) (sym c.in-1.is)
-    (pair-one w all c.requires.wide keys three c.args.from c.text_end-end.result c.first_by_marks-in-1.result c.text_end-end.ensures c.units_of_key.result told c.units_of_key.ensures c.first_by_marks-in-1.ensures)
+    (pair-one w all keys three c.args.from c.text_end-end.result c.first_by_marks-in-1.result c.text_end-end.ensures c.units_of_key.result told c.units_of_key.ensures c.first_by_marks-in-1.ensures)
 
 pub returns-in-2 : goal.returns-in-2
 returns-in-2 g c =
@@ -33,7 +33,7 @@ returns-in-2 g c =
     let all = g.met.W.SearchContext.has_units c.args.context.now in
     let told = subst (λ len. contains (take len keys) 128 ≡ false) c.in-2.is c.requires.told in
     subst (λ len. IsFirstPassingOffset (unit_has_listed_key true (listing keys len) w) c.args.from (units w.text) c.first_by_marks-in-2.result) (sym c.in-2.is)
-    (pair-two w all c.requires.wide keys three c.args.from c.text_end-end.result c.first_by_marks-in-2.result c.text_end-end.ensures c.units_of_key.result c.units_of_key-b.result told c.units_of_key.ensures c.units_of_key-b.ensures c.first_by_marks-in-2.ensures)
+    (pair-two w all keys three c.args.from c.text_end-end.result c.first_by_marks-in-2.result c.text_end-end.ensures c.units_of_key.result c.units_of_key-b.result told c.units_of_key.ensures c.units_of_key-b.ensures c.first_by_marks-in-2.ensures)
 
 pub returns-in_default : goal.returns-in_default
 returns-in_default g c =
@@ -42,5 +42,5 @@ returns-in_default g c =
     let three : length keys ≡ 3 = search rules in
     let all = g.met.W.SearchContext.has_units c.args.context.now in
     let most : 3 ≤ c.args.few.len = omega arith in
-    pair-three w all c.requires.wide keys three c.args.from c.text_end-end.result c.first_by_marks-in_default.result c.text_end-end.ensures c.args.few.len most
+    pair-three w all keys three c.args.from c.text_end-end.result c.first_by_marks-in_default.result c.text_end-end.ensures c.args.few.len most
     c.units_of_key.result c.units_of_key-b.result c.units_of_key-c.result c.requires.told c.units_of_key.ensures c.units_of_key-b.ensures c.units_of_key-c.ensures c.first_by_marks-in_default.ensures

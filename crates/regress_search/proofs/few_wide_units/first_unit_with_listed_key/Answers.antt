@@ -1,10 +1,9 @@
 use Rattle.std.proofs.Common.{◌≡◌, ◌≤◌, length, rules, sym, subst, arith, false, take}
 use Rattle.regex_meaning.specs.NumberListHelpers.{contains}
-use Rattle.regex_meaning.specs.CodeUnitOffsets.{units}
 use Rattle.regress_search.specs.MarkedOffsets.{IsFirstPassingOffset}
 use Rattle.regress_search.specs.WideUnits.{unit_has_listed_key}
 use Rattle.regress_search.proofs.WideUnitLemmas.{listing, first-one, first-two, first-three}
-use Rattle.regress_search.proofs.few_wide_units.next_16_bit_unit_with_key.Goals as goal
+use Rattle.regress_search.proofs.few_wide_units.first_unit_with_listed_key.Goals as goal
 
 pub returns-in-1 : goal.returns-in-1
 returns-in-1 g c =
@@ -13,8 +12,8 @@ returns-in-1 g c =
     let three : length keys ≡ 3 = search rules in
     let all = g.met.W.SearchContext.has_units c.args.context.now in
     let told = subst (λ len. contains (take len keys) 128 ≡ false) c.in-1.is c.requires.told in
-    subst (λ len. IsFirstPassingOffset (unit_has_listed_key false (listing keys len) w) c.args.from (units w.text) c.first_unit_with_bits.result) (sym c.in-1.is)
-    (first-one w all c.requires.wide keys three c.args.from c.text_end-end.result c.first_unit_with_bits.result c.text_end-end.ensures c.units_of_key.result told c.units_of_key.ensures c.first_unit_with_bits.ensures)
+    subst (λ len. IsFirstPassingOffset (unit_has_listed_key false (listing keys len) w) c.args.from c.args.to c.first_unit_with_bits.result) (sym c.in-1.is)
+    (first-one w all keys three c.args.from c.args.to c.first_unit_with_bits.result c.units_of_key.result told c.units_of_key.ensures c.first_unit_with_bits.ensures)
 
 pub returns-in-2 : goal.returns-in-2
 returns-in-2 g c =
@@ -23,8 +22,8 @@ returns-in-2 g c =
     let three : length keys ≡ 3 = search rules in
     let all = g.met.W.SearchContext.has_units c.args.context.now in
     let told = subst (λ len. contains (take len keys) 128 ≡ false) c.in-2.is c.requires.told in
-    subst (λ len. IsFirstPassingOffset (unit_has_listed_key false (listing keys len) w) c.args.from (units w.text) c.first_unit_of_two_kinds.result) (sym c.in-2.is)
-    (first-two w all c.requires.wide keys three c.args.from c.text_end-end.result c.first_unit_of_two_kinds.result c.text_end-end.ensures c.units_of_key-in-2.result c.units_of_key-in-2-2.result told c.units_of_key-in-2.ensures c.units_of_key-in-2-2.ensures c.first_unit_of_two_kinds.ensures)
+    subst (λ len. IsFirstPassingOffset (unit_has_listed_key false (listing keys len) w) c.args.from c.args.to c.first_unit_of_two_kinds.result) (sym c.in-2.is)
+    (first-two w all keys three c.args.from c.args.to c.first_unit_of_two_kinds.result c.units_of_key-in-2.result c.units_of_key-in-2-2.result told c.units_of_key-in-2.ensures c.units_of_key-in-2-2.ensures c.first_unit_of_two_kinds.ensures)
 
 pub returns-in_default : goal.returns-in_default
 returns-in_default g c =
@@ -33,5 +32,5 @@ returns-in_default g c =
     let three : length keys ≡ 3 = search rules in
     let all = g.met.W.SearchContext.has_units c.args.context.now in
     let most : 3 ≤ c.args.few.len = omega arith in
-    first-three w all c.requires.wide keys three c.args.from c.text_end-end.result c.first_unit_of_three_kinds.result c.text_end-end.ensures c.args.few.len most
+    first-three w all keys three c.args.from c.args.to c.first_unit_of_three_kinds.result c.args.few.len most
     c.units_of_key-a.result c.units_of_key-b.result c.units_of_key-in_default.result c.requires.told c.units_of_key-a.ensures c.units_of_key-b.ensures c.units_of_key-in_default.ensures c.first_unit_of_three_kinds.ensures

@@ -60,13 +60,13 @@ pub enum Cause {
     #[error("text anchors are not supported, write ^ or $")]
     TextAnchor,
     /// In the profile, `\p` or `\P`.
-    #[error("property escapes are supported only in EcmaScript2018")]
+    #[error("property escapes are supported only in the whole language (ES2018)")]
     PropertyEscape,
     /// In the profile, `\c`.
-    #[error("control escapes are supported only in EcmaScript2018")]
+    #[error("control escapes are supported only in the whole language (ES2018)")]
     ControlEscape,
     /// In the profile, `\0` before a digit, or `\1` to `\7` in a class.
-    #[error("octal escapes are supported only in EcmaScript2018 without u")]
+    #[error("octal escapes are supported only in the whole language (ES2018) without u")]
     OctalEscape,
     /// In the whole language with `unicode`, `\c` without an ASCII letter after it.
     #[error("control escape without a letter")]
@@ -111,7 +111,7 @@ pub enum Cause {
     #[error("character not allowed in a name")]
     InvalidName,
     /// In the profile, a code point past U+007F in a name.
-    #[error("names beyond ASCII are supported only in EcmaScript2018")]
+    #[error("names beyond ASCII are supported only in the whole language (ES2018)")]
     NameBeyondAscii,
     /// A name that is not closed.
     #[error("unclosed name")]

@@ -19,7 +19,7 @@ use Rattle.regress_search.specs.declared.exec.SearchError.TheVariants.{Memory, S
 use Rattle.regress_search.proofs.StepBudgetLemmas.{left-no_more, no_more-same}
 use Rattle.regress_search.proofs.RemainingAnswerLemmas.{new-comes}
 use Rattle.regress_match.specs.Resuming.{IsResultOfNextFrom, IsExhaustedFrom, AreFoundInOrder, FindsNext, step_budget_after_first_match}
-use Rattle.regress_match.specs.declared.api.searches_resumed_at_offsets.Step.{Step}
+use Rattle.regress_match.specs.declared.api.searches_resumed_at_offsets.MatchAndNext.{MatchAndNext}
 use Rattle.regress_match.proofs.ResumingLemmas.{turn-more}
 use Rattle.regress_c.specs.NextMatches.{Fills, Run, Stops, number_of_ranges}
 use Rattle.regress_c.specs.Replies.{spans_of, with_front_overwritten}
@@ -65,7 +65,7 @@ refusal-stops tree text room run Memory g = g
 refusal-stops tree text room run StepLimit g = g
 
 -- A result for an equal tree and text is a result for this tree and text.
-pub goes-same : (tree tree' : Tree) (text text' : Text) (budget : Option ℕ) (start : ℕ) (r : Result (Option Step) SearchError) (left : Option ℕ)
+pub goes-same : (tree tree' : Tree) (text text' : Text) (budget : Option ℕ) (start : ℕ) (r : Result (Option MatchAndNext) SearchError) (left : Option ℕ)
     → tree' ≡ tree → text' ≡ text → IsResultOfNextFrom tree' text' budget start r left → IsResultOfNextFrom tree text budget start r left
 goes-same tree tree' text text' budget start r left e f h =
     subst (λ t. IsResultOfNextFrom tree t budget start r left) f (subst (λ t. IsResultOfNextFrom t text' budget start r left) e h)
@@ -86,7 +86,7 @@ module _ {tree : Tree} {text : Text} {steps : Option ℕ} {start : ℕ} {before 
     written = refl;
   }
 
-  step_more : (now after : List Span) (matches next at ranges : ℕ) (left left' : Option ℕ) (step : Step)
+  step_more : (now after : List Span) (matches next at ranges : ℕ) (left left' : Option ℕ) (step : MatchAndNext)
       → Filling tree text steps start before now matches next at left → FindsNext tree text left next (answer_of step.found) step.next left' → ranges ≡ number_of_ranges tree
       → after ≡ take at now ++ spans_of (answer_of step.found) ++ drop (at + ranges) now
       → Filling tree text steps start before after (matches + 1) step.next (at + ranges) left'
@@ -109,7 +109,7 @@ module _ {tree : Tree} {text : Text} {steps : Option ℕ} {start : ℕ} {before 
       }
 
   -- One more match is written, and the search goes on behind it.
-  pub one_more : (now after : List Span) (matches next at ranges next' : ℕ) (left left' : Option ℕ) (step : Step)
+  pub one_more : (now after : List Span) (matches next at ranges next' : ℕ) (left left' : Option ℕ) (step : MatchAndNext)
       → Filling tree text steps start before now matches next at left → FindsNext tree text left next (answer_of step.found) step.next left' → ranges ≡ number_of_ranges tree
       → next' ≡ step.next → after ≡ take at now ++ spans_of (answer_of step.found) ++ drop (at + ranges) now
       → Filling tree text steps start before after (matches + 1) next' (at + ranges) left'

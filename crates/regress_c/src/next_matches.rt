@@ -15,7 +15,7 @@ use crate::pattern::Pattern;
 use crate::refusal::{DONE, NO_MATCH, Refusal};
 use crate::reply::{Reply, Span, write_at};
 use crate::search::{Encoding, Search};
-use regress_match::{Regex, SearchError, Step, next_from};
+use regress_match::{MatchAndNext, Regex, SearchError, next_from};
 use regress_search::search_loop::SingleAttemptExecutor;
 use std::alloc::Global;
 
@@ -280,7 +280,7 @@ pub(crate) fn fill<E: SingleAttemptExecutor>(
 // Writes the `count` ranges of a match to the buffer from index `at` on. Returns the offset at
 // which the list of matches continues.
 #[inline(always)]
-fn write_step(step: Step, count: usize, at: usize, spans: &mut [Span]) -> usize
+fn write_step(step: MatchAndNext, count: usize, at: usize, spans: &mut [Span]) -> usize
     requires all { count ≡ length (spans_of (answer_of step.found)) }
     requires room { at + count ≤ length spans.old }
     ensures next { result ≡ step.next }

@@ -26,7 +26,7 @@ use Rattle.regress_search.proofs.SearchCostLemmas.{counted}
 use Rattle.regress_search.proofs.StepBudgetLemmas.{handed}
 use Rattle.regress_search.proofs.RemainingAnswerLemmas.{new-comes}
 use Rattle.regress_match.specs.Resuming.{IsResultOfNextFrom, IsExhaustedFrom, AreFoundInOrder, FindsNext, offset_after_first_match, step_budget_after_first_match}
-use Rattle.regress_match.specs.declared.api.searches_resumed_at_offsets.Step.{Step}
+use Rattle.regress_match.specs.declared.api.searches_resumed_at_offsets.MatchAndNext.{MatchAndNext}
 
 abbrev pub greatest : ℕ
 greatest = 2 ^ 64 - 1
@@ -130,15 +130,15 @@ module _ (tree : Tree) (text : Text) (is : HasRisingPlaceOffsets text) where
         }
 
   refusal-from : (budget : Option ℕ) (start : ℕ) (e : SearchError) (after : Option ℕ)
-      → SpendsNeedOrReachesLimit {X = Option Step} (need_from tree text start) budget (Err e) after → IsResultOfNextFrom tree text budget start (Err e) after
+      → SpendsNeedOrReachesLimit {X = Option MatchAndNext} (need_from tree text start) budget (Err e) after → IsResultOfNextFrom tree text budget start (Err e) after
   refusal-from budget start Memory after s = s
   refusal-from budget start StepLimit after s = let b = beyond tree text is budget start s.0 in (b.0, b.1, s.1)
 
-  pub refused-from : (X : Type 0) (budget : Option ℕ) (start : ℕ) (e : SearchError) (after : Option ℕ) (r : Result (Option Step) SearchError) → IsErrAnd r (λ f. f ≡ e)
+  pub refused-from : (X : Type 0) (budget : Option ℕ) (start : ℕ) (e : SearchError) (after : Option ℕ) (r : Result (Option MatchAndNext) SearchError) → IsErrAnd r (λ f. f ≡ e)
       → SpendsNeedOrReachesLimit {X = X} (need_from tree text start) budget (Err e) after → IsResultOfNextFrom tree text budget start r after
   refused-from X budget start e after (Ok y) h s = absurd h
   refused-from X budget start e after (Err f) h s =
-      refusal-from budget start f after (handed X (Option Step) (need_from tree text start) budget after e (Err f) h s)
+      refusal-from budget start f after (handed X (Option MatchAndNext) (need_from tree text start) budget after e (Err f) h s)
 
 -- Matches found in order extend the list by the next match.
 pub turn-more : (tree : Tree) (text : Text) (budget : Option ℕ) (start : ℕ) (ms : List Answer) (m : Answer) (left left' : Option ℕ) (next next' : ℕ)

@@ -9,7 +9,7 @@ use Rattle.regex_meaning.specs.StepBudget.{IsBudgetAtMost, answers_within, finis
 use Rattle.regress_search.specs.MatchesAsSpecAnswers.{answer_of}
 use Rattle.regress_search.specs.declared.exec.SearchError.{SearchError}
 use Rattle.regress_search.specs.declared.exec.SearchError.TheVariants.{Memory, StepLimit}
-use Rattle.regress_match.specs.declared.api.searches_resumed_at_offsets.Step.{Step}
+use Rattle.regress_match.specs.declared.api.searches_resumed_at_offsets.MatchAndNext.{MatchAndNext}
 
 module _ (tree : Tree) (text : Text) where
   -- The offset at which the list of matches continues after the first match from `start` on. If the
@@ -47,7 +47,7 @@ module _ (tree : Tree) (text : Text) where
 
   -- The result of a call at an offset, and the budget after it. An allocation may fail at any step.
   -- Then at most the budget before the call is left, and at least what a result would leave.
-  abbrev pub IsResultOfNextFrom : (budget : Option ℕ) → (start : ℕ) → Result (Option Step) SearchError
+  abbrev pub IsResultOfNextFrom : (budget : Option ℕ) → (start : ℕ) → Result (Option MatchAndNext) SearchError
       → (left : Option ℕ)
       → Type 0
   IsResultOfNextFrom budget start (Ok (Some step)) left = FindsNext budget start (answer_of step.found) step.next left

@@ -24,7 +24,7 @@ pub use self::laws::{
 };
 pub use self::regex::{AsciiMatches, LimitedMatches, Matches, Regex, WorkLimitedMatches};
 pub use self::replace::replacing_by_match_keeps_text;
-pub use self::searches_resumed_at_offsets::{Step, next_from};
+pub use self::searches_resumed_at_offsets::{MatchAndNext, next_from};
 pub use self::work_budget_searches::{BoundedRegex, MatchesInWork};
 pub use regex_parser::diagnosis::{CaretDiagnosis, Cause, Diagnosis};
 pub use regex_parser::syntax::Syntax;

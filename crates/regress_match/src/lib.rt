@@ -17,9 +17,9 @@ pub mod program;
 
 pub use crate::api::{
     AsciiMatches, BoundedRegex, CaretDiagnosis, Cause, Diagnosis, Error, Flags, Groups,
-    LimitedMatches, Match, Matches, MatchesInWork, NamedGroups, Range, Regex, ReplaceError,
-    SearchError, Step, Syntax, Unbounded, WorkError, WorkLimitedMatches, escape, is_unit_boundary,
-    next_from,
+    LimitedMatches, Match, MatchAndNext, Matches, MatchesInWork, NamedGroups, Range, Regex,
+    ReplaceError, SearchError, Syntax, Unbounded, WorkError, WorkLimitedMatches, escape,
+    is_unit_boundary, next_from,
 };
 pub use regex_parser::greatest_parenthesis_depth_of_pattern::nesting;
 pub use regress_backtrack::classicalbacktrack;

@@ -33,13 +33,13 @@ struct Arguments<'a> {
 /// Searches a text, and returns the exit status: 0 if there is a match, 1 if there is none, 2 if
 /// the arguments, the pattern or the search are refused.
 ///
-/// `words` are the pattern, the flags and the text; a word that is not UTF-8 is `None`. If
-/// `--es2018` precedes these three words, the pattern is one of `Syntax::EcmaScript2018`, and
-/// otherwise one of `Syntax::Profile`. Each match is written to `out` as one line, before the next
-/// match is searched for: the range in bytes and the ranges of the groups, with `-` for a group
-/// that did not match. A refusal is written to `err` as one line, and a syntax error as two: the
-/// line of the pattern, and a `^` below the position of the error. If a line cannot be written,
-/// the program ends and writes nothing more.
+/// `words` are the pattern, the letters of the flags (`i`, `m`, `s`, `u` and `v`) and the text; a
+/// word that is not UTF-8 is `None`. If `--es2018` precedes these three words, the pattern is one of
+/// `Syntax::EcmaScript2018`, and otherwise one of `Syntax::Profile`. Each match is written to `out`
+/// as one line, before the next match is searched for: the range in bytes and the ranges of the
+/// groups, with `-` for a group that did not match. A refusal is written to `err` as one line, and a
+/// syntax error as two: the line of the pattern, and a `^` below the position of the error. If a
+/// line cannot be written, the program ends and writes nothing more.
 pub fn run<W: Write, W2: Write>(
     alloc: Global,
     words: &[Option<String>],
@@ -49,6 +49,9 @@ pub fn run<W: Write, W2: Write>(
     let Some(arguments) = read_arguments(words) else {
         return print_refusal(err, &"usage: regress-tool [--es2018] PATTERN FLAGS TEXT");
     };
+    if let Some(letter) = first_unknown_flag(arguments.flags) {
+        return print_unknown_flag(err, letter);
+    }
     let flags = Flags::from(arguments.flags);
     match Regex::with_syntax(alloc, arguments.pattern, flags, arguments.syntax) {
         Ok(re) => print_matches(&re, arguments.text, out, err),
@@ -88,6 +91,23 @@ fn read_pattern_flags_and_text<'a>(
         flags: flags.as_ref()?.as_str(),
         text: text.as_ref()?.as_str(),
     })
+}
+
+// Returns the first character that is not the letter of a flag.
+fn first_unknown_flag(flags: &str) -> Option<char> {
+    for letter in flags.chars() {
+        match letter {
+            'i' | 'm' | 's' | 'u' | 'v' => {}
+            _ => return Some(letter),
+        }
+    }
+    None
+}
+
+// Writes that a character is not the letter of a flag, and returns the exit status.
+fn print_unknown_flag<W: Write>(err: &mut W, letter: char) -> u8 {
+    let _ = writeln!(err, "unknown flag: {letter} (flags are i, m, s, u and v)");
+    EXIT_STATUS_REFUSED
 }
 
 // Writes the reason why there is no result, and returns the exit status.

@@ -201,8 +201,8 @@ impl MemoAnalysis {
         }
     }
 
-    // Checks that another iteration may begin.
-    // It also checks that an iteration may end at `ip`.
+    // Checks that another iteration may begin after one that ends at `ip`, and that the facts decide
+    // at `ip` how the loop continues.
     fn may_begin_next_iteration(&self, fields: &LoopFields, ip: usize, begin: usize) -> bool
         requires { begin + 1 < 2 ^ 64 }
         ensures { result ≡ true → MayRepeatLoop self.now (loop_fields_as_spec fields.now) ip begin }

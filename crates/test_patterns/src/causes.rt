@@ -56,12 +56,12 @@ u:😀b\Z → text anchors are not supported, write ^ or $ at 2
 :[\B] → unknown escape at 1
 :[\k] → unknown escape at 1
 :[\8] → unknown escape at 1
-u:é\p{L} → property escapes are supported only in EcmaScript2018 at 1
-:[\P] → property escapes are supported only in EcmaScript2018 at 1
-:é\cA → control escapes are supported only in EcmaScript2018 at 1
-:\08 → octal escapes are supported only in EcmaScript2018 without u at 0
-:(a)\01 → octal escapes are supported only in EcmaScript2018 without u at 3
-:[\1] → octal escapes are supported only in EcmaScript2018 without u at 1
+u:é\p{L} → property escapes are supported only in the whole language (ES2018) at 1
+:[\P] → property escapes are supported only in the whole language (ES2018) at 1
+:é\cA → control escapes are supported only in the whole language (ES2018) at 1
+:\08 → octal escapes are supported only in the whole language (ES2018) without u at 0
+:(a)\01 → octal escapes are supported only in the whole language (ES2018) without u at 3
+:[\1] → octal escapes are supported only in the whole language (ES2018) without u at 1
 :é\xg0 → incomplete hexadecimal escape at 1
 :\u004 → incomplete Unicode escape at 0
 :\u{41} → incomplete Unicode escape at 0
@@ -85,10 +85,10 @@ u:\k<n>(b) → no group has this name at 0
 :(?<n>a)\kn → reference without a name at 7
 :é(?<1>a) → character not allowed in a name at 4
 :(?<>a) → character not allowed in a name at 3
-:(?<é>a) → names beyond ASCII are supported only in EcmaScript2018 at 3
-:b(?<aé>a) → names beyond ASCII are supported only in EcmaScript2018 at 5
-u:(?<😀>a) → names beyond ASCII are supported only in EcmaScript2018 at 3
-:(?<n>a)\k<é> → names beyond ASCII are supported only in EcmaScript2018 at 10
+:(?<é>a) → names beyond ASCII are supported only in the whole language (ES2018) at 3
+:b(?<aé>a) → names beyond ASCII are supported only in the whole language (ES2018) at 5
+u:(?<😀>a) → names beyond ASCII are supported only in the whole language (ES2018) at 3
+:(?<n>a)\k<é> → names beyond ASCII are supported only in the whole language (ES2018) at 10
 :(?<\u0061>a) → character not allowed in a name at 3
 :(?<a-b>a) → character not allowed in a name at 4
 :\k<> → character not allowed in a name at 3

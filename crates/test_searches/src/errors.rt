@@ -99,7 +99,7 @@ const DIAGNOSIS_CASES: [(&str, &str, &str); 8] = [
     (
         r"\p{L}",
         "u",
-        "property escapes are supported only in EcmaScript2018 at 0, byte 0\n\\p{L}\n^ property escapes are supported only in EcmaScript2018",
+        "property escapes are supported only in the whole language (ES2018) at 0, byte 0\n\\p{L}\n^ property escapes are supported only in the whole language (ES2018)",
     ),
     (
         "(?<n>a)|(?<n>b)",

@@ -9,7 +9,7 @@ use crate::flags::{FLAGS, check_flags};
 use crate::groups::{MATCHES, check_match};
 use crate::memoization::{MEMOIZED, check_memoized};
 use crate::padded_texts::{PADDED_TEXTS, check_padded_text};
-use crate::paid_work::{PAID_WORK, check_paid_work};
+use crate::paid_work::{PAID_WORK, PAID_WORK_IN_UNITS, check_paid_work, check_paid_work_in_units};
 use crate::profile::{PROFILE, PROFILE_UNITS};
 use crate::replace::{REPLACEMENTS, check_replacement};
 use crate::rows::{Row, row_of};
@@ -35,6 +35,7 @@ enum Table {
     Memoized,
     WorkLimits,
     PaidWork,
+    PaidWorkInUnits,
     Matches,
     Replacements,
     Closures,
@@ -60,6 +61,7 @@ fn check_row(
         Table::Memoized => check_memoized(alloc, differing, row)?,
         Table::WorkLimits => check_work_limit(alloc, differing, row)?,
         Table::PaidWork => check_paid_work(alloc, differing, row)?,
+        Table::PaidWorkInUnits => check_paid_work_in_units(alloc, differing, row)?,
         Table::Matches => check_match(alloc, differing, row)?,
         Table::Replacements => check_replacement(alloc, differing, row)?,
         Table::Closures => check_closure_row(alloc, differing, row)?,
@@ -133,6 +135,11 @@ fn searches_within_work_limits(rt: HostRuntime) -> Result<(), Fail> {
 #[test]
 fn searches_that_pay_for_their_work(rt: HostRuntime) -> Result<(), Fail> {
     check_table(&rt, rt.alloc(), Table::PaidWork, PAID_WORK)
+}
+
+#[test]
+fn searches_that_pay_for_their_work_in_units(rt: HostRuntime) -> Result<(), Fail> {
+    check_table(&rt, rt.alloc(), Table::PaidWorkInUnits, PAID_WORK_IN_UNITS)
 }
 
 #[test]

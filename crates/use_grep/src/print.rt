@@ -69,7 +69,7 @@ impl<'s, 'a> StandardOutput<'s, 'a> {
     /// Returns an error if writing or an allocation fails.
     pub fn row(&mut self, query: &Query, name: &str, row: &Row<'_>) -> Result<(), Failure> {
         if self.options.output == Output::Matches {
-            return self.matches(query, name, row);
+            return self.print_matches(query, name, row);
         }
         self.prefix(name, row.number, row.offset, row.is_selected)?;
         let options = self.options;
@@ -112,7 +112,8 @@ impl<'s, 'a> StandardOutput<'s, 'a> {
         Ok(())
     }
 
-    fn matches(&mut self, query: &Query, name: &str, row: &Row<'_>) -> Result<(), Failure> {
+    // Prints the matches of a selected line that are not empty, each on a line of its own.
+    fn print_matches(&mut self, query: &Query, name: &str, row: &Row<'_>) -> Result<(), Failure> {
         if row.is_selected == self.options.invert {
             return Ok(());
         }

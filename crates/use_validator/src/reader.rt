@@ -301,7 +301,7 @@ impl<'s> Reader<'s> {
     }
 
     fn read_all_of(&mut self, part: &mut Part<'s>, member: Member<'s>) -> Result<()> {
-        for number in &self.list(part, member)? {
+        for number in &self.read_schemas(part, member)? {
             part.here.push(*number)?;
         }
         Ok(())
@@ -315,7 +315,7 @@ impl<'s> Reader<'s> {
         by: Counting,
         limits: Limits,
     ) -> Result<()> {
-        let parts = self.list(part, member)?;
+        let parts = self.read_schemas(part, member)?;
         Ok(part.count(by, Counted::Parts(parts), limits)?)
     }
 
@@ -357,7 +357,7 @@ impl<'s> Reader<'s> {
                 let number = self.schema(part, member)?;
                 part.tests.push(Test::Names(number))?;
             }
-            ChildKeyword::PrefixItems => part.first = self.list(part, member)?,
+            ChildKeyword::PrefixItems => part.first = self.read_schemas(part, member)?,
             ChildKeyword::Items => part.rest = Some(self.schema(part, member)?),
             ChildKeyword::Contains => self.read_contains(part, member)?,
         }
@@ -421,7 +421,7 @@ impl<'s> Reader<'s> {
     }
 
     // Returns the numbers of the schemas in the keyword's value, a non-empty array.
-    fn list(&mut self, part: &Part<'s>, member: Member<'s>) -> Result<Vec<usize>> {
+    fn read_schemas(&mut self, part: &Part<'s>, member: Member<'s>) -> Result<Vec<usize>> {
         let above = child(self.alloc, part.place.as_str(), member.keyword)?;
         let mut numbers = Vec::new(self.alloc);
         let items = array(part, member)?;

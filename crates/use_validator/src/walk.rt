@@ -150,7 +150,7 @@ impl<'p> Walk<'p> {
                 then,
                 otherwise,
             } => {
-                let of = self.same(spot, *test)?;
+                let of = self.with_part(spot, *test)?;
                 match self.outcome(of, depth)? {
                     Outcome::Holds => self.push_same_value_with_part_if_some(spot, *then, next),
                     Outcome::Fails => self.push_same_value_with_part_if_some(
@@ -350,7 +350,7 @@ impl<'p> Walk<'p> {
 
     // Returns the same value with another part. If more parts were applied to the value than there
     // are, one was applied twice, and would be applied infinitely often.
-    fn same<'v>(self, spot: &PendingCheck<'v>, part: usize) -> Result<PendingCheck<'v>> {
+    fn with_part<'v>(self, spot: &PendingCheck<'v>, part: usize) -> Result<PendingCheck<'v>> {
         if spot.applied >= self.parts.len() {
             let place = self.parts.get(part).map_or("", |part| part.place.as_str());
             bail!(
@@ -366,6 +366,7 @@ impl<'p> Walk<'p> {
         })
     }
 
+    // Pushes the same value with this part, if there is one.
     fn push_same_value_with_part_if_some<'v>(
         self,
         spot: &PendingCheck<'v>,
@@ -373,7 +374,7 @@ impl<'p> Walk<'p> {
         next: &mut Vec<PendingCheck<'v>>,
     ) -> Result<()> {
         match part {
-            Some(part) => Ok(next.push(self.same(spot, part)?)?),
+            Some(part) => Ok(next.push(self.with_part(spot, part)?)?),
             None => Ok(()),
         }
     }
@@ -386,14 +387,14 @@ impl<'p> Walk<'p> {
         next: &mut Vec<PendingCheck<'v>>,
     ) -> Result<()> {
         for number in &part.here {
-            next.push(self.same(spot, *number)?)?;
+            next.push(self.with_part(spot, *number)?)?;
         }
         let Some(members) = spot.value.as_object() else {
             return Ok(());
         };
         for (name, number) in &part.with_member {
             if members.contains_key(name.as_str()) {
-                next.push(self.same(spot, *number)?)?;
+                next.push(self.with_part(spot, *number)?)?;
             }
         }
         Ok(())
@@ -409,7 +410,7 @@ impl<'p> Walk<'p> {
         match counted {
             Counted::Parts(parts) => {
                 for part in parts {
-                    next.push(self.same(spot, *part)?)?;
+                    next.push(self.with_part(spot, *part)?)?;
                 }
             }
             Counted::Items(part) => {

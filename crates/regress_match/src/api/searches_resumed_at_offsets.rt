@@ -17,7 +17,7 @@ use regress_search::search_loop::SingleAttemptExecutor;
 
 /// A match, and the offset from which the list of matches continues after it.
 #[derive(Debug, Drop)]
-pub struct Step {
+pub struct MatchAndNext {
     /// The match.
     pub found: Match,
     /// The offset in units from which the list continues. If the list ends, it is past the end of
@@ -194,7 +194,7 @@ impl Regex {
 pub fn next_from<E: SingleAttemptExecutor>(
     search: &mut E,
     start: usize,
-) -> Result<Option<Step>, SearchError>
+) -> Result<Option<MatchAndNext>, SearchError>
     requires { IsBoundaryOrPastEnd (E.text search.old) start }
     ensures continues { IsResultOfNextFrom (E.tree search.old) (E.text search.old) (E.budget search.old) start result
         (E.budget search.new) }
@@ -215,7 +215,7 @@ pub fn next_from<E: SingleAttemptExecutor>(
         return Ok(None);
     };
     let next = offset_of_position(search, next);
-    Ok(Some(Step { found, next }))
+    Ok(Some(MatchAndNext { found, next }))
 }
 
 // Returns the offset of a position. If there is none, returns `usize::MAX`, which is past the end

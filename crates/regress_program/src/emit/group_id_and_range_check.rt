@@ -75,7 +75,7 @@ const SMALL_BITMAP_WORDS: usize = 4;
 /// Returns the span of the ids inside a node. Returns `None` if an id occurs twice, or if the range
 /// of a loop or a lookaround is not exactly that of the groups inside it.
 pub(crate) fn group_id_span_if_ids_valid(root: &Node) -> Option<GroupIdCountAndBounds>
-    ensures in_text { is_some result ≡ has_exact_group_ids (λ k. false) (spec_node_of root.now) }
+    ensures exact { is_some result ≡ has_exact_group_ids (λ k. false) (spec_node_of root.now) }
     ensures span { IfSome result (λ span. group_id_span_as_numbers span ≡ count_and_span_of_group_ids
         (group_ids (spec_node_of root.now))) }
     ensures high { IfSome result (λ span. span.high ≤ 65536) }
@@ -91,7 +91,7 @@ pub(crate) fn group_id_span_if_ids_valid(root: &Node) -> Option<GroupIdCountAndB
 // bitmap does not decide. It is a separate function because each call clears a bit for each id.
 #[inline(never)]
 fn span_of_many(root: &Node) -> Option<GroupIdCountAndBounds>
-    ensures in_text { is_some result ≡ has_exact_group_ids (λ k. false) (spec_node_of root.now) }
+    ensures exact { is_some result ≡ has_exact_group_ids (λ k. false) (spec_node_of root.now) }
     ensures span { IfSome result (λ span. group_id_span_as_numbers span ≡ count_and_span_of_group_ids
         (group_ids (spec_node_of root.now))) }
     ensures high { IfSome result (λ span. span.high ≤ 65536) }
@@ -104,7 +104,7 @@ fn span_of_many(root: &Node) -> Option<GroupIdCountAndBounds>
 // twice, or if the range of a loop or a lookaround is not exactly that of the groups inside it. If
 // the bitmap does not have a bit for each possible id, the ids without a bit count as set.
 fn span_in(bits: &mut [u64], root: &Node) -> Option<GroupIdCountAndBounds>
-    ensures in_text { is_some result ≡ has_exact_group_ids (is_group_id_seen bits.old) (spec_node_of root.now) }
+    ensures exact { is_some result ≡ has_exact_group_ids (is_group_id_seen bits.old) (spec_node_of root.now) }
     ensures span { IfSome result (λ span. group_id_span_as_numbers span ≡ count_and_span_of_group_ids
         (group_ids (spec_node_of root.now))) }
     ensures high { IfSome result (λ span. span.high ≤ 65536) }

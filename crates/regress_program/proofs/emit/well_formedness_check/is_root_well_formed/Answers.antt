@@ -16,19 +16,19 @@ returns-then-not-is_goal_last c = (
 pub returns-in_default : goal.returns-in_default
 returns-in_default c =
     let root = spec_node_of c.args.root.now in
-    (λ h. absurd (false≢true h), λ w. absurd (false≢true (c.in_default.ensures.in_text ∙ well_formed_is_found root (λ k. false) (λ k. refl) w)))
+    (λ h. absurd (false≢true h), λ w. absurd (false≢true (c.in_default.ensures.exact ∙ well_formed_is_found root (λ k. false) (λ k. refl) w)))
 
 pub returns-then-span : goal.returns-then-span
 returns-then-span c =
     let root = spec_node_of c.args.root.now in
     let span = c.in-Some.ensures.span in
-    let few = few_ids root (λ k. false) _ c.in-Some.ensures.in_text (omega (arith, ap (λ s. s.high) span, c.in-Some.ensures.high)) in
+    let few = few_ids root (λ k. false) _ c.in-Some.ensures.exact (omega (arith, ap (λ s. s.high) span, c.in-Some.ensures.high)) in
     (λ h. absurd (false≢true h), λ w. absurd (omega (arith, well_formed_has_room root w, few, ap (λ s. s.high) span, ap (λ s. s.count) span, c.if-span.true)))
 
 pub returns : goal.returns
 returns c =
     let root = spec_node_of c.args.root.now in
-    let found = c.in-Some.ensures.in_text in
+    let found = c.in-Some.ensures.exact in
     let span = c.in-Some.ensures.span in
     let few = few_ids root (λ k. false) _ found (omega (arith, ap (λ s. s.high) span, c.in-Some.ensures.high)) in
     let count : c.in-Some.span.count ≡ length (group_ids root) = omega (arith, few, ap (λ s. s.count) span) in

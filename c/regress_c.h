@@ -457,14 +457,14 @@ static inline const char *regress_c_message(uint32_t code)
     case REGRESS_C_TOO_MANY_GROUPS: return "too many groups (at most 65535)";
     case REGRESS_C_TOO_MANY_LOOPS: return "too many loops (at most 65535)";
     case REGRESS_C_TOO_MANY_INSTRUCTIONS: return "too many instructions (at most 4294967295)";
-    case REGRESS_C_UNKNOWN_FLAG: return "unknown flag";
+    case REGRESS_C_UNKNOWN_FLAG: return "unknown flag (flags are i, m, s, u and v)";
     case REGRESS_C_TOO_LONG: return "the pattern is too long";
     case REGRESS_C_TOO_DEEP: return "the pattern is nested too deeply";
     case REGRESS_C_NO_GROUP: return "no such group";
     case REGRESS_C_NOT_OPEN: return "the search is not open";
     case REGRESS_C_NOT_COUNTED: return "steps are counted in UTF-8 only";
     case REGRESS_C_WORK_LIMIT: return "the work limit is reached";
-    case REGRESS_C_UNKNOWN_SYNTAX: return "unknown syntax";
+    case REGRESS_C_UNKNOWN_SYNTAX: return "unknown syntax (syntaxes are 0 and 1)";
     case REGRESS_C_UNBOUNDED_LOOKAROUND: return "no work bound is known: the pattern has a lookaround";
     case REGRESS_C_UNBOUNDED_BACKREFERENCE: return "no work bound is known: the pattern has a backreference";
     case REGRESS_C_UNBOUNDED_COUNT:

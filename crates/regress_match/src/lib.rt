@@ -11,9 +11,9 @@
 
 pub mod api;
 pub mod backends;
+pub mod command_line;
 mod executor_aliases;
 pub mod front;
-pub mod program;
 
 pub use crate::api::{
     AsciiMatches, BoundedRegex, CaretDiagnosis, Cause, Diagnosis, Error, Flags, Groups,

@@ -1,7 +1,7 @@
 //! Searches a text for a pattern: `regress-tool [--es2018] PATTERN FLAGS TEXT`.
 #![tactic(auto)]
 
-use regress_match::program;
+use regress_match::command_line;
 use std::alloc::{AllocError, Global};
 use std::env;
 use std::io::{ErrorKind, Write};
@@ -27,7 +27,7 @@ fn main(rt: HostRuntime) -> ExitCode {
     let mut out = rt.stdout();
     let mut err = rt.stderr();
     match gather(&rt, alloc) {
-        Ok(words) => ExitCode::from(program::run(alloc, &words, &mut out, &mut err)),
+        Ok(words) => ExitCode::from(command_line::run(alloc, &words, &mut out, &mut err)),
         Err(_) => {
             let _ = writeln!(err, "out of memory");
             ExitCode::from(2)

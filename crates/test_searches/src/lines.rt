@@ -4,7 +4,7 @@
 use regress_input::indexing::{AsciiInput, Utf8Input};
 use regress_match::api;
 use regress_match::backends::{DefaultUcs2Executor, DefaultUtf16Executor, PikeVMExecutor};
-use regress_pikevm::exec::{Match, MatchProducer, Matches, SearchError};
+use regress_match::exec::{Match, MatchProducer, Matches, SearchError};
 use std::alloc::AllocError;
 use std::ops::Range;
 

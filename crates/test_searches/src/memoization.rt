@@ -1,5 +1,5 @@
-//! Searches that end in reasonable time only because failures are memoized, or because empty
-//! iterations are skipped.
+//! Searches that end in reasonable time only because failures are memoized or empty iterations are
+//! skipped, and results of memoized lookarounds.
 
 use crate::lines::write_utf8;
 use crate::rows::{Row, compare};
@@ -7,12 +7,12 @@ use regex_parser::parse::try_parse;
 use regex_pattern_front::flags::Flags;
 use regress_match::SearchError;
 use regress_match::backends::{DefaultExecutor, emit};
-use regress_pikevm::exec::{Matches, ProducerFromProgramAndText};
+use regress_match::exec::{Matches, ProducerFromProgramAndText};
 use regress_program::insn::CompiledRegex;
 use std::alloc::Global;
 
-// Rows of three fields: a pattern, a text, and its matches. A search that tried all paths, or made
-// all iterations, would not end.
+// Rows of three fields: a pattern, a text, and its matches. In the first 23 rows and in two others,
+// a search that tried all paths, or made all iterations, would not end.
 pub const MEMOIZED: &str = "\
 (?:a|a)*b~aaaaaaaaaaaaaaaaaaaaaaaaaaaaaaaaaaaaaaaaaaaaaaaaaaaaaaaaaaaa~
 (a*)*b~aaaaaaaaaaaaaaaaaaaaaaaaaaaaaaaaaaaaaaaaaaaaaaaaaaaaaaaaaaaa~

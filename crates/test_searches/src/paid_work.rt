@@ -4,8 +4,8 @@ use crate::lines::write_found;
 use crate::rows::{Row, compare};
 use crate::starts::is_start;
 use crate::work_limits::write_all;
+use regress_match::exec::WorkLimitedProducer;
 use regress_match::{MatchAndNext, Regex, SearchError, next_from};
-use regress_pikevm::exec::WorkLimitedProducer;
 use std::alloc::Global;
 
 // Rows of a pattern, a text, the work that may be done, the start unless it is 0, and the matches

@@ -1,7 +1,7 @@
 //! Runs of the program.
 
 use crate::rows::{Row, compare};
-use regress_match::program::run;
+use regress_match::command_line::run;
 use std::alloc::{AllocError, Global};
 use std::io;
 use std::io::Write;

@@ -5,8 +5,8 @@ ghost use Rattle.std.specs.Prelude.{IsAscii};
 use crate::lines::write_found;
 use crate::rows::{Row, compare};
 use crate::starts::is_start;
+use regress_match::exec::{SearchError, WorkLimitedProducer, WorkMatches};
 use regress_match::{BoundedRegex, Regex, Unbounded, WorkError, is_unit_boundary};
-use regress_pikevm::exec::{SearchError, WorkLimitedProducer, WorkMatches};
 use std::alloc::Global;
 
 // Rows of six fields: a pattern, `bytes` or `units` for the texts to search, an ASCII text, a

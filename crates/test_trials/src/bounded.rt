@@ -2,8 +2,8 @@
 
 use crate::fault::ParseFault;
 use crate::lists::{are_same, match_same_places};
+use regress_match::exec::{WorkLimitedProducer, WorkMatches};
 use regress_match::{BoundedRegex, Match, Regex, Unbounded, WorkError};
-use regress_pikevm::exec::{WorkLimitedProducer, WorkMatches};
 use std::alloc::{AllocError, Global};
 
 /// Returns the work that suffices for this many units.

@@ -8,8 +8,8 @@ use crate::limits::{do_step_limits_agree, program_of};
 use crate::lists::{all, are_same, is_start, match_same_places};
 use regress_input::indexing::Utf8Input;
 use regress_match::backends::{DefaultExecutor, PikeVMExecutor, find, find_ascii};
+use regress_match::exec::{Matches, ProducerFromProgramAndText};
 use regress_match::{Flags, Match, Regex, SearchError};
-use regress_pikevm::exec::{Matches, ProducerFromProgramAndText};
 use regress_program::insn::CompiledRegex;
 use std::alloc::Global;
 

@@ -2,7 +2,7 @@
 //! result. A case with another result is printed as a line on standard error.
 
 use anyhow::Result;
-use regress_match::program;
+use regress_match::command_line;
 use serde::Deserialize;
 use std::alloc::{AllocError, Global};
 use std::fs;
@@ -59,7 +59,7 @@ fn has_judged_result(alloc: Global, is_whole: bool, case: Case) -> Result<bool, 
     }
     let mut out = Vec::new(alloc);
     let mut err = Vec::new(alloc);
-    let got = program::run(alloc, &words, &mut out, &mut err);
+    let got = command_line::run(alloc, &words, &mut out, &mut err);
     let is_refused = status == REFUSED;
     Ok(got == status && out.as_slice() == stdout.as_bytes() && err.is_empty() != is_refused)
 }

@@ -7,8 +7,8 @@ use crate::checks::Case;
 use crate::fault::ParseFault;
 use crate::lists::{is_same, is_start};
 use regress_match::backends::{LimitedExecutor, emit, optimize, try_parse};
+use regress_match::exec::{MatchProducer, Matches};
 use regress_match::{Error, Flags, Match, Regex, SearchError};
-use regress_pikevm::exec::{MatchProducer, Matches};
 use regress_program::insn::CompiledRegex;
 use std::alloc::{AllocError, Global};
 

@@ -2,8 +2,8 @@
 
 ghost use Rattle.std.specs.Prelude.{◌<◌, ◌⊎◌, IsCharBoundary, IsTrue, length};
 
+use regress_match::exec::{MatchProducer, Matches};
 use regress_match::{Match, Range, SearchError};
-use regress_pikevm::exec::{MatchProducer, Matches};
 use std::alloc::{AllocError, Global};
 
 /// Checks whether an offset is a character boundary of the text.

@@ -11,7 +11,7 @@ use regress_match::Regex;
 use regress_match::backends::{
     DefaultAsciiExecutor, DefaultExecutor, PikeVMExecutor, find, find_ascii,
 };
-use regress_pikevm::exec::ProducerFromProgramAndText;
+use regress_match::exec::ProducerFromProgramAndText;
 use regress_program::insn::CompiledRegex;
 
 /// The ways to search.

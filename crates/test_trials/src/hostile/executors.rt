@@ -6,7 +6,7 @@ use crate::fault::ParseFault;
 use crate::hostile::lists::is_first;
 use crate::hostile::wanted::is_none;
 use regress_match::SearchError;
-use regress_pikevm::exec::MatchProducer;
+use regress_match::exec::MatchProducer;
 
 /// Checks whether an executor finds the expected first match from a start on. If an allocation
 /// fails, the place where the list continues is unchanged, and the executor finds the match in a

@@ -10,8 +10,8 @@ use crate::hostile::lists::{are_expected_matches, is_first};
 use crate::hostile::patterns::{Compiled, compile};
 use crate::hostile::wanted::LIMIT;
 use regress_match::backends::LimitedExecutor;
+use regress_match::exec::MatchProducer;
 use regress_match::{Match, Regex, SearchError};
-use regress_pikevm::exec::MatchProducer;
 use regress_program::insn::CompiledRegex;
 use std::alloc::Global;
 

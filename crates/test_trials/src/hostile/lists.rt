@@ -2,8 +2,8 @@
 
 use crate::fault::ParseFault;
 use crate::hostile::wanted::{LIMIT, NONE, is_match, is_none, split_first};
+use regress_match::exec::{MatchProducer, Matches};
 use regress_match::{Match, SearchError};
-use regress_pikevm::exec::{MatchProducer, Matches};
 
 /// Checks whether a clone of this is the expected first match, or whether there is none as
 /// expected.

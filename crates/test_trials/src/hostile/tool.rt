@@ -2,7 +2,7 @@
 
 use crate::fault::ParseFault;
 use crate::hostile::fields::Fields;
-use regress_match::program;
+use regress_match::command_line;
 use std::alloc::{AllocError, Global};
 use std::io;
 use std::io::Write;
@@ -76,7 +76,7 @@ pub fn is_tool_run_as_expected(alloc: Global, line: &str) -> Result<bool, ParseF
     let (status, printed, told) = (fields.next(), fields.next(), fields.next());
     let mut out = Page::new();
     let mut err = Page::new();
-    let got = program::run(alloc, &words, &mut out, &mut err);
+    let got = command_line::run(alloc, &words, &mut out, &mut err);
     if err.written() == b"out of memory;".as_slice() {
         return Err(if got == 2 && is_prefix_of_whole_lines(out.written(), printed) {
             ParseFault::Refused

@@ -21,7 +21,7 @@ pub enum Output {
     NamesWith,
     /// The file's name, if no line of it is selected.
     NamesWithout,
-    /// Nothing.
+    /// No output.
     Nothing,
 }
 

@@ -18,7 +18,7 @@ use Rattle.regress_search.specs.declared.exec.SearchError.{SearchError}
 use Rattle.regress_search.specs.declared.exec.SearchError.TheVariants.{StepLimit}
 use Rattle.regress_match.specs.ProgramTreesAndAnswers.{bytes_as_utf8_text, tree_for_byte_units, utf8_answers_within_steps, utf8_steps_suffice}
 use Rattle.regress_match.specs.declared.api.regex.Regex.{Regex}
-use Rattle.use_validator.specs.Judge.{verdict_of_matches, verdict_of, within}
+use Rattle.use_validator.specs.Judge.{verdict_of_matches, verdict_of, verdict_if_steps_suffice}
 use Rattle.use_validator.specs.declared.judge.Verdict.{Verdict}
 use Rattle.use_validator.specs.declared.judge.Verdict.TheVariants.{Matches, NoMatch, OutOfSteps}
 
@@ -44,11 +44,11 @@ module _ (tree : Tree) (text : Text) (is : HasRisingPlaceOffsets text) (steps : 
       let some = answers-go_on tree.root text is 0 ∙ ap (λ a. answer_then_list tree.root text a (next_start tree.root text 0)) f in
       subst (λ ms. Told (verdict_of_matches ms)) (sym some) (m, _, (within-some tree text is (Some steps) 0 m f e).0)
 
-  by : (b : Bool) → nat_le (need_from tree text 0) steps ≡ b → Told (within b all)
+  by : (b : Bool) → nat_le (need_from tree text 0) steps ≡ b → Told (verdict_if_steps_suffice b all)
   by true e = enough (first_answer tree.root text 0) refl e
   by false e = beyond tree text is (Some steps) 0 e
 
-  pub told : Told (within (nat_le (need_from tree text 0) steps) all)
+  pub told : Told (verdict_if_steps_suffice (nat_le (need_from tree text 0) steps) all)
   told = by (nat_le (need_from tree text 0) steps) refl
 
 -- What an item says about the remaining answers.

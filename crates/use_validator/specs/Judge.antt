@@ -17,13 +17,13 @@ verdict_of_matches [] = NoMatch
 verdict_of_matches (m ∷ ms) = Matches
 
 -- The verdict for a list of matches. If the steps do not suffice, it is `OutOfSteps`.
-abbrev pub within : (enough : Bool) → List Answer → Verdict
-within true ms = verdict_of_matches ms
-within false ms = OutOfSteps
+abbrev pub verdict_if_steps_suffice : (enough : Bool) → List Answer → Verdict
+verdict_if_steps_suffice true ms = verdict_of_matches ms
+verdict_if_steps_suffice false ms = OutOfSteps
 
 -- The verdict for a text. The text matches if the pattern has a match anywhere in it.
 abbrev pub verdict_of : Regex → (text : List ℕ) → (steps : ℕ) → Verdict
-verdict_of re text steps = within (nat_le (steps_needed re text) steps) (utf8_answers re text 0)
+verdict_of re text steps = verdict_if_steps_suffice (nat_le (steps_needed re text) steps) (utf8_answers re text 0)
 
 -- The verdict is right: it says whether there are matches. It may be `OutOfSteps` only if the steps
 -- do not suffice.

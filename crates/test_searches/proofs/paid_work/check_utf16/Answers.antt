@@ -5,5 +5,5 @@ use Rattle.test_searches.proofs.paid_work.check_utf16.Goals as goal
 
 pub next_from-first-requires : goal.next_from-first-requires
 next_from-first-requires c =
-    let small = λ k _. (c.type_inv.units k).fits in
-    utf16_start _ c.args.units.now _ c.in_ok-executor.ensures.text small 0 (inl (boundary-start c.args.units.now small 0 refl))
+    utf16_start _ c.args.units.now _ c.in_ok-executor.ensures.text (λ k _. (c.type_inv.units k).fits) 0
+    (inl (boundary-start c.args.units.now (λ k _. (c.type_inv.units k).fits) 0 refl))

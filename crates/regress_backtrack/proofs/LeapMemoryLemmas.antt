@@ -1,7 +1,7 @@
 -- No match begins before the offset to which a leap leads, so the search may start there.
-use Rattle.std.proofs.Common.{◌≡◌, ◌≤◌, ◌<◌, ℕ, ◌+◌, Option, Some, None, refl, sym, ◌∙◌, subst, arith, inl, inr}
+use Rattle.std.proofs.Common.{◌≡◌, ◌≤◌, ◌<◌, ℕ, ◌+◌, ◌-◌, ◌*◌, ◌/◌, ◌^◌, Option, Some, None, refl, sym, ◌∙◌, subst, arith, inl, inr}
 use Rattle.std.specs.Option.{ForSome}
-use Rattle.std.specs.Prelude.{option_map, max, IfSome}
+use Rattle.std.specs.Prelude.{option_map, max, min, IfSome}
 use Rattle.std.proofs.lemmas.Bool.{cases_lt}
 use Rattle.regex_meaning.specs.Tree.{Tree}
 use Rattle.regex_meaning.specs.Text.{Text}
@@ -95,6 +95,11 @@ pub no-leap-yet : (tree : Tree) (text : Text) → HasRisingPlaceOffsets text →
 no-leap-yet tree text is from next none first =
     let zero-on : IsBoundary text 0 = subst (IsBoundary text) is.from_zero (offset-IsBoundary text 0 is (omega arith)) in
     rw (none, first) (leap-right tree text is 0 (Some 0) (at-once tree text 0 zero-on))
+
+-- If a leap reads no further than its limit, what was paid still covers the work that is left.
+pub covered-stays : (covered work from reach to goal counted : ℕ) → work ≤ covered → reach ≡ min (from + (covered - work) / 2) (2 ^ 64 - 1)
+    → from ≤ to → goal ≤ reach → counted ≡ covered - min ((goal - to) * 2) (2 ^ 64 - 1) → work ≤ counted
+covered-stays covered work from reach to goal counted le limit ahead within count = omega (arith, le, limit, ahead, within, count)
 
 -- ---- The next start as a position
 

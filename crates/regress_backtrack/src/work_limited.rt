@@ -423,6 +423,7 @@ fn candidate_past_leap<W: SearchContext>(
 }
 
 // Makes a leap from a candidate start, and returns the first candidate start where it leads.
+// Contract: by `paid`, leaps read no more units ahead than were paid for.
 #[inline(always)]
 fn leap_to_candidate<W: SearchContext>(
     context: &W,
@@ -436,8 +437,9 @@ fn leap_to_candidate<W: SearchContext>(
     requires executable { let w = W.searching context.now in TreeProgramCanSearchText (program_of w) w.tree w.text }
     requires leap { let w = W.searching context.now in IsLeapRightForProgram (is_16_bit_encoding w.encoding)
         (program_of w) leap.now }
-    ensures { let w = W.searching context.now in let at = W.Input.Position.offset in
+    ensures next { let w = W.searching context.now in let at = W.Input.Position.offset in
         NextStartSkipsNoMatch w.tree w.text (at start) (option_map at result) }
+    ensures paid { work ≤ leaps.old.covered → work ≤ leaps.new.covered }
 {
     let from = offset_in_searched_text(context, start);
     let reach = leaps.limit_of_leap(from, work);

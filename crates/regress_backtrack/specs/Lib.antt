@@ -34,4 +34,5 @@ pub mod RepeatableLoopBodies
 pub mod SurplusRequiredIterations
 pub mod InsnsOfGroupActions
 pub mod LeapMemory
+pub mod LeadingLoops
 pub mod FailingLazyExits

@@ -4,7 +4,7 @@ ghost use Rattle.std.specs.Prelude.{◌≡◌, ◌≤◌, IsAscii, IfOk, option_
 ghost use Rattle.std.proofs.{Common.{refl}, Props.{props}};
 ghost use Rattle.regex_meaning.specs.{CodeUnitOffsets.{IsBoundary}, Text.{ascii_text, utf8_text, utf16_text, ucs2_text}};
 ghost use Rattle.regex_pattern_front.specs.AstToSpecTree.{tree_of};
-ghost use Rattle.regress_search.specs.AttemptsAndStarts.{NextStartSkipsNoMatch, NoMatchAt};
+ghost use Rattle.regress_search.specs.AttemptsAndStarts.{NextStartSkipsNoMatch};
 ghost use Rattle.regress_search.specs.NewExecutorsAndAsciiTexts.{IsNewExecutor};
 ghost use Rattle.regress_machine.specs.SearchFindsFirstOutcomeAtPlace.{TreeProgramCanSearchText};
 ghost use Rattle.regress_program.specs.{TableKeysOfUnits.{is_16_bit_encoding}, LeadingCharLoops.{OnlyOpensGroups}};
@@ -12,7 +12,7 @@ ghost use Rattle.regress_search.specs.TreePlanAndText.{program_of};
 ghost use Rattle.regress_memo.specs.MemoContents.{has_failure, has_success};
 ghost use Rattle.regress_program.specs.CompilationOfTreesAsFunction.{compiled};
 ghost use Rattle.regress_backtrack.specs.{State.{current_thread_state_of}, FailuresInMemoTable.{scheme_of}, ProgramsAndPlans.{executed_tree_of}};
-ghost use Rattle.regress_backtrack.specs.LeapMemory.{NoMatchBeforeRememberedLeap};
+ghost use Rattle.regress_backtrack.specs.{LeadingLoops.{MayPassLeadingLoop}, LeapMemory.{NoMatchBeforeRememberedLeap}};
 ghost use Rattle.regress_backtrack.specs.FailureMemo.{AreFailuresSoundIn, AreEndsSoundIn, scheme_of_optional_memo, failures_of_optional_memo};
 
 use crate::attempts::{attempt, retry_with_memo};
@@ -213,8 +213,7 @@ fn next_candidate_by_remembered_leap<W: SearchContext>(
 /// `opens` groups and then begins with a char loop, and no match begins at `tried`, so none begins
 /// at the loop's positions.
 ///
-/// Contract: `opens`, `no_match` and `executable` are these assumptions, for a program that can
-/// search the text. `tried`, `at` and `ahead` say that both positions are boundaries, in this order.
+/// Contract: `MayPassLeadingLoop` states these assumptions, for a program that can search the text.
 #[inline(always)]
 pub(crate) fn end_of_leading_loop<W: SearchContext>(
     context: &W,
@@ -222,13 +221,8 @@ pub(crate) fn end_of_leading_loop<W: SearchContext>(
     tried: PositionOf<W>,
     from: PositionOf<W>,
 ) -> PositionOf<W>
-    requires opens { OnlyOpensGroups (W.searching context.now).plan opens }
-    requires tried { IsBoundary (W.searching context.now).text (W.Input.Position.offset tried) }
-    requires at { IsBoundary (W.searching context.now).text (W.Input.Position.offset from) }
-    requires ahead { W.Input.Position.offset tried ≤ W.Input.Position.offset from }
-    requires executable { let w = W.searching context.now in TreeProgramCanSearchText (program_of w) w.tree w.text }
-    requires no_match { let w = W.searching context.now in
-        NoMatchAt w.tree w.text (W.Input.Position.offset tried) }
+    requires { let at = W.Input.Position.offset in
+        MayPassLeadingLoop (W.searching context.now) opens (at tried) (at from) }
     ensures { let w = W.searching context.now in let at = W.Input.Position.offset in
         NextStartSkipsNoMatch w.tree w.text (at from) (Some (at result)) }
 {
@@ -249,13 +243,8 @@ fn next_start_past_loop<W: SearchContext>(
     tried: PositionOf<W>,
     from: PositionOf<W>,
 ) -> Option<PositionOf<W>>
-    requires opens { OnlyOpensGroups (W.searching context.now).plan opens }
-    requires tried { IsBoundary (W.searching context.now).text (W.Input.Position.offset tried) }
-    requires at { IsBoundary (W.searching context.now).text (W.Input.Position.offset from) }
-    requires ahead { W.Input.Position.offset tried ≤ W.Input.Position.offset from }
-    requires executable { let w = W.searching context.now in TreeProgramCanSearchText (program_of w) w.tree w.text }
-    requires no_match { let w = W.searching context.now in
-        NoMatchAt w.tree w.text (W.Input.Position.offset tried) }
+    requires { let at = W.Input.Position.offset in
+        MayPassLeadingLoop (W.searching context.now) opens (at tried) (at from) }
     ensures { let w = W.searching context.now in let at = W.Input.Position.offset in
         NextStartSkipsNoMatch w.tree w.text (at from) (option_map at result) }
 {

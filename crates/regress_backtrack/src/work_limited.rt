@@ -7,11 +7,11 @@ ghost use Rattle.regex_meaning.specs.Text.{ascii_text, ucs2_text, utf16_text, ut
 ghost use Rattle.regex_meaning.specs.CodeUnitOffsets.{IsBoundary, units};
 ghost use Rattle.regex_pattern_front.specs.AstToSpecTree.{tree_of};
 ghost use Rattle.regress_machine.specs.SearchFindsFirstOutcomeAtPlace.{TreeProgramCanSearchText};
-ghost use Rattle.regress_program.specs.{LeadingCharLoops.{OnlyOpensGroups}, Leaps.{IsLeapRightForProgram}, TableKeysOfUnits.{is_16_bit_encoding}};
-ghost use Rattle.regress_search.specs.{AttemptsAndStarts.{NextStartSkipsNoMatch, NoMatchAt}, CostsOfSearches.{units_skipped}, TreePlanAndText.{program_of}};
+ghost use Rattle.regress_program.specs.{Leaps.{IsLeapRightForProgram}, TableKeysOfUnits.{is_16_bit_encoding}};
+ghost use Rattle.regress_search.specs.{AttemptsAndStarts.{NextStartSkipsNoMatch}, CostsOfSearches.{units_skipped}, TreePlanAndText.{program_of}};
 ghost use Rattle.regress_search.specs.declared.exec.SearchError.TheVariants.{Memory};
 ghost use Rattle.regress_backtrack.specs.BudgetAccounting.{IsRefusedByBudget, IsTakenFromBudget};
-ghost use Rattle.regress_backtrack.specs.{State.{current_thread_state_of}, WorkOfAttempts.{AttemptsCostAtMostTheirSteps, work_costs}};
+ghost use Rattle.regress_backtrack.specs.{LeadingLoops.{MayPassLeadingLoop}, State.{current_thread_state_of}, WorkOfAttempts.{AttemptsCostAtMostTheirSteps, work_costs}};
 
 use crate::attempts::attempt;
 use crate::classicalbacktrack::{
@@ -359,13 +359,8 @@ fn skip_past_loop<W: SearchContext>(
     next: PositionOf<W>,
     work: u64,
 ) -> (Option<PositionOf<W>>, usize)
-    requires opens { OnlyOpensGroups (W.searching context.now).plan leading_loop.opens }
-    requires tried { IsBoundary (W.searching context.now).text (W.Input.Position.offset tried) }
-    requires at { IsBoundary (W.searching context.now).text (W.Input.Position.offset next) }
-    requires ahead { W.Input.Position.offset tried ≤ W.Input.Position.offset next }
-    requires executable { let w = W.searching context.now in TreeProgramCanSearchText (program_of w) w.tree w.text }
-    requires no_match { let w = W.searching context.now in
-        NoMatchAt w.tree w.text (W.Input.Position.offset tried) }
+    requires { let at = W.Input.Position.offset in
+        MayPassLeadingLoop (W.searching context.now) leading_loop.opens (at tried) (at next) }
     ensures next { let w = W.searching context.now in let at = W.Input.Position.offset in
         NextStartSkipsNoMatch w.tree w.text (at next) (option_map at result.0) }
     ensures skipped { let at = W.Input.Position.offset in
@@ -538,13 +533,8 @@ fn candidate_past_loop<W: SearchContext>(
     next: PositionOf<W>,
     limit: usize,
 ) -> Option<PositionOf<W>>
-    requires opens { OnlyOpensGroups (W.searching context.now).plan leading_loop.opens }
-    requires tried { IsBoundary (W.searching context.now).text (W.Input.Position.offset tried) }
-    requires at { IsBoundary (W.searching context.now).text (W.Input.Position.offset next) }
-    requires ahead { W.Input.Position.offset tried ≤ W.Input.Position.offset next }
-    requires executable { let w = W.searching context.now in TreeProgramCanSearchText (program_of w) w.tree w.text }
-    requires no_match { let w = W.searching context.now in
-        NoMatchAt w.tree w.text (W.Input.Position.offset tried) }
+    requires { let at = W.Input.Position.offset in
+        MayPassLeadingLoop (W.searching context.now) leading_loop.opens (at tried) (at next) }
     ensures { let w = W.searching context.now in let at = W.Input.Position.offset in
         NextStartSkipsNoMatch w.tree w.text (at next) (option_map at result) }
 {
@@ -565,13 +555,8 @@ fn next_start_past_loop_within<W: SearchContext>(
     from: PositionOf<W>,
     limit: usize,
 ) -> Option<PositionOf<W>>
-    requires opens { OnlyOpensGroups (W.searching context.now).plan opens }
-    requires tried { IsBoundary (W.searching context.now).text (W.Input.Position.offset tried) }
-    requires at { IsBoundary (W.searching context.now).text (W.Input.Position.offset from) }
-    requires ahead { W.Input.Position.offset tried ≤ W.Input.Position.offset from }
-    requires executable { let w = W.searching context.now in TreeProgramCanSearchText (program_of w) w.tree w.text }
-    requires no_match { let w = W.searching context.now in
-        NoMatchAt w.tree w.text (W.Input.Position.offset tried) }
+    requires { let at = W.Input.Position.offset in
+        MayPassLeadingLoop (W.searching context.now) opens (at tried) (at from) }
     ensures { let w = W.searching context.now in let at = W.Input.Position.offset in
         NextStartSkipsNoMatch w.tree w.text (at from) (option_map at result) }
 {

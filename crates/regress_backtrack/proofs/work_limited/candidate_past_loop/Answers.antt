@@ -3,11 +3,16 @@ use Rattle.std.specs.Prelude.{option_map}
 use Rattle.regress_search.proofs.SkippedStartLemmas.{skips-compose}
 use Rattle.regress_backtrack.proofs.work_limited.candidate_past_loop.Goals as goal
 
-pub next_start_past_loop_within-requires-clause-at : goal.next_start_past_loop_within-requires-clause-at
-next_start_past_loop_within-requires-clause-at g c = c.in_ok-to.ensures.0
-
-pub next_start_past_loop_within-requires-clause-ahead : goal.next_start_past_loop_within-requires-clause-ahead
-next_start_past_loop_within-requires-clause-ahead g c = omega (arith, c.in_ok-to.ensures.1, c.requires.ahead)
+pub next_start_past_loop_within-requires : goal.next_start_past_loop_within-requires
+next_start_past_loop_within-requires g c =
+    record {
+      opened = c.requires.opened;
+      tried_on = c.requires.tried_on;
+      at = c.in_ok-to.ensures.0;
+      ahead = omega (arith, c.in_ok-to.ensures.1, c.requires.ahead);
+      executable = c.requires.executable;
+      no_match = c.requires.no_match;
+    }
 
 pub returns : goal.returns
 returns g c =

@@ -14,25 +14,18 @@ next_candidate_past_leap-requires-clause-executable g c =
     let s = c.args.self.now.search in
     search-run s.program.wide s.same s.searched.well_formed s.searched.unicode s.searched.bytes (g.met.Input.InputIndexer.is_text s.searched.input)
 
-pub next_start_past_loop-requires-clause-opens : goal.next_start_past_loop-requires-clause-opens
-next_start_past_loop-requires-clause-opens g c = c.args.self.now.opened
-
-pub next_start_past_loop-requires-clause-at : goal.next_start_past_loop-requires-clause-at
-next_start_past_loop-requires-clause-at g c = c.in_ok-to.ensures.0
-
-pub next_start_past_loop-requires-clause-ahead : goal.next_start_past_loop-requires-clause-ahead
-next_start_past_loop-requires-clause-ahead g c = omega (arith, c.in_ok-next.ensures.next.1, c.in_ok-to.ensures.1)
-
-pub next_start_past_loop-requires-clause-executable : goal.next_start_past_loop-requires-clause-executable
-next_start_past_loop-requires-clause-executable g c =
-    let s = c.args.self.now.search in
-    search-run s.program.wide s.same s.searched.well_formed s.searched.unicode s.searched.bytes (g.met.Input.InputIndexer.is_text s.searched.input)
-
-pub next_start_past_loop-requires-clause-no_match : goal.next_start_past_loop-requires-clause-no_match
-next_start_past_loop-requires-clause-no_match g c =
+pub next_start_past_loop-requires : goal.next_start_past_loop-requires
+next_start_past_loop-requires g c =
     let s = c.args.self.now.search in
     let can = can-be s.same s.searched.well_formed s.searched.unicode s.searched.bytes in
-    end-context s.program.wide (tree_of s.program.regex) _ can.well_formed (g.Input.Position.PositionType.offset c.args.tried) ∙ c.requires.no_match
+    record {
+      opened = c.args.self.now.opened;
+      tried_on = c.requires.at;
+      at = c.in_ok-to.ensures.0;
+      ahead = omega (arith, c.in_ok-next.ensures.next.1, c.in_ok-to.ensures.1);
+      executable = search-run s.program.wide s.same s.searched.well_formed s.searched.unicode s.searched.bytes (g.met.Input.InputIndexer.is_text s.searched.input);
+      no_match = end-context s.program.wide (tree_of s.program.regex) _ can.well_formed (g.Input.Position.PositionType.offset c.args.tried) ∙ c.requires.no_match;
+    }
 
 pub returns-in_err-to-clause-next : goal.returns-in_err-to-clause-next
 returns-in_err-to-clause-next g c =

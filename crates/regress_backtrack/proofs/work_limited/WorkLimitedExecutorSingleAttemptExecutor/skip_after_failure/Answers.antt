@@ -4,25 +4,18 @@ use Rattle.regex_pattern_front.specs.AstToSpecTree.{tree_of}
 use Rattle.regress_backtrack.proofs.PlannedTreeLemmas.{can-be, end-context, next-tree, refused-skip, search-run}
 use Rattle.regress_backtrack.proofs.work_limited.WorkLimitedExecutorSingleAttemptExecutor.skip_after_failure.Goals as goal
 
-pub skip_past_loop-start-requires-clause-opens : goal.skip_past_loop-start-requires-clause-opens
-skip_past_loop-start-requires-clause-opens g c = c.args.self.now.executor.opened
-
-pub skip_past_loop-start-requires-clause-at : goal.skip_past_loop-start-requires-clause-at
-skip_past_loop-start-requires-clause-at g c = c.requires.next.0
-
-pub skip_past_loop-start-requires-clause-ahead : goal.skip_past_loop-start-requires-clause-ahead
-skip_past_loop-start-requires-clause-ahead g c = omega (arith, c.requires.next.1)
-
-pub skip_past_loop-start-requires-clause-executable : goal.skip_past_loop-start-requires-clause-executable
-skip_past_loop-start-requires-clause-executable g c =
-    let s = c.args.self.now.executor.search in
-    search-run s.program.wide s.same s.searched.well_formed s.searched.unicode s.searched.bytes (g.met.Input.InputIndexer.is_text s.searched.input)
-
-pub skip_past_loop-start-requires-clause-no_match : goal.skip_past_loop-start-requires-clause-no_match
-skip_past_loop-start-requires-clause-no_match g c =
+pub skip_past_loop-start-requires : goal.skip_past_loop-start-requires
+skip_past_loop-start-requires g c =
     let s = c.args.self.now.executor.search in
     let can = can-be s.same s.searched.well_formed s.searched.unicode s.searched.bytes in
-    end-context s.program.wide (tree_of s.program.regex) _ can.well_formed (g.Input.Position.PositionType.offset c.args.tried) ∙ c.requires.no_match
+    record {
+      opened = c.args.self.now.executor.opened;
+      tried_on = c.requires.at;
+      at = c.requires.next.0;
+      ahead = omega (arith, c.requires.next.1);
+      executable = search-run s.program.wide s.same s.searched.well_formed s.searched.unicode s.searched.bytes (g.met.Input.InputIndexer.is_text s.searched.input);
+      no_match = end-context s.program.wide (tree_of s.program.regex) _ can.well_formed (g.Input.Position.PositionType.offset c.args.tried) ∙ c.requires.no_match;
+    }
 
 pub returns-clause-next : goal.returns-clause-next
 returns-clause-next g c =

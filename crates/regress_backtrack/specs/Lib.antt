@@ -3,6 +3,7 @@ pub mod State
 pub mod UndoLog
 pub mod PendingThreads
 pub mod BudgetAccounting
+pub mod BacktrackCharges
 pub mod ThreadsLeftByOps
 pub mod StateTransitions
 pub mod ChoicePoints
@@ -24,6 +25,7 @@ pub mod FailureMemo
 pub mod MemoizedExecution
 pub mod WorkOfAttempts
 pub mod PaidSearches
+pub mod InterpreterRuns
 pub mod SuspendedSearches
 pub mod FailuresInMemoTable
 pub mod MemoizedCharLoops

@@ -64,7 +64,7 @@ returns-in-Ok-clause-found g c =
     let b = search-here g (goal.at.returns-in-Ok-clause-found g c).In_ok-begin in
     let first = state-here g (goal.at.returns-in-Ok-clause-found g c).In_ok-begin in
     found-with offset c.end_position.result groups ∙ ap (option_map (λ e. (e, groups))) c.end_position.ensures
-    ∙ attempt-ends w (offset c.args.pos) c.pos_to_offset-at.result c.begin.new.self c.run_thread.new.memory _ _ _ c.in-Ok.end b first c.in-Ok.ensures.searched
+    ∙ attempt-ends w (offset c.args.pos) c.pos_to_offset-at.result c.begin.new.self c.run_thread.new.memory _ _ _ c.in-Ok.end b first c.in-Ok.ensures.outcome.searched
 
 pub returns-in-Ok-clause-steps : goal.returns-in-Ok-clause-steps
 returns-in-Ok-clause-steps g c =
@@ -73,7 +73,7 @@ returns-in-Ok-clause-steps g c =
     let begun = (goal.at.returns-in-Ok-clause-steps g c).In_ok-begin in
     let budget = g.S.StepCounter.budget in
     attempt-spends w at c.pos_to_offset-at.result c.begin.new.self (budget c.args.progress.now.steps) (budget c.run_thread.new.progress.steps) g.S.StepCounter.COUNTS (search-here g begun) (state-here g begun)
-    c.run_thread.new.memory c.in-Ok.end c.end_position.result c.in-Ok.ensures.searched
+    c.run_thread.new.memory c.in-Ok.end c.end_position.result c.in-Ok.ensures.outcome.searched
 
 pub returns-in-Err-clause-steps : goal.returns-in-Err-clause-steps
 returns-in-Err-clause-steps g c =
@@ -86,7 +86,7 @@ returns-in-Err-clause-steps g c =
     let before = budget c.args.progress.now.steps in
     let after = budget c.run_thread.new.progress.steps in
     subst (λ e. SpendsNeedOrReachesLimit {X = Option g.row.W-Input-Position.Denot} (ticks_of_attempt_at w.tree w.text at) (step_limit counts before) (Err e) (step_limit counts after)) (sym c.cause_of_stop.ensures)
-    (attempt-stops w at c.pos_to_offset-at.result c.begin.new.self before after counts b first (Option g.row.W-Input-Position.Denot) c.requires.fresh c.in-Err.ensures.stopped)
+    (attempt-stops w at c.pos_to_offset-at.result c.begin.new.self before after counts b first (Option g.row.W-Input-Position.Denot) c.requires.fresh c.in-Err.ensures.outcome.stopped)
 
 pub returns-in-Err-clause-begun : goal.returns-in-Err-clause-begun
 returns-in-Err-clause-begun g c =
@@ -97,7 +97,7 @@ returns-in-Err-clause-begun g c =
     let after = budget c.run_thread.new.progress.steps in
     let begun = HasSlotPerGroupAndLoop w.tree c.run_thread.new.memory in
     subst (λ e. AllocFailureCostsAStep {X = Option g.row.W-Input-Position.Denot} begun (step_limit counts before) (Err e) (step_limit counts after)) (sym c.cause_of_stop.ensures)
-    (stopped-takes (Option g.row.W-Input-Position.Denot) counts begun (NeedStepsAtLeast w true (running (current_thread_state_of c.begin.new.self 0 c.pos_to_offset-at.result) ∷ [])) before after c.requires.fresh c.in-Err.ensures.stopped)
+    (stopped-takes (Option g.row.W-Input-Position.Denot) counts begun (NeedStepsAtLeast w true (running (current_thread_state_of c.begin.new.self 0 c.pos_to_offset-at.result) ∷ [])) before after c.requires.fresh c.in-Err.ensures.outcome.stopped)
 
 pub returns-in_err-begin-clause-steps : goal.returns-in_err-begin-clause-steps
 returns-in_err-begin-clause-steps g c =
@@ -131,14 +131,14 @@ pub returns-in-Ok-clause-paid : goal.returns-in-Ok-clause-paid
 returns-in-Ok-clause-paid g c = λ pays off fresh.
     let w = g.W.SearchContext.searching c.args.context.now in
     let first = state-here g (goal.at.returns-in-Ok-clause-paid g c).In_ok-begin in
-    let ended = ends-from g.S.StepCounter g.M.FailureMemo w first c.run_thread.new.memory c.in-Ok.end c.in-Ok.ensures.paid in
+    let ended = ends-from g.S.StepCounter g.M.FailureMemo w first c.run_thread.new.memory c.in-Ok.end c.in-Ok.ensures.outcome.paid in
     attempt-paid w (g.W.Input.Position.PositionType.offset c.args.pos) fresh (ended.1 pays off)
 
 pub returns-in-Err-clause-paid : goal.returns-in-Err-clause-paid
 returns-in-Err-clause-paid g c = λ pays off fresh.
     let w = g.W.SearchContext.searching c.args.context.now in
     let first = state-here g (goal.at.returns-in-Err-clause-paid g c).In_ok-begin in
-    attempt-short w (g.W.Input.Position.PositionType.offset c.args.pos) fresh (stops-from g.S.StepCounter g.M.FailureMemo w first c.in-Err.ensures.short pays off)
+    attempt-short w (g.W.Input.Position.PositionType.offset c.args.pos) fresh (stops-from g.S.StepCounter g.M.FailureMemo w first c.in-Err.ensures.outcome.short pays off)
 
 pub returns-in_err-begin-clause-paid : goal.returns-in_err-begin-clause-paid
 returns-in_err-begin-clause-paid g c = λ pays off fresh.

@@ -10,7 +10,10 @@ use Rattle.regress_program.specs.declared.required_prefix_prefilters.RequiredPre
 use Rattle.regress_program.specs.declared.required_prefix_prefilters.MaskedUnitProbe.{MaskedUnitProbe}
 use Rattle.regress_program.specs.declared.required_prefix_types.RequiredUnitAndOffset.{RequiredUnitAndOffset}
 use Rattle.regress_program.specs.declared.required_prefix_types.Literal.{Literal}
+use Rattle.regress_program.specs.declared.required_prefix_prefilters.FirstUnitsPrefilter.{FirstUnitsPrefilter}
 use Rattle.regress_program.specs.declared.required_prefix_prefilters.LiteralPrefilter.{LiteralPrefilter}
+use Rattle.regress_program.specs.declared.up_to_three_units.UpToThreeUnits.{UpToThreeUnits}
+use Rattle.regress_program.specs.ListedUnits.{ListsKeysThatPass}
 use Rattle.regress_program.specs.TableKeysOfUnits.{key, is_16_bit_encoding}
 
 -- The units that a prefix allows: bit `ahead` of the mask of their key is clear.
@@ -78,14 +81,26 @@ pub record ProbesPassPrefix (prefix : Prefix) (probes : List MaskedUnitProbe) : 
   pub four : length probes ≡ 4
   pub each : (i : ℕ) (probe : MaskedUnitProbe) → slice_get probes i ≡ Some probe → ProbePassesPrefix prefix probe
 
+-- These units, at most three, are those that are allowed at the start.
+abbrev pub ListsFirstUnits : Prefix → UpToThreeUnits → Type 0
+ListsFirstUnits prefix few = ListsKeysThatPass (units_allowed_by_prefix prefix 0) few
+
 -- The literal is right for the prefix, and so are the rare unit and the probes, if any.
 pub record IsLiteralPrefilterOfPrefix (prefix : Prefix) (known : LiteralPrefilter) : Type 0 where
   pub literal : IsLiteralForcedByPrefix prefix known.literal
   pub rare : IfSome known.rare (IsOnlyUnitAllowedAtPosition prefix)
   pub probes : IfSome known.probes (ProbesPassPrefix prefix)
 
--- The prefilter is right for the prefix. `Absent` and a literal occur only for texts in bytes.
+-- The first units are right for the prefix, and so are the literal and the probes, if any.
+pub record IsFirstUnitsPrefilterOfPrefix (prefix : Prefix) (first : FirstUnitsPrefilter) : Type 0 where
+  pub units : ListsFirstUnits prefix first.units
+  pub literal : IfSome first.literal (IsLiteralForcedByPrefix prefix)
+  pub probes : IfSome first.probes (ProbesPassPrefix prefix)
+
+-- The prefilter is right for the prefix. Only probes occur for texts of 16-bit units.
 abbrev pub IsPrefilterOfPrefix : (wide : Bool) → Prefix → RequiredPrefixPrefilter → Type 0
 IsPrefilterOfPrefix wide prefix filter.Absent = wide ≡ false
 IsPrefilterOfPrefix wide prefix (filter.ByLiteral known) = (wide ≡ false) × IsLiteralPrefilterOfPrefix prefix known
+IsPrefilterOfPrefix wide prefix (filter.ByFirstUnits first) =
+    (wide ≡ false) × IsFirstUnitsPrefilterOfPrefix prefix first
 IsPrefilterOfPrefix wide prefix (filter.Probes probes) = ProbesPassPrefix prefix probes

@@ -2,13 +2,14 @@
 
 ghost use Rattle.std.specs.Prelude.{◌≡◌, ◌<◌, ◌≤◌, ◌↔◌, ℕ, true, IsTrue, IfSome};
 ghost use Rattle.regress_program.specs.PrefixesAndPrefilters.{units_allowed_by_prefix, unit_passes_probe, IsOnlyUnitAllowedAtPosition, IsLiteralForcedByPrefix, ProbePassesPrefix, ProbesPassPrefix};
-ghost use Rattle.regress_program.specs.PrefixesAndPrefilters.{IsPrefilterOfPrefix};
+ghost use Rattle.regress_program.specs.PrefixesAndPrefilters.{IsPrefilterOfPrefix, ListsFirstUnits};
 ghost use Rattle.regress_program.specs.TableKeysOfUnits.{is_16_bit_width};
 
 use crate::required_prefix_types::{
     Literal, MOST, Prefix, RequiredUnitAndOffset, is_mask_bit_clear,
 };
 use crate::table_keys_of_units::{KEYS, UnitWidth};
+use crate::up_to_three_units::{KeySelection, UpToThreeUnits};
 
 /// A test of the unit `ahead` units after the start: of the bits in `mask`, exactly those in `bits`
 /// are set in its low eight bits.
@@ -38,6 +39,15 @@ pub struct LiteralPrefilter {
     pub probes: Option<[MaskedUnitProbe; 4]>,
 }
 
+/// The units with which a prefix begins, if they are few and rare. Where a text has many of them,
+/// the literal is searched for instead, or else the probes.
+#[derive(Clone, Copy)]
+pub struct FirstUnitsPrefilter {
+    pub units: UpToThreeUnits,
+    pub literal: Option<Literal>,
+    pub probes: Option<[MaskedUnitProbe; 4]>,
+}
+
 /// What is searched for before the units of a required prefix are checked.
 #[derive(Clone, Copy)]
 pub enum RequiredPrefixPrefilter {
@@ -45,6 +55,8 @@ pub enum RequiredPrefixPrefilter {
     Absent,
     /// A literal, in bytes.
     ByLiteral(LiteralPrefilter),
+    /// The first units, in bytes.
+    ByFirstUnits(FirstUnitsPrefilter),
     /// Bits of some units.
     Probes([MaskedUnitProbe; 4]),
 }
@@ -57,6 +69,7 @@ impl RequiredPrefixPrefilter {
         match self {
             RequiredPrefixPrefilter::Absent => true,
             RequiredPrefixPrefilter::ByLiteral(_) => false,
+            RequiredPrefixPrefilter::ByFirstUnits(_) => false,
             RequiredPrefixPrefilter::Probes(_) => false,
         }
     }
@@ -64,6 +77,11 @@ impl RequiredPrefixPrefilter {
 
 /// A unit at least as frequent as this, in a thousand, is not searched for alone.
 const OFTEN: u32 = 15;
+
+/// The maximum frequency of the first units, in a thousand, if they are searched for alone. Where
+/// they are more frequent, it takes longer to check the prefix at each of them than to test bits of
+/// several units.
+const MAX_FIRST_UNITS_FREQUENCY: u32 = 10;
 
 /// The maximum frequency of a unit, in a thousand.
 const ALWAYS: u32 = 1000;
@@ -138,7 +156,15 @@ impl Prefix {
         let common_bits = self.common_bits();
         let probes = self.probes(&common_bits);
         if let UnitWidth::Bytes = units {
-            if let Some(literal) = self.literal(&common_bits) {
+            let literal = self.literal(&common_bits);
+            if let Some(units) = self.rare_first_units(&common_bits, literal.is_some()) {
+                return Some(RequiredPrefixPrefilter::ByFirstUnits(FirstUnitsPrefilter {
+                    units,
+                    literal,
+                    probes,
+                }));
+            }
+            if let Some(literal) = literal {
                 let rare = self.rare(&common_bits);
                 return Some(RequiredPrefixPrefilter::ByLiteral(LiteralPrefilter {
                     literal,
@@ -154,6 +180,24 @@ impl Prefix {
             UnitWidth::Bytes => Some(RequiredPrefixPrefilter::Absent),
             UnitWidth::Wide => None,
         }
+    }
+
+    // Returns the first units, if they are few and rare. If the prefix requires a literal, they must
+    // be a capital letter before a small one.
+    fn rare_first_units(
+        &self,
+        common_bits: &[CommonBitsOfUnits; 16],
+        has_literal: bool,
+    ) -> Option<UpToThreeUnits>
+        ensures { IfSome result (ListsFirstUnits self.now) }
+    {
+        if common_bits[0].often > MAX_FIRST_UNITS_FREQUENCY {
+            return None;
+        }
+        if has_literal && !begins_with_capital(common_bits) {
+            return None;
+        }
+        UpToThreeUnits::of_selected(self)
     }
 
     // Returns, for each position, what the units that may occur there have in common; `NO_UNIT`
@@ -284,6 +328,28 @@ impl Prefix {
             others |= self.is_key_allowed(key, probe.ahead) & !probe.passes_bit_probe(key as u32);
         }
         !others
+    }
+}
+
+// Checks whether a capital letter and a small one are the first two units. A capital letter that
+// begins a word is rare. Words of capital letters are frequent in some texts.
+fn begins_with_capital(common_bits: &[CommonBitsOfUnits; 16]) -> bool {
+    let first = common_bits[0];
+    let second = common_bits[1];
+    first.is_unit()
+        && first.all.is_ascii_uppercase()
+        && second.is_unit()
+        && second.all.is_ascii_lowercase()
+}
+
+// The keys of the units with which a prefix may begin.
+impl KeySelection for Prefix {
+    ghost use Rattle.regress_program.specs.PrefixesAndPrefilters.{units_allowed_by_prefix};
+
+    ghost selects_key = { λ prefix key. units_allowed_by_prefix prefix 0 key };
+
+    fn selects(&self, key: u8) -> bool {
+        self.is_key_allowed(usize::from(key), 0)
     }
 }
 

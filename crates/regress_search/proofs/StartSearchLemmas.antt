@@ -28,12 +28,12 @@ use Rattle.regress_search.proofs.AllowedUnitTables.{no-key}
 use Rattle.regress_search.proofs.NextCharByUnit.{unit-fits}
 use Rattle.regress_search.proofs.PrefixUnitLemmas.{own-key, fits-past, fits-behind}
 use Rattle.regress_program.specs.declared.required_prefix_types.Prefix.{Prefix}
-use Rattle.regress_program.specs.PrefixesAndPrefilters.{units_allowed_by_prefix, prefix_allows_units_at, PrefixAllowsOnlyAsciiFirst}
-use Rattle.regress_search.proofs.AsciiUnitLemmas.{fit-boundary}
+use Rattle.regress_program.specs.PrefixesAndPrefilters.{units_allowed_by_prefix, prefix_allows_units_at, PrefixAllowsOnlyAsciiFirst, ListsFirstUnits}
+use Rattle.regress_search.proofs.AsciiUnitLemmas.{fit-boundary, fit-unit}
 use Rattle.regress_search.specs.StartSearch.{table_allows_unit_or_end_at, TableAllowsNoBoundary, IsFirstAllowedBoundary, IsFirstBoundaryWhere, AllowsOnlyLeadBytes, SkipsNoBoundary}
 use Rattle.regress_program.specs.declared.up_to_three_units.UpToThreeUnits.{UpToThreeUnits}
 use Rattle.regress_program.specs.ListedUnits.{is_listed}
-use Rattle.regress_search.specs.StartSearch.{IsFirstByteSearchHit, table_of_listed_units, prefix_fits_at}
+use Rattle.regress_search.specs.StartSearch.{IsFirstByteSearchHit, table_of_listed_units, prefix_fits_at, NoBoundaryWhere, FitsNotBefore}
 
 -- ---- Offsets behind a unit
 
@@ -350,3 +350,85 @@ fitting-found w has prefix single_unit some ascii from found f = by in_bytes.0 i
           same to ∙ fit,
           λ x on le before. excluded x le (first.none_before (x - from) (omega (arith, le, before, there))),
         )
+
+-- ---- Searches for the units with which a prefix begins
+
+module _ (w : SearchInput) (prefix : Prefix) (from : ℕ) where
+  pub misses-begin : IsBoundary w.text from → FitsNotBefore w prefix from from
+  misses-begin on = record {
+    boundary = on;
+    ahead = le_refl from;
+    none = λ x there le less. absurd (omega (arith, le, less));
+  }
+
+  -- If the prefix does not fit at a boundary, it does not fit before the next one.
+  pub misses-go : HasRisingPlaceOffsets w.text → (at to : ℕ) → FitsNotBefore w prefix from at → prefix_fits_at w prefix at ≡ false → past w.text rightwards at ≡ Some to
+      → FitsNotBefore w prefix from to
+  misses-go is at to s unfit led =
+      let next = past-character w.text is false at to led in
+      record {
+        boundary = next.boundary refl;
+        ahead = let a = s.ahead in let b = next.ahead in omega (arith, a, b);
+        none = λ x on le less. elim (cases_lt x at) [
+          | inl before ↦ s.none x on le before
+          | inr after ↦ elim (cases_lt at x) [
+            | inl more ↦ absurd (next.alone x on more less)
+            | inr most ↦ let here : at ≡ x = omega (arith, after, most) in subst (λ x. prefix_fits_at w prefix x ≡ false) here unfit
+          ]
+        ];
+      }
+
+  -- The first fit from a later boundary is the first one, if there is none before that boundary.
+  pub misses-later : (at : ℕ) → FitsNotBefore w prefix from at → (found : Option ℕ) → IsFirstBoundaryWhere w (prefix_fits_at w prefix) at found → IsFirstBoundaryWhere w (prefix_fits_at w prefix) from found
+  misses-later at s None none = λ x on le less. elim (cases_lt x at) [
+    | inl before ↦ s.none x on le before
+    | inr after ↦ none x on after less
+  ]
+  misses-later at s (Some to) f = (
+    f.0,
+    let a = s.ahead in let b = f.1 in omega (arith, a, b),
+    f.2,
+    λ x on le less. elim (cases_lt x at) [
+      | inl before ↦ s.none x on le before
+      | inr after ↦ f.3 x on after less
+    ],
+  )
+
+  module _ (has : HasUnitsForTables w.encoding w.text) (bytes : is_16_bit_encoding w.encoding ≡ false) (some : 0 < prefix.len) (ascii : PrefixAllowsOnlyAsciiFirst prefix)
+      (few : UpToThreeUnits) (lists : ListsFirstUnits prefix few) where
+    -- Where the prefix fits, one of its first units occurs.
+    first-occurs : (at : ℕ) → prefix_fits_at w prefix at ≡ true → table_allows_unit_or_end_at w (table_of_listed_units few) at ≡ true
+    first-occurs at fit =
+        let one = fit-unit w has prefix at fit 0 some ascii in
+        let low = one.2 in
+        let there : slice_get (text_units_in_encoding w.encoding w.text) at ≡ Some one.0 = ap (slice_get (text_units_in_encoding w.encoding w.text)) (let z : at ≡ at + 0 = omega arith in z) ∙ one.1 in
+        let keyed : unit_key_at w.encoding (key (is_16_bit_encoding w.encoding)) w.text at ≡ Some one.0 =
+        ap (option_map (key (is_16_bit_encoding w.encoding))) there ∙ ap (λ (wide : Bool). Some (key wide one.0)) bytes in
+        ap (table_allows_key_or_end (table_of_listed_units few)) keyed ∙ lists.all one.0 (omega (arith, low)) one.3
+
+    -- If the units are absent between two offsets, the prefix does not fit there.
+    misses-between : (at to : ℕ) → TableAllowsNoBoundary w (table_of_listed_units few) at to → NoBoundaryWhere w (prefix_fits_at w prefix) at to
+    misses-between at to none x on le less =
+        false_from_ne_true (prefix_fits_at w prefix x) (λ fit.
+        let never : true ≡ false = sym (first-occurs x fit) ∙ none x on le less in
+        cc)
+
+    -- If the units do not occur any more, the prefix does not fit.
+    pub misses-all : (at : ℕ) → FitsNotBefore w prefix from at → IsFirstAllowedBoundary w (table_of_listed_units few) at None → IsFirstBoundaryWhere w (prefix_fits_at w prefix) from None
+    misses-all at s none = misses-later at s None (misses-between at (units w.text + 1) none)
+
+    -- The prefix does not fit before the next offset of one of the units.
+    pub misses-before : (at hit : ℕ) → FitsNotBefore w prefix from at → IsFirstAllowedBoundary w (table_of_listed_units few) at (Some hit) → FitsNotBefore w prefix from hit
+    misses-before at hit s found = record {
+      boundary = found.0;
+      ahead = let a = s.ahead in let b = found.1 in omega (arith, a, b);
+      none = λ x on le less. elim (cases_lt x at) [
+        | inl before ↦ s.none x on le before
+        | inr after ↦ misses-between at hit found.3 x on after less
+      ];
+    }
+
+-- The first units of a prefix begin characters.
+pub first-lead : (prefix : Prefix) → PrefixAllowsOnlyAsciiFirst prefix → (few : UpToThreeUnits) (wide : Bool) → ListsFirstUnits prefix few → AllowsOnlyLeadBytes wide (table_of_listed_units few)
+first-lead prefix ascii few wide lists single_unit k small listed =
+    low-lead k (ascii k small (few-pass (units_allowed_by_prefix prefix 0) few.units few.len k lists.each listed))

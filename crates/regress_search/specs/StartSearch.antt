@@ -15,6 +15,8 @@ use Rattle.regress_program.specs.TableKeysOfUnits.{key, is_16_bit_encoding, begi
 use Rattle.regress_program.specs.Plans.{units_at_candidate_starts}
 use Rattle.regress_machine.specs.FirstSetTables.{AllowedNextKeys, table_allows_key_or_end, unit_key_at}
 use Rattle.regress_search.specs.TreePlanAndText.{SearchInput}
+use Rattle.regress_search.specs.declared.start_search.FirstUnitsSearch.{FirstUnitsSearch}
+use Rattle.regress_search.specs.declared.start_search.FirstUnitsSearch.TheVariants as search
 
 -- Whether the table allows the code unit at an offset, or the end of the text if the offset is the
 -- end.
@@ -81,6 +83,19 @@ prefix_fits_at w prefix at = prefix_allows_units_at (units_allowed_by_prefix pre
 -- The first boundary at `from` or later where the prefix may occur.
 abbrev pub IsFirstPrefixFit : SearchInput → Prefix → (from : ℕ) → Option ℕ → Type 0
 IsFirstPrefixFit w prefix from next = IsFirstBoundaryWhere w (prefix_fits_at w prefix) from next
+
+-- The boundary `at` is `from` or more, and the prefix does not occur at a boundary in between.
+pub record FitsNotBefore (w : SearchInput) (prefix : Prefix) (from at : ℕ) : Type 0 where
+  pub boundary : IsBoundary w.text at
+  pub ahead : from ≤ at
+  pub none : NoBoundaryWhere w (prefix_fits_at w prefix) from at
+
+-- What a search for a prefix by its first units finds: the first boundary at `from` or later where
+-- the prefix may occur, that there is none, or a boundary before which there is none.
+abbrev pub IsFirstUnitsSearch : SearchInput → Prefix → (from : ℕ) → FirstUnitsSearch → Type 0
+IsFirstUnitsSearch w prefix from (search.Fits at) = IsFirstPrefixFit w prefix from (Some at)
+IsFirstUnitsSearch w prefix from search.Nowhere = IsFirstPrefixFit w prefix from None
+IsFirstUnitsSearch w prefix from (search.GaveUp at) = FitsNotBefore w prefix from at
 
 -- The offset after the first character at `from` or later that the table allows.
 abbrev pub IsPastFirstAllowedChar : SearchInput → AllowedNextKeys → (from : ℕ) → Option ℕ → Type 0

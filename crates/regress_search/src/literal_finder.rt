@@ -44,15 +44,17 @@ impl<'p> StartLiteralFinder<'p> {
     }
 }
 
-// Returns the literal with which each match begins, if there is one.
+// Returns the literal that each match has near its start, if there is one.
 fn known_start_literal(start: &CandidateStarts) -> Option<&[u8]> {
-    match start {
-        CandidateStarts::Prefix {
-            prefilter: RequiredPrefixPrefilter::ByLiteral(known),
-            ..
-        } => known.literal.units.get(..known.literal.len),
-        _ => None,
-    }
+    let CandidateStarts::Prefix { prefilter, .. } = start else {
+        return None;
+    };
+    let literal = match prefilter {
+        RequiredPrefixPrefilter::ByLiteral(known) => &known.literal,
+        RequiredPrefixPrefilter::ByFirstUnits(first) => first.literal.as_ref()?,
+        _ => return None,
+    };
+    literal.units.get(..literal.len)
 }
 
 // Returns the first index at which a literal occurs, without a cached finder.

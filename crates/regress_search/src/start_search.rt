@@ -1,15 +1,16 @@
 //! Searches for candidate starts. No match begins at any other offset.
 
-ghost use Rattle.std.specs.Prelude.{◌≡◌, ◌<◌, true, false, IfSome};
+ghost use Rattle.std.specs.Prelude.{◌≡◌, ◌<◌, true, false, Some, IfSome};
 ghost use Rattle.regex_meaning.specs.CodeUnitOffsets.{IsBoundary, units};
-ghost use Rattle.regress_input.specs.CharAndByteReadsFromOffset.{is_byte_encoding};
+ghost use Rattle.regex_meaning.specs.Text.{rightwards};
+ghost use Rattle.regress_input.specs.CharAndByteReadsFromOffset.{is_byte_encoding, past};
 ghost use Rattle.regress_program.specs.LookbehindFilter.{FilterKeysAreLeadBytes, allows_start};
-ghost use Rattle.regress_program.specs.PrefixesAndPrefilters.{PrefixAllowsOnlyAsciiFirst, IsLiteralForcedByPrefix, IsOnlyUnitAllowedAtPosition, IsLiteralPrefilterOfPrefix, IsPrefilterOfPrefix};
+ghost use Rattle.regress_program.specs.PrefixesAndPrefilters.{PrefixAllowsOnlyAsciiFirst, IsLiteralForcedByPrefix, IsOnlyUnitAllowedAtPosition, IsLiteralPrefilterOfPrefix, IsPrefilterOfPrefix, ListsFirstUnits, IsFirstUnitsPrefilterOfPrefix};
 ghost use Rattle.regress_program.specs.TableKeysOfUnits.{is_16_bit_encoding};
 ghost use Rattle.regress_program.specs.Plans.{unit_table_of_set_number};
 ghost use Rattle.regress_machine.specs.FirstSetTables.{AllowedNextKeys};
 ghost use Rattle.regress_search.specs.StartSearch.{IsFirstAllowedBoundary, IsFirstBoundaryWhere, IsFirstPrefixFit, IsFirstCandidate, IsFirstByteSearchHit, AllowsOnlyLeadBytes, SkipsNoBoundary};
-ghost use Rattle.regress_search.specs.StartSearch.{IsPastFirstAllowedChar, table_of_listed_units, may_start_at};
+ghost use Rattle.regress_search.specs.StartSearch.{IsFirstUnitsSearch, IsPastFirstAllowedChar, table_of_listed_units, may_start_at};
 ghost use Rattle.regress_search.specs.TreePlanAndText.{PlanFitsProgram};
 
 use crate::class_char_and_table_lookups::{set_allows_next_unit, unit_key_at_offset};
@@ -20,13 +21,17 @@ use crate::prefix_search::{PrefixAndItsRequiredUnit, PrefixAndLiteralFinder};
 use crate::search_context::{
     SearchContext, offset_in_searched_text, position_in_searched_text, text_end,
 };
-use crate::start_search_by_bit_probes::{PrefixAndBitProbes, next_by_bit_probes, prefix_fits};
+use crate::start_search_by_bit_probes::{
+    PrefixAndBitProbes, next_by_bit_probes, prefix_fits, prefix_fits_inlined,
+};
 use regress_input::front::ByteSearcher;
 use regress_input::indexing::{CodeUnitEncoding, HasUnitType, InputIndexer};
 use regress_program::first_set_type::FirstSet;
 use regress_program::lookbehind_filter::PrecedingCharFilter;
 use regress_program::plan::CandidateStarts;
-use regress_program::required_prefix_prefilters::{LiteralPrefilter, RequiredPrefixPrefilter};
+use regress_program::required_prefix_prefilters::{
+    FirstUnitsPrefilter, LiteralPrefilter, RequiredPrefixPrefilter,
+};
 use regress_program::required_prefix_types::{Literal, Prefix, RequiredUnitAndOffset};
 use regress_program::up_to_three_units::UpToThreeUnits;
 
@@ -84,12 +89,24 @@ fn offset_after_unit_or_char<W: SearchContext>(context: &W, at: usize) -> usize
         is_byte_encoding w.encoding ≡ false → IsBoundary w.text at }
     ensures { let w = W.searching context.now in SkipsNoBoundary w.text (is_byte_encoding w.encoding) at result }
 {
-    let input = context.input();
     if <<W::Input as HasUnitType>::Units as CodeUnitEncoding>::ARE_BYTES {
         at + 1
     } else {
-        offset_in_searched_text(context, input.past(position_in_searched_text(context, at)))
+        offset_after_char(context, at)
     }
+}
+
+// Returns the offset after the character at a boundary.
+#[inline(always)]
+fn offset_after_char<W: SearchContext>(context: &W, at: usize) -> usize
+    requires inside { at < units (W.searching context.now).text }
+    requires at { IsBoundary (W.searching context.now).text at }
+    ensures { past (W.searching context.now).text rightwards at ≡ Some result }
+{
+    offset_in_searched_text(
+        context,
+        context.input().past(position_in_searched_text(context, at)),
+    )
 }
 
 // Returns the first offset at `from` or later that the set allows.
@@ -224,6 +241,94 @@ fn next_prefix_by_literal<W: SearchContext>(
     find(context, &in_row, from)
 }
 
+/// How many first units that begin no match are found before a search for first units ends.
+const MAX_MISSES: usize = 16;
+
+/// The result of a search for a prefix by its first units.
+#[derive(Clone, Copy)]
+enum FirstUnitsSearch {
+    /// The prefix may occur at this offset, and at none before it.
+    Fits(usize),
+    /// The prefix does not occur.
+    Nowhere,
+    /// The prefix does not occur before this offset. The text has many of the first units.
+    GaveUp(usize),
+}
+
+// Searches for the first offset at `from` or later at which the prefix may occur, by a search for
+// the units with which it begins.
+#[inline(always)]
+fn search_for_first_units<W: SearchContext>(
+    context: &W,
+    prefix: &Prefix,
+    few: UpToThreeUnits,
+    from: usize,
+) -> FirstUnitsSearch
+    requires at { IsBoundary (W.searching context.now).text from }
+    requires bytes { is_16_bit_encoding (W.searching context.now).encoding ≡ false }
+    requires prefix { (0 < prefix.now.len) × PrefixAllowsOnlyAsciiFirst prefix.now }
+    requires few { ListsFirstUnits prefix.now few }
+    ensures { IsFirstUnitsSearch (W.searching context.now) prefix.now from result }
+{
+    let mut at = from;
+    'misses: for _ in 0..MAX_MISSES {
+        let Some(hit) = next_of_few_units(context, few, at) else {
+            return FirstUnitsSearch::Nowhere;
+        };
+        if prefix_fits_inlined(context, prefix, hit) {
+            return FirstUnitsSearch::Fits(hit);
+        }
+        at = offset_after_char(context, hit);
+    }
+    FirstUnitsSearch::GaveUp(at)
+}
+
+// Does what `next_prefix_match` does, by a search for the first units. Where the text has many of
+// them, it searches for something else.
+#[inline(never)]
+fn next_prefix_by_first_units<W: SearchContext>(
+    context: &W,
+    prefix: &Prefix,
+    first: &FirstUnitsPrefilter,
+    from: usize,
+) -> Option<usize>
+    requires at { IsBoundary (W.searching context.now).text from }
+    requires bytes { is_16_bit_encoding (W.searching context.now).encoding ≡ false }
+    requires prefix { (0 < prefix.now.len) × PrefixAllowsOnlyAsciiFirst prefix.now }
+    requires first { IsFirstUnitsPrefilterOfPrefix prefix.now first.now }
+    ensures { IsFirstPrefixFit (W.searching context.now) prefix.now from result }
+{
+    match search_for_first_units(context, prefix, first.units, from) {
+        FirstUnitsSearch::Fits(at) => Some(at),
+        FirstUnitsSearch::Nowhere => None,
+        FirstUnitsSearch::GaveUp(at) => next_prefix_by_other_units(context, prefix, first, at),
+    }
+}
+
+// Does what `next_prefix_by_first_units` does, by a search for the literal if there is one, and
+// otherwise for probes.
+#[inline(never)]
+fn next_prefix_by_other_units<W: SearchContext>(
+    context: &W,
+    prefix: &Prefix,
+    first: &FirstUnitsPrefilter,
+    from: usize,
+) -> Option<usize>
+    requires at { IsBoundary (W.searching context.now).text from }
+    requires bytes { is_16_bit_encoding (W.searching context.now).encoding ≡ false }
+    requires prefix { (0 < prefix.now.len) × PrefixAllowsOnlyAsciiFirst prefix.now }
+    requires first { IsFirstUnitsPrefilterOfPrefix prefix.now first.now }
+    ensures { IsFirstPrefixFit (W.searching context.now) prefix.now from result }
+{
+    if let Some(literal) = &first.literal {
+        return next_prefix_by_literal(context, prefix, literal, from);
+    }
+    if let Some(probes) = &first.probes {
+        return next_by_bit_probes(context, PrefixAndBitProbes { prefix, probes }, from);
+    }
+    next_prefix_match(context, prefix, None, from)
+}
+
 // Does what `next_prefix_match` does, for a prefix whose units are known. In a long text, it
 // searches for the literal.
 // Contract: `some`, `ascii` and `known` say what the prefix and its prefilter have to be, and the
@@ -301,6 +406,9 @@ fn next_prefix_by_prefilter<W: SearchContext>(
             PrefixAndBitProbes { prefix, probes },
             from,
         ),
+        RequiredPrefixPrefilter::ByFirstUnits(first) => next_prefix_by_first_units(
+            context, prefix, first, from,
+        ),
         RequiredPrefixPrefilter::ByLiteral(known) => next_prefix_with_known_units(
             context, prefix, known, from,
         ),
@@ -324,12 +432,7 @@ fn start_after_unit<W: SearchContext>(
     ensures { IsPastFirstAllowedChar (W.searching context.now) (table_of_listed_units few) from result }
 {
     let hit = next_of_few_units(context, few, from)?;
-    Some(offset_in_searched_text(
-        context,
-        context
-            .input()
-            .past(position_in_searched_text(context, hit)),
-    ))
+    Some(offset_after_char(context, hit))
 }
 
 // Returns the first offset at `from` or later where a match may begin, given the character before

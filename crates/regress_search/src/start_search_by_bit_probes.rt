@@ -46,6 +46,15 @@ pub(crate) fn prefix_fits<W: SearchContext>(context: &W, prefix: &Prefix, at: us
     requires { IsBoundary (W.searching context.now).text at }
     ensures { result ≡ prefix_fits_at (W.searching context.now) prefix.now at }
 {
+    prefix_fits_inlined(context, prefix, at)
+}
+
+/// Does what `prefix_fits` does.
+#[inline(always)]
+pub(crate) fn prefix_fits_inlined<W: SearchContext>(context: &W, prefix: &Prefix, at: usize) -> bool
+    requires { IsBoundary (W.searching context.now).text at }
+    ensures { result ≡ prefix_fits_at (W.searching context.now) prefix.now at }
+{
     text_end(context) - at >= prefix.len && prefix_fits_at_offset(context, prefix, at)
 }
 

@@ -11,10 +11,11 @@ use regress_program::lookbehind_filter::PrecedingCharFilter;
 use regress_program::ops::Op;
 use regress_program::plan::{ANYTHING, CandidateStarts, Plan};
 use regress_program::required_prefix_prefilters::{
-    LiteralPrefilter, MaskedUnitProbe, RequiredPrefixPrefilter,
+    FirstUnitsPrefilter, LiteralPrefilter, MaskedUnitProbe, RequiredPrefixPrefilter,
 };
 use regress_program::required_prefix_types::{Literal, Prefix};
 use regress_program::table_keys_of_units::KEYS;
+use regress_program::up_to_three_units::UpToThreeUnits;
 use std::alloc::{AllocError, Global};
 
 // Writes the plan of a tree for texts in bytes.
@@ -128,6 +129,7 @@ fn write_prefix(
     match prefilter {
         RequiredPrefixPrefilter::Absent => Ok(()),
         RequiredPrefixPrefilter::ByLiteral(known) => write_literal_prefilter(text, &known),
+        RequiredPrefixPrefilter::ByFirstUnits(first) => write_first_units(text, &first),
         RequiredPrefixPrefilter::Probes(probes) => write_probes(text, &probes),
     }
 }
@@ -135,12 +137,30 @@ fn write_prefix(
 // Writes the literal that is searched for and its offset in a match, and what is searched for in a
 // short text.
 fn write_literal_prefilter(text: &mut String, known: &LiteralPrefilter) -> Result<(), AllocError> {
-    let Literal { units, len, ahead } = &known.literal;
-    write!(text, " row {len} of {units:?} at {ahead}")?;
+    write_literal(text, &known.literal)?;
     if let Some(rare) = known.rare {
         write!(text, " rare {} at {}", rare.unit, rare.ahead)?;
     }
     match &known.probes {
+        Some(probes) => write_probes(text, probes),
+        None => Ok(()),
+    }
+}
+
+// Writes a literal and its offset in a match.
+fn write_literal(text: &mut String, literal: &Literal) -> Result<(), AllocError> {
+    let Literal { units, len, ahead } = literal;
+    write!(text, " row {len} of {units:?} at {ahead}")
+}
+
+// Writes the units with which a match begins, and what is searched for where they are frequent.
+fn write_first_units(text: &mut String, first: &FirstUnitsPrefilter) -> Result<(), AllocError> {
+    let UpToThreeUnits { units, len } = first.units;
+    write!(text, " first {len} of {units:?}")?;
+    if let Some(literal) = &first.literal {
+        write_literal(text, literal)?;
+    }
+    match &first.probes {
         Some(probes) => write_probes(text, probes),
         None => Ok(()),
     }

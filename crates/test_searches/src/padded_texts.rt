@@ -19,6 +19,9 @@ jake~~x~jake jake~a0..4; b0..4
 Needle~i~x~nEEDLE NEEDLe~a0..6; b0..6
 jab|jac~~x~jab jac~a0..3; b0..3
 [jq]k~~x~jk qk~a0..2; b0..2
+[jq]k~~jq-~jk qk~a0..2; b0..2
+#\d~~#~#7 ##8~a0..2; b1..3
+Needle~~N~Needle Needle~a0..6; b0..6
 \d{3}~~x~123 456~a0..3; b0..3
 \d+~~x~12 4~a0..2; b0..1
 q~~x~q q~a0..1; b0..1

@@ -8,7 +8,7 @@ use Rattle.regress_program.specs.PrefixesAndPrefilters.{units_allowed_by_prefix}
 use Rattle.regress_program.specs.TableKeysOfUnits.{key, is_16_bit_encoding}
 use Rattle.regress_search.specs.StartSearch.{unit_keys_of_text}
 use Rattle.regress_search.proofs.PrefixUnitLemmas.{fits-short}
-use Rattle.regress_search.proofs.start_search_by_bit_probes.prefix_fits.Goals as goal
+use Rattle.regress_search.proofs.start_search_by_bit_probes.prefix_fits_inlined.Goals as goal
 
 pub overflow_sub-text_end : goal.overflow_sub-text_end
 overflow_sub-text_end g c =

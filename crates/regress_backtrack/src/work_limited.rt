@@ -46,11 +46,11 @@ use std::alloc::AllocError;
 pub struct WorkLimitedExecutor<'r, Input: InputIndexer> {
     executor: BacktrackExecutor<'r, Input>,
     // The work that is left, and whether the last attempt was refused some.
-    work: WorkBudget,
+    progress: StepsAndMemo<WorkBudget, NoMemo>,
     // When leaps are made, and how far they may read ahead.
     leaps: LeapsWithinWork,
     // No work is left after some was refused.
-    ghost spent: { work.out ≡ true → work.left ≡ 0 } by { Prim.hlevel props },
+    ghost spent: { progress.steps.out ≡ true → progress.steps.left ≡ 0 } by { Prim.hlevel props },
 }
 
 /// The leaps of a search with a limited amount of work. They read at most as many units beyond the
@@ -101,7 +101,7 @@ impl<'r, Input: InputIndexer> WorkLimitedExecutor<'r, Input> {
             ≡ tree_of executor.entry.search.program.regex }
         ensures text { Input.text result.executor.search.searched.input
             ≡ Input.text executor.entry.search.searched.input }
-        ensures left { result.work.left ≡ work }
+        ensures left { result.progress.steps.left ≡ work }
     {
         let leaps = LeapsWithinWork {
             schedule: LeapSchedule::new(&executor.search.program.plan().leap),
@@ -109,9 +109,13 @@ impl<'r, Input: InputIndexer> WorkLimitedExecutor<'r, Input> {
         };
         WorkLimitedExecutor {
             executor,
-            work: WorkBudget {
-                left: work,
-                out: false,
+            progress: StepsAndMemo {
+                steps: WorkBudget {
+                    left: work,
+                    out: false,
+                },
+                memo: NoMemo,
+                end: None,
             },
             leaps,
         }
@@ -214,9 +218,9 @@ impl<'r, Input: InputIndexer> SearchState for WorkLimitedExecutor<'r, Input> {
 
     ghost enough = { λ _. false };
 
-    ghost out_of_work = { λ e. e.work.out };
+    ghost out_of_work = { λ e. e.progress.steps.out };
 
-    ghost left = { λ e. e.work.left };
+    ghost left = { λ e. e.progress.steps.left };
 
     ghost counts_work = { true };
 
@@ -239,19 +243,14 @@ impl<'r, Input: InputIndexer> SingleAttemptExecutor for WorkLimitedExecutor<'r, 
     }
 
     fn attempt(&mut self, pos: Input::Position) -> Result<Option<Input::Position>, SearchError> {
-        let mut progress = StepsAndMemo {
-            steps: WorkBudget {
-                left: self.work.left,
-                out: false,
-            },
-            memo: NoMemo,
-            end: None,
-        };
+        self.progress.steps.out = false;
         let executor = &mut self.executor;
-        let end = attempt(&executor.search, pos, &mut executor.memory, &mut progress);
-        let work = progress.steps;
-        self.work = work;
-        end
+        attempt(
+            &executor.search,
+            pos,
+            &mut executor.memory,
+            &mut self.progress,
+        )
     }
 
     fn group_count(&self) -> usize {
@@ -277,11 +276,10 @@ impl<'r, Input: InputIndexer> SingleAttemptExecutor for WorkLimitedExecutor<'r, 
         if self.executor.search.searched.is_anchored() {
             return Ok(Some(from));
         }
-        let mut leaps = self.leaps;
-        let work = self.work.left;
-        let (next, skipped) = skip_by_prefilter(&self.executor.search, &mut leaps, from, work);
-        self.leaps = leaps;
-        pay_or_refuse_search(&mut self.work, skipped)?;
+        let executor = &mut self.executor;
+        let work = self.progress.steps.left;
+        let (next, skipped) = skip_by_prefilter(&executor.search, &mut self.leaps, from, work);
+        pay_or_refuse_search(&mut self.progress.steps, skipped)?;
         Ok(next)
     }
 
@@ -290,19 +288,18 @@ impl<'r, Input: InputIndexer> SingleAttemptExecutor for WorkLimitedExecutor<'r, 
         tried: Input::Position,
         next: Input::Position,
     ) -> Result<Option<Input::Position>, SearchError> {
-        let leading_loop = self.executor.leading_loop;
-        let mut leaps = self.leaps;
-        let work = self.work.left;
+        let executor = &mut self.executor;
+        let leading_loop = executor.leading_loop;
+        let work = self.progress.steps.left;
         let (start, skipped) = skip_past_loop(
-            &self.executor.search,
-            &mut leaps,
+            &executor.search,
+            &mut self.leaps,
             leading_loop,
             tried,
             next,
             work,
         );
-        self.leaps = leaps;
-        pay_or_refuse_search(&mut self.work, skipped)?;
+        pay_or_refuse_search(&mut self.progress.steps, skipped)?;
         Ok(start)
     }
 }
@@ -566,11 +563,11 @@ fn next_start_past_loop_within<W: SearchContext>(
 
 impl<'r, Input: InputIndexer> WorkLimitedProducer for WorkLimitedExecutor<'r, Input> {
     fn work_left(&self) -> u64 {
-        self.work.left
+        self.progress.steps.left
     }
 
     fn is_work_exhausted(&self) -> bool {
-        self.work.out
+        self.progress.steps.out
     }
 
     ghost is_counted = { refl };

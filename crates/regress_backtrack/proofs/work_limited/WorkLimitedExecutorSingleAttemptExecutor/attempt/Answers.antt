@@ -8,8 +8,8 @@ use Rattle.regress_backtrack.proofs.PaidAttemptLemmas.{paid-with-tree}
 use Rattle.regress_backtrack.proofs.PlannedTreeLemmas.{can-be, can-run, ends-context, spends-unlimited}
 use Rattle.regress_backtrack.proofs.work_limited.WorkLimitedExecutorSingleAttemptExecutor.attempt.Goals as goal
 
-pub attempt-end-requires-clause-executable : goal.attempt-end-requires-clause-executable
-attempt-end-requires-clause-executable g c =
+pub attempt-requires-clause-executable : goal.attempt-requires-clause-executable
+attempt-requires-clause-executable g c =
     let s = c.args.self.now.executor.search in
     (can-run s.program.wide s.same s.searched.well_formed s.searched.unicode s.searched.bytes, c.requires)
 
@@ -19,28 +19,28 @@ returns-clause-found g c =
     let can = can-be s.same s.searched.well_formed s.searched.unicode s.searched.bytes in
     let offset = g.Input.Position.PositionType.offset in
     ends-context offset s.program.wide (tree_of s.program.regex) (g.Input.InputIndexer.text s.searched.input) can.well_formed (offset c.args.pos)
-    (current_thread_state_of c.attempt-end.new.memory 0 0).groups c.attempt-end.result c.attempt-end.ensures.found
+    (current_thread_state_of c.attempt.new.memory 0 0).groups c.attempt.result c.attempt.ensures.found
 
 pub returns-clause-steps : goal.returns-clause-steps
 returns-clause-steps g c =
     let s = c.args.self.now.executor.search in
     let text = g.Input.InputIndexer.text s.searched.input in
     let at = g.Input.Position.PositionType.offset c.args.pos in
-    spends-unlimited (ticks_of_attempt_at (executed_tree_of s.program) text at) (ticks_of_attempt_at (tree_of s.program.regex) text at) c.attempt-end.result c.attempt-end.ensures.steps
+    spends-unlimited (ticks_of_attempt_at (executed_tree_of s.program) text at) (ticks_of_attempt_at (tree_of s.program.regex) text at) c.attempt.result c.attempt.ensures.steps
 
 pub returns-clause-work : goal.returns-clause-work
 returns-clause-work g c = λ ordered. absurd (true≢false (sym ordered.is))
 
 pub returns-clause-left : goal.returns-clause-left
-returns-clause-left g c = (c.attempt-end.ensures.paid refl refl refl).less
+returns-clause-left g c = (c.attempt.ensures.paid refl refl refl).less
 
 pub returns-clause-within : goal.returns-clause-within
-returns-clause-within g c = (c.attempt-end.ensures.paid refl refl refl).within
+returns-clause-within g c = (c.attempt.ensures.paid refl refl refl).within
 
 pub returns-clause-cost : goal.returns-clause-cost
 returns-clause-cost g c =
     let s = c.args.self.now.executor.search in
-    (paid-with-tree (ap (λ wide. planned_tree wide (tree_of s.program.regex)) s.wide) (c.attempt-end.ensures.paid refl refl refl)).cost
+    (paid-with-tree (ap (λ wide. planned_tree wide (tree_of s.program.regex)) s.wide) (c.attempt.ensures.paid refl refl refl)).cost
 
 pub invariant_of-self : goal.invariant_of-self
-invariant_of-self g c = record { spent = (c.attempt-end.ensures.paid refl refl refl).spent }
+invariant_of-self g c = record { spent = (c.attempt.ensures.paid refl refl refl).spent }

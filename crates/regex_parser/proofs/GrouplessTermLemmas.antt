@@ -191,6 +191,11 @@ pub node-one : (flags : Flags) (c : ℕ) (members : Vec ℕ Global) (n : TheNode
 unfolding spec_node_of
 node-one flags c members n e f g = let one : nat_lt 1 (length members.items) ≡ false = grind arith in rw (g, sym e, one) refl
 
+-- Without `icase`, the node of a character is that character.
+pub node-plain : (flags : Flags) (c : ℕ) (n : TheNode) → flags.icase ≡ false → n ≡ Char c → spec_node_of n ≡ character_node (spec_flags_of flags) c
+unfolding spec_node_of expand_code_point
+node-plain flags c n e g = rw (g, e) refl
+
 pub node-BackRef : (n : ℕ) (icase : Bool) → spec_node_of (BackRef n icase) ≡ back_ref n (by_case icase)
 unfolding spec_node_of
 node-BackRef n icase = refl

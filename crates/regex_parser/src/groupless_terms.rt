@@ -187,6 +187,9 @@ impl GrouplessTermReader<'_> {
         ensures node { IfOk result (λ l. spec_node_of l.node ≡ character_node (spec_flags_of self.now.flags) c) }
         ensures memory { IfErr result (λ e. is_syntax_error e ≡ false) }
     {
+        if !self.flags.icase {
+            return Ok(atom(Node::Char { c }));
+        }
         let members = expand_code_point(self.alloc, c, self.flags.icase, self.flags.unicode)?;
         if members.len() > 1 {
             Ok(atom(Node::CharSet(members)))

@@ -126,6 +126,12 @@ apart-from_Apart n [] h = tt
 apart-from_Apart n (i ∷ []) h = h.1
 apart-from_Apart n (i ∷ j ∷ xs) h = (h.1, omega (arith, h.2.0), apart-from_Apart (i.last + 2) (j ∷ xs) h.2)
 
+-- Intervals that do not touch are in order.
+pub order-from_canonical : (xs : List Interval) → AreCanonicalIntervals (map interval_of xs) → IntervalsAreInOrder (map interval_of xs)
+order-from_canonical [] h = tt
+order-from_canonical (i ∷ []) h = h
+order-from_canonical (i ∷ j ∷ xs) h = let far : suc i.last < j.first = h.1 in (h.0, omega arith, order-from_canonical (j ∷ xs) h.2)
+
 -- ---- Gaps between intervals
 
 gap-before : (n first c : ℕ) (rest : List Interval) → n ≤ 0x10_FFFF

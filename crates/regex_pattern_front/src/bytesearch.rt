@@ -1,6 +1,6 @@
 //! Sets of bytes, and the search for their first occurrence.
 
-ghost use Rattle.std.specs.Prelude.{◌≡◌, ◌<◌, ◌≤◌, ◌||◌, ◌==◌, ℕ, Bool, List, [], length, slice_index};
+ghost use Rattle.std.specs.Prelude.{◌≡◌, ◌<◌, ◌≤◌, ◌||◌, ◌==◌, ℕ, Bool, true, List, [], length, slice_index};
 ghost use Rattle.regex_meaning.specs.{NumberListHelpers.{contains}, StartPredicate.{bytes_that_pass}};
 ghost use Rattle.regex_pattern_front.specs.FirstPassingIndex.{FindsFirstPassingIndex, is_member_byte_at_index};
 
@@ -59,6 +59,13 @@ impl AsciiBitmap {
         if byte < 128 {
             self.bits[usize::from(byte / 64)] |= 1 << (byte % 64);
         }
+    }
+
+    /// Checks whether both sets have the same bytes.
+    pub fn has_same_bytes(&self, other: &AsciiBitmap) -> bool
+        ensures { result ≡ true → member_bytes_of_ascii_bitmap self.now ≡ member_bytes_of_ascii_bitmap other.now }
+    {
+        self.bits == other.bits
     }
 }
 

@@ -1,6 +1,6 @@
 //! Sets of code points.
 
-ghost use Rattle.std.specs.Prelude.{◌≡◌, ℕ, ◌+◌, ◌<◌, ◌≤◌, ◌&&◌, Bool, not, List, [], ◌∷◌, map, filter, nat_le, IfOk, if◌then◌else◌};
+ghost use Rattle.std.specs.Prelude.{◌≡◌, ℕ, ◌+◌, ◌<◌, ◌≤◌, ◌&&◌, Bool, true, not, List, [], ◌∷◌, map, filter, nat_le, IfOk, if◌then◌else◌};
 ghost use Rattle.std.specs.List.{All};
 ghost use Rattle.std.specs.List.Sorted.{IsNonDecreasingBy, IsPermutation};
 ghost use Rattle.regex_meaning.specs.Outcomes.{in_intervals};
@@ -60,6 +60,11 @@ impl CodePointSet {
             (map interval_of intervals.now) c) }
         ensures apart { IfOk result (λ s. AreCanonicalIntervals s) }
     {
+        if are_canonical(intervals) {
+            return Ok(CodePointSet {
+                intervals: Vec::from_slice(alloc, intervals)?,
+            });
+        }
         let sorted = sorted(alloc, intervals)?;
         match sorted.split_first() {
             None => Ok(CodePointSet::new(alloc)),
@@ -112,6 +117,20 @@ impl CodePointSet {
     }
 }
 
+// Checks whether the intervals are in increasing order, none is empty, and no two touch.
+fn are_canonical(intervals: &[Interval]) -> bool
+    ensures { result ≡ true → AreCanonicalIntervals (map interval_of intervals.now) }
+{
+    let mut least = 0u64;
+    for interval in intervals {
+        if u64::from(interval.first) < least || interval.last < interval.first {
+            return false;
+        }
+        least = u64::from(interval.last) + 2;
+    }
+    true
+}
+
 // Returns the nonempty intervals, sorted by `first`.
 fn sorted(alloc: Global, intervals: &[Interval]) -> Result<Vec<Interval>, AllocError>
     ensures hold { IfOk result (λ v. All (λ i. i.first ≤ i.last) v.items) }
@@ -128,7 +147,7 @@ fn sorted(alloc: Global, intervals: &[Interval]) -> Result<Vec<Interval>, AllocE
 fn holding(alloc: Global, intervals: &[Interval]) -> Result<Vec<Interval>, AllocError>
     ensures { IfOk result (λ v. v.items ≡ filter is_interval_nonempty intervals.now) }
 {
-    let mut holding = Vec::new(alloc);
+    let mut holding = Vec::with_capacity(alloc, intervals.len())?;
     for interval in intervals {
         if interval.first <= interval.last {
             holding.push(*interval)?;

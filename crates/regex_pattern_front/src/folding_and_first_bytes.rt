@@ -67,13 +67,17 @@ pub fn expand_code_point(
     }
 }
 
+/// The maximum number of code points with the same fold.
+const MOST_WITH_FOLD: usize = 3;
+
 // Returns all code points with this fold, in increasing order.
 fn code_points_with_fold(alloc: Global, folded: u32, unicode: bool) -> Result<Vec<u32>, AllocError>
     ensures { IfOk result (λ members. members.items ≡ code_points_with_fold unicode folded) }
 {
     let upper = to_ascii_uppercase(folded);
     let lower = to_ascii_lowercase(folded);
-    let mut members = vec![in alloc; upper]?;
+    let mut members = Vec::with_capacity(alloc, MOST_WITH_FOLD)?;
+    members.push(upper)?;
     if lower != upper {
         members.push(lower)?;
     }

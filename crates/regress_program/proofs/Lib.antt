@@ -33,7 +33,6 @@ pub mod LeapOpsLemmas
 pub mod LookbehindFilterLemmas
 pub mod LookaheadAndExitLemmas
 pub mod MustIterateChecksLemmas
-mod AsciiBitmapEquality
 mod OpTableEntryLemmas
 mod ClassReadLengthsLemmas
 mod IntervalReadLengthLemmas

@@ -12,6 +12,8 @@ use Rattle.regress_program.specs.declared.required_prefix_types.RequiredUnitAndO
 use Rattle.regress_program.specs.declared.required_prefix_types.Literal.{Literal}
 use Rattle.regress_program.specs.declared.required_prefix_prefilters.FirstUnitsPrefilter.{FirstUnitsPrefilter}
 use Rattle.regress_program.specs.declared.required_prefix_prefilters.LiteralPrefilter.{LiteralPrefilter}
+use Rattle.regress_program.specs.declared.required_prefix_prefilters.OtherPrefilter.{OtherPrefilter}
+use Rattle.regress_program.specs.declared.required_prefix_prefilters.OtherPrefilter.TheVariants as other
 use Rattle.regress_program.specs.declared.up_to_three_units.UpToThreeUnits.{UpToThreeUnits}
 use Rattle.regress_program.specs.ListedUnits.{ListsKeysThatPass}
 use Rattle.regress_program.specs.TableKeysOfUnits.{key, is_16_bit_encoding}
@@ -91,16 +93,21 @@ pub record IsLiteralPrefilterOfPrefix (prefix : Prefix) (known : LiteralPrefilte
   pub rare : IfSome known.rare (IsOnlyUnitAllowedAtPosition prefix)
   pub probes : IfSome known.probes (ProbesPassPrefix prefix)
 
--- The first units are right for the prefix, and so are the literal and the probes, if any.
-pub record IsFirstUnitsPrefilterOfPrefix (prefix : Prefix) (first : FirstUnitsPrefilter) : Type 0 where
-  pub units : ListsFirstUnits prefix first.units
-  pub literal : IfSome first.literal (IsLiteralForcedByPrefix prefix)
-  pub probes : IfSome first.probes (ProbesPassPrefix prefix)
+-- What is searched for where a text has many of the first units is right for the prefix. Only probes occur for texts
+-- of 16-bit units.
+abbrev pub IsOtherPrefilterOfPrefix : (wide : Bool) → Prefix → OtherPrefilter → Type 0
+IsOtherPrefilterOfPrefix wide prefix (other.Literal literal) = (wide ≡ false) × IsLiteralForcedByPrefix prefix literal
+IsOtherPrefilterOfPrefix wide prefix (other.Probes probes) = ProbesPassPrefix prefix probes
+IsOtherPrefilterOfPrefix wide prefix other.Units = wide ≡ false
 
--- The prefilter is right for the prefix. Only probes occur for texts of 16-bit units.
+-- The first units are right for the prefix, and so is what else is searched for.
+pub record IsFirstUnitsPrefilterOfPrefix (wide : Bool) (prefix : Prefix) (first : FirstUnitsPrefilter) : Type 0 where
+  pub units : ListsFirstUnits prefix first.units
+  pub otherwise : IsOtherPrefilterOfPrefix wide prefix first.otherwise
+
+-- The prefilter is right for the prefix. Only first units and probes occur for texts of 16-bit units.
 abbrev pub IsPrefilterOfPrefix : (wide : Bool) → Prefix → RequiredPrefixPrefilter → Type 0
 IsPrefilterOfPrefix wide prefix filter.Absent = wide ≡ false
 IsPrefilterOfPrefix wide prefix (filter.ByLiteral known) = (wide ≡ false) × IsLiteralPrefilterOfPrefix prefix known
-IsPrefilterOfPrefix wide prefix (filter.ByFirstUnits first) =
-    (wide ≡ false) × IsFirstUnitsPrefilterOfPrefix prefix first
+IsPrefilterOfPrefix wide prefix (filter.ByFirstUnits first) = IsFirstUnitsPrefilterOfPrefix wide prefix first
 IsPrefilterOfPrefix wide prefix (filter.Probes probes) = ProbesPassPrefix prefix probes

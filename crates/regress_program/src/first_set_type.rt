@@ -1,4 +1,6 @@
 //! First sets: which characters may come next, by the keys of their first units.
+//!
+//! Functions that return a set are inlined, because each call would clear and copy the whole set.
 
 ghost use Rattle.std.specs.Prelude.{◌≡◌, ◌<◌, ◌↔◌, ◌&&◌, ◌||◌, ◌==◌, ℕ, Bool, Option, None, true, false, not, slice_index_or};
 ghost use Rattle.regex_meaning.specs.CodeUnits.{Encoding};
@@ -23,6 +25,7 @@ pub struct FirstSet {
 impl FirstSet {
     /// Returns the set of all characters and the right end. In bytes, it contains only keys of lead
     /// bytes.
+    #[inline(always)]
     pub(crate) fn anything(units: UnitWidth) -> Self
         ensures all { (e : Encoding) → is_16_bit_encoding e ≡ is_16_bit_width units → (next : Option ℕ)
             → IsCharOrEnd e next → allows_next e (unit_table_of_set result) next ≡ true }
@@ -35,6 +38,7 @@ impl FirstSet {
     }
 
     /// Returns the set of all keys and the right end.
+    #[inline(always)]
     pub(crate) fn full() -> Self
         ensures { TableAllowsAll (unit_table_of_set result) }
     {
@@ -65,6 +69,7 @@ impl FirstSet {
     }
 
     /// Returns the empty set.
+    #[inline(always)]
     pub(crate) fn nothing() -> Self
         ensures keys { (k : ℕ) → k < 256 → (unit_table_of_set result).keys k ≡ false }
         ensures end { result.end ≡ false }
@@ -76,6 +81,7 @@ impl FirstSet {
     }
 
     /// Returns the set with one more key.
+    #[inline(always)]
     pub(crate) fn with(self, key: usize) -> Self
         requires { key < 256 }
         ensures keys { (k : ℕ) → (unit_table_of_set result).keys k ≡ ((unit_table_of_set self).keys k || k == key) }
@@ -103,6 +109,7 @@ impl FirstSet {
     }
 
     /// Returns the keys of characters that a class may accept.
+    #[inline(always)]
     pub(crate) fn first_keys_of_class(class: &Class) -> Self
         ensures keys { (k : ℕ) → k < 256 → (unit_table_of_set result).keys k
             ≡ not (slice_index_or class.now.steps k 0 == 0) }
@@ -116,6 +123,7 @@ impl FirstSet {
     }
 
     /// Returns the union of both sets.
+    #[inline(always)]
     pub(crate) fn or(&self, other: &FirstSet) -> Self
         ensures keys { (k : ℕ) → (unit_table_of_set result).keys k
             ≡ ((unit_table_of_set self.now).keys k || (unit_table_of_set other.now).keys k) }
@@ -132,6 +140,7 @@ impl FirstSet {
     }
 
     /// Returns the intersection of both sets.
+    #[inline(always)]
     pub(crate) fn and(&self, other: &FirstSet) -> Self
         ensures keys { (k : ℕ) → (unit_table_of_set result).keys k
             ≡ ((unit_table_of_set self.now).keys k && (unit_table_of_set other.now).keys k) }
@@ -159,6 +168,7 @@ impl FirstSet {
     }
 
     /// Checks whether the other set is a subset of this one.
+    #[inline(always)]
     pub(crate) fn is_superset_of(&self, other: &FirstSet) -> bool
         ensures { (result ≡ true) ↔ IsSubtable (unit_table_of_set other.now) (unit_table_of_set self.now) }
     {

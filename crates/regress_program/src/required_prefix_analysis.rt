@@ -80,10 +80,11 @@ impl Prefix {
     fn add_prefix(&mut self, behind: &Prefix)
         ensures { ExtendsPrefix self.old behind.now.len (units_allowed_by_prefix behind.now) self.new }
     {
+        let len = self.len;
         for key in 0..KEYS {
-            self.masks[key] = join_masks(self.masks[key], self.len, behind.masks[key]);
+            self.masks[key] = join_masks(self.masks[key], len, behind.masks[key]);
         }
-        self.len = (self.len + behind.len).min(MOST);
+        self.len = (len + behind.len).min(MOST);
     }
 
     // Makes this prefix the union of both.

@@ -1,6 +1,6 @@
 //! Prefilters: what is searched for before the units of a required prefix are checked.
 
-ghost use Rattle.std.specs.Prelude.{◌≡◌, ◌<◌, ◌≤◌, ◌↔◌, ℕ, true, IsTrue, IfSome};
+ghost use Rattle.std.specs.Prelude.{◌≡◌, ◌<◌, ◌≤◌, ◌↔◌, ℕ, true, false, IsTrue, IfSome};
 ghost use Rattle.regress_program.specs.PrefixesAndPrefilters.{units_allowed_by_prefix, unit_passes_probe, IsOnlyUnitAllowedAtPosition, IsLiteralForcedByPrefix, ProbePassesPrefix, ProbesPassPrefix};
 ghost use Rattle.regress_program.specs.PrefixesAndPrefilters.{IsPrefilterOfPrefix, ListsFirstUnits};
 ghost use Rattle.regress_program.specs.TableKeysOfUnits.{is_16_bit_width};
@@ -40,12 +40,32 @@ pub struct LiteralPrefilter {
 }
 
 /// The units with which a prefix begins, if they are few and rare. Where a text has many of them,
-/// the literal is searched for instead, or else the probes.
+/// something else is searched for.
 #[derive(Clone, Copy)]
 pub struct FirstUnitsPrefilter {
     pub units: UpToThreeUnits,
-    pub literal: Option<Literal>,
-    pub probes: Option<[MaskedUnitProbe; 4]>,
+    pub otherwise: OtherPrefilter,
+}
+
+/// What is searched for where a text has many of the first units of a prefix.
+#[derive(Clone, Copy)]
+pub enum OtherPrefilter {
+    /// A literal, in bytes.
+    Literal(Literal),
+    /// Bits of some units.
+    Probes([MaskedUnitProbe; 4]),
+    /// All units of the prefix, in bytes.
+    Units,
+}
+
+impl OtherPrefilter {
+    /// Returns the literal, if one is searched for.
+    pub fn as_literal(&self) -> Option<&Literal> {
+        match self {
+            OtherPrefilter::Literal(literal) => Some(literal),
+            _ => None,
+        }
+    }
 }
 
 /// What is searched for before the units of a required prefix are checked.
@@ -55,7 +75,7 @@ pub enum RequiredPrefixPrefilter {
     Absent,
     /// A literal, in bytes.
     ByLiteral(LiteralPrefilter),
-    /// The first units, in bytes.
+    /// The first units.
     ByFirstUnits(FirstUnitsPrefilter),
     /// Bits of some units.
     Probes([MaskedUnitProbe; 4]),
@@ -146,39 +166,70 @@ impl CommonBitsOfUnits {
 }
 
 impl Prefix {
-    /// Chooses the prefilter: for texts in bytes a literal, if there is one, and otherwise probes,
-    /// if few positions pass them. Not inlined, because most patterns have no prefilter, and its
-    /// buffers would be cleared in the caller.
+    /// Chooses the prefilter: first units that are few and rare, or for texts in bytes a literal,
+    /// if there is one, and otherwise probes, if few positions pass them. Not inlined, because most
+    /// patterns have no prefilter, and its buffers would be cleared in the caller.
     #[inline(never)]
     pub(crate) fn choose_prefilter(&self, units: UnitWidth) -> Option<RequiredPrefixPrefilter>
         ensures { IfSome result (IsPrefilterOfPrefix (is_16_bit_width units) self.now) }
     {
         let common_bits = self.common_bits();
         let probes = self.probes(&common_bits);
-        if let UnitWidth::Bytes = units {
-            let literal = self.literal(&common_bits);
-            if let Some(units) = self.rare_first_units(&common_bits, literal.is_some()) {
-                return Some(RequiredPrefixPrefilter::ByFirstUnits(FirstUnitsPrefilter {
-                    units,
-                    literal,
-                    probes,
-                }));
-            }
-            if let Some(literal) = literal {
-                let rare = self.rare(&common_bits);
-                return Some(RequiredPrefixPrefilter::ByLiteral(LiteralPrefilter {
-                    literal,
-                    rare,
-                    probes,
-                }));
-            }
-        }
-        if let Some(probes) = probes {
-            return Some(RequiredPrefixPrefilter::Probes(probes));
-        }
         match units {
-            UnitWidth::Bytes => Some(RequiredPrefixPrefilter::Absent),
-            UnitWidth::Wide => None,
+            UnitWidth::Bytes => Some(self.choose_prefilter_in_bytes(&common_bits, probes)),
+            UnitWidth::Wide => Some(self.choose_prefilter_in_units(&common_bits, probes?)),
+        }
+    }
+
+    // Chooses the prefilter for texts in bytes.
+    fn choose_prefilter_in_bytes(
+        &self,
+        common_bits: &[CommonBitsOfUnits; 16],
+        probes: Option<[MaskedUnitProbe; 4]>,
+    ) -> RequiredPrefixPrefilter
+        requires { IfSome probes (ProbesPassPrefix self.now) }
+        ensures { IsPrefilterOfPrefix false self.now result }
+    {
+        let literal = self.literal(common_bits);
+        if let Some(units) = self.rare_first_units(common_bits, literal.is_some()) {
+            let otherwise = match (literal, probes) {
+                (Some(literal), _) => OtherPrefilter::Literal(literal),
+                (None, Some(probes)) => OtherPrefilter::Probes(probes),
+                (None, None) => OtherPrefilter::Units,
+            };
+            return RequiredPrefixPrefilter::ByFirstUnits(FirstUnitsPrefilter { units, otherwise });
+        }
+        if let Some(literal) = literal {
+            let rare = self.rare(common_bits);
+            return RequiredPrefixPrefilter::ByLiteral(LiteralPrefilter {
+                literal,
+                rare,
+                probes,
+            });
+        }
+        match probes {
+            Some(probes) => RequiredPrefixPrefilter::Probes(probes),
+            None => RequiredPrefixPrefilter::Absent,
+        }
+    }
+
+    // Chooses the prefilter for texts of 16-bit units.
+    fn choose_prefilter_in_units(
+        &self,
+        common_bits: &[CommonBitsOfUnits; 16],
+        probes: [MaskedUnitProbe; 4],
+    ) -> RequiredPrefixPrefilter
+        requires { ProbesPassPrefix self.now probes }
+        ensures { IsPrefilterOfPrefix true self.now result }
+    {
+        let has_literal = self.literal(common_bits).is_some();
+        match self.rare_first_units(common_bits, has_literal) {
+            Some(units) => {
+                let otherwise = OtherPrefilter::Probes(probes);
+                let first = FirstUnitsPrefilter { units, otherwise };
+                RequiredPrefixPrefilter::ByFirstUnits(first)
+            }
+            None => RequiredPrefixPrefilter::Probes(probes),
         }
     }
 

@@ -106,6 +106,11 @@ key-small true u less = elim (cases_lt u 128) [
   | inr high ↦ subst (λ (b : Bool). (if b then u else 128 + u / 512) < 256) (sym (le-ltb u 128 high)) (omega (arith, less))
 ]
 
+-- A unit below 128 is its own key.
+pub key-of-low : (wide : Bool) (u : ℕ) → u < 128 → key wide u ≡ u
+key-of-low false u low = refl
+key-of-low true u low = ap (λ (b : Bool). if b then u else 128 + u / 512) (lt-ltb u 128 low)
+
 pub key-own : (wide : Bool) (u : ℕ) → key wide u < 128 → u ≡ key wide u
 key-own false u low = refl
 key-own true u low = elim (cases_lt u 128) [

@@ -29,7 +29,7 @@ use Rattle.regress_search.proofs.NextCharByUnit.{unit-fits}
 use Rattle.regress_search.proofs.PrefixUnitLemmas.{own-key, fits-past, fits-behind}
 use Rattle.regress_program.specs.declared.required_prefix_types.Prefix.{Prefix}
 use Rattle.regress_program.specs.PrefixesAndPrefilters.{units_allowed_by_prefix, prefix_allows_units_at, PrefixAllowsOnlyAsciiFirst, ListsFirstUnits}
-use Rattle.regress_search.proofs.AsciiUnitLemmas.{fit-boundary, fit-unit}
+use Rattle.regress_search.proofs.AsciiUnitLemmas.{fit-boundary, fit-unit, key-of-low}
 use Rattle.regress_search.specs.StartSearch.{table_allows_unit_or_end_at, TableAllowsNoBoundary, IsFirstAllowedBoundary, IsFirstBoundaryWhere, AllowsOnlyLeadBytes, SkipsNoBoundary}
 use Rattle.regress_program.specs.declared.up_to_three_units.UpToThreeUnits.{UpToThreeUnits}
 use Rattle.regress_program.specs.ListedUnits.{is_listed}
@@ -394,7 +394,7 @@ module _ (w : SearchInput) (prefix : Prefix) (from : ℕ) where
     ],
   )
 
-  module _ (has : HasUnitsForTables w.encoding w.text) (bytes : is_16_bit_encoding w.encoding ≡ false) (some : 0 < prefix.len) (ascii : PrefixAllowsOnlyAsciiFirst prefix)
+  module _ (has : HasUnitsForTables w.encoding w.text) (some : 0 < prefix.len) (ascii : PrefixAllowsOnlyAsciiFirst prefix)
       (few : UpToThreeUnits) (lists : ListsFirstUnits prefix few) where
     -- Where the prefix fits, one of its first units occurs.
     first-occurs : (at : ℕ) → prefix_fits_at w prefix at ≡ true → table_allows_unit_or_end_at w (table_of_listed_units few) at ≡ true
@@ -403,7 +403,7 @@ module _ (w : SearchInput) (prefix : Prefix) (from : ℕ) where
         let low = one.2 in
         let there : slice_get (text_units_in_encoding w.encoding w.text) at ≡ Some one.0 = ap (slice_get (text_units_in_encoding w.encoding w.text)) (let z : at ≡ at + 0 = omega arith in z) ∙ one.1 in
         let keyed : unit_key_at w.encoding (key (is_16_bit_encoding w.encoding)) w.text at ≡ Some one.0 =
-        ap (option_map (key (is_16_bit_encoding w.encoding))) there ∙ ap (λ (wide : Bool). Some (key wide one.0)) bytes in
+        ap (option_map (key (is_16_bit_encoding w.encoding))) there ∙ ap (λ (k : ℕ). Some k) (key-of-low (is_16_bit_encoding w.encoding) one.0 low) in
         ap (table_allows_key_or_end (table_of_listed_units few)) keyed ∙ lists.all one.0 (omega (arith, low)) one.3
 
     -- If the units are absent between two offsets, the prefix does not fit there.

@@ -123,7 +123,7 @@ pub(crate) fn do_bits_identify_units(few: UpToThreeUnits) -> bool
 fn bits_identify_key(key: u8) -> bool
     ensures { result ≡ spec_bits_identify_key key }
 {
-    key != 128 && key != 238 && key != 239
+    key < 128 || (key > 128 && key != 238 && key != 239)
 }
 
 // Returns the offset of the first unit in `from..to` with these bits.
@@ -161,8 +161,9 @@ fn first_unit_of_two_kinds<W: SearchContext>(
         IsFirstPassingOffset (λ at. is_some_and (input_unit_at w at) (has_bits a.mask a.bits)
         || is_some_and (input_unit_at w at) (has_bits b.mask b.bits)) from to result }
 {
-    if a.mask == 0xFFFF {
+    if b.mask == 0xFFFF && a.mask == 0xFFFF {
         let a = SingleUnitTest { unit: a.bits };
+        let b = SingleUnitTest { unit: b.bits };
         first_by_marks(context, &Either { a, b }, from, to)
     } else {
         first_by_marks(context, &Either { a, b }, from, to)

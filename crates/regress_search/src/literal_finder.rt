@@ -51,7 +51,7 @@ fn known_start_literal(start: &CandidateStarts) -> Option<&[u8]> {
     };
     let literal = match prefilter {
         RequiredPrefixPrefilter::ByLiteral(known) => &known.literal,
-        RequiredPrefixPrefilter::ByFirstUnits(first) => first.literal.as_ref()?,
+        RequiredPrefixPrefilter::ByFirstUnits(first) => first.otherwise.as_literal()?,
         _ => return None,
     };
     literal.units.get(..literal.len)

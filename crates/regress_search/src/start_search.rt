@@ -6,7 +6,7 @@ ghost use Rattle.regex_meaning.specs.Text.{rightwards};
 ghost use Rattle.regress_input.specs.CharAndByteReadsFromOffset.{is_byte_encoding, past};
 ghost use Rattle.regress_program.specs.LookbehindFilter.{FilterKeysAreLeadBytes, allows_start};
 ghost use Rattle.regress_program.specs.PrefixesAndPrefilters.{PrefixAllowsOnlyAsciiFirst, IsLiteralForcedByPrefix, IsOnlyUnitAllowedAtPosition, IsLiteralPrefilterOfPrefix, IsPrefilterOfPrefix};
-ghost use Rattle.regress_program.specs.PrefixesAndPrefilters.{ListsFirstUnits, IsFirstUnitsPrefilterOfPrefix};
+ghost use Rattle.regress_program.specs.PrefixesAndPrefilters.{ListsFirstUnits, IsFirstUnitsPrefilterOfPrefix, IsOtherPrefilterOfPrefix};
 ghost use Rattle.regress_program.specs.TableKeysOfUnits.{is_16_bit_encoding};
 ghost use Rattle.regress_program.specs.Plans.{unit_table_of_set_number};
 ghost use Rattle.regress_machine.specs.FirstSetTables.{AllowedNextKeys};
@@ -31,7 +31,7 @@ use regress_program::first_set_type::FirstSet;
 use regress_program::lookbehind_filter::PrecedingCharFilter;
 use regress_program::plan::CandidateStarts;
 use regress_program::required_prefix_prefilters::{
-    FirstUnitsPrefilter, LiteralPrefilter, RequiredPrefixPrefilter,
+    FirstUnitsPrefilter, LiteralPrefilter, OtherPrefilter, RequiredPrefixPrefilter,
 };
 use regress_program::required_prefix_types::{Literal, Prefix, RequiredUnitAndOffset};
 use regress_program::up_to_three_units::UpToThreeUnits;
@@ -266,7 +266,6 @@ fn search_for_first_units<W: SearchContext>(
     from: usize,
 ) -> FirstUnitsSearch
     requires at { IsBoundary (W.searching context.now).text from }
-    requires bytes { is_16_bit_encoding (W.searching context.now).encoding ≡ false }
     requires prefix { (0 < prefix.now.len) × PrefixAllowsOnlyAsciiFirst prefix.now }
     requires few { ListsFirstUnits prefix.now few }
     ensures { IsFirstUnitsSearch (W.searching context.now) prefix.now from result }
@@ -294,40 +293,43 @@ fn next_prefix_by_first_units<W: SearchContext>(
     from: usize,
 ) -> Option<usize>
     requires at { IsBoundary (W.searching context.now).text from }
-    requires bytes { is_16_bit_encoding (W.searching context.now).encoding ≡ false }
     requires prefix { (0 < prefix.now.len) × PrefixAllowsOnlyAsciiFirst prefix.now }
-    requires first { IsFirstUnitsPrefilterOfPrefix prefix.now first.now }
+    requires first { IsFirstUnitsPrefilterOfPrefix (is_16_bit_encoding (W.searching context.now).encoding) prefix.now
+        first.now }
     ensures { IsFirstPrefixFit (W.searching context.now) prefix.now from result }
 {
     match search_for_first_units(context, prefix, first.units, from) {
         FirstUnitsSearch::Fits(at) => Some(at),
         FirstUnitsSearch::Nowhere => None,
-        FirstUnitsSearch::GaveUp(at) => next_prefix_by_other_units(context, prefix, first, at),
+        FirstUnitsSearch::GaveUp(at) => {
+            next_prefix_by_other_units(context, prefix, &first.otherwise, at)
+        }
     }
 }
 
-// Does what `next_prefix_by_first_units` does, by a search for the literal if there is one, and
-// otherwise for probes.
+// Does what `next_prefix_by_first_units` does, by a search for something else.
 #[inline(never)]
 fn next_prefix_by_other_units<W: SearchContext>(
     context: &W,
     prefix: &Prefix,
-    first: &FirstUnitsPrefilter,
+    otherwise: &OtherPrefilter,
     from: usize,
 ) -> Option<usize>
     requires at { IsBoundary (W.searching context.now).text from }
-    requires bytes { is_16_bit_encoding (W.searching context.now).encoding ≡ false }
     requires prefix { (0 < prefix.now.len) × PrefixAllowsOnlyAsciiFirst prefix.now }
-    requires first { IsFirstUnitsPrefilterOfPrefix prefix.now first.now }
+    requires otherwise { IsOtherPrefilterOfPrefix (is_16_bit_encoding (W.searching context.now).encoding) prefix.now
+        otherwise.now }
     ensures { IsFirstPrefixFit (W.searching context.now) prefix.now from result }
 {
-    if let Some(literal) = &first.literal {
-        return next_prefix_by_literal(context, prefix, literal, from);
+    match otherwise {
+        OtherPrefilter::Literal(literal) => next_prefix_by_literal(context, prefix, literal, from),
+        OtherPrefilter::Probes(probes) => next_by_bit_probes(
+            context,
+            PrefixAndBitProbes { prefix, probes },
+            from,
+        ),
+        OtherPrefilter::Units => next_prefix_match(context, prefix, None, from),
     }
-    if let Some(probes) = &first.probes {
-        return next_by_bit_probes(context, PrefixAndBitProbes { prefix, probes }, from);
-    }
-    next_prefix_match(context, prefix, None, from)
 }
 
 // Does what `next_prefix_match` does, for a prefix whose units are known. In a long text, it

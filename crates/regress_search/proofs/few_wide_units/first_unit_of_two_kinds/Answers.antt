@@ -8,6 +8,6 @@ use Rattle.regress_search.proofs.few_wide_units.first_unit_of_two_kinds.Goals as
 pub returns-then-a-eq65535 : goal.returns-then-a-eq65535
 returns-then-a-eq65535 g c =
     let w = g.W.SearchContext.searching c.args.context.now in
-    let P : ℕ → Type 0 = λ mask. IsFirstPassingOffset (λ at. is_some_and (input_unit_at w at) (has_bits mask c.args.a.bits)
-    || is_some_and (input_unit_at w at) (has_bits c.args.b.mask c.args.b.bits)) c.args.from c.args.to c.first_by_marks.result in
-    subst P (sym c.if-a-eq65535.true) c.first_by_marks.ensures
+    let P : ℕ → ℕ → Type 0 = λ first second. IsFirstPassingOffset (λ at. is_some_and (input_unit_at w at) (has_bits first c.args.a.bits)
+    || is_some_and (input_unit_at w at) (has_bits second c.args.b.bits)) c.args.from c.args.to c.first_by_marks.result in
+    subst (λ first. P first c.args.b.mask) (sym c.if-a-eq65535.true) (subst (P 0xFFFF) (sym c.if-b-eq65535.true) c.first_by_marks.ensures)

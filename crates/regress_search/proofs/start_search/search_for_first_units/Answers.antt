@@ -13,13 +13,13 @@ next_of_few_units-requires-clause-leads g c =
 
 pub returns-in_default : goal.returns-in_default
 returns-in_default g c =
-    misses-all (g.W.SearchContext.searching c.args.context.now) c.args.prefix.now c.args.from (g.met.W.SearchContext.has_units c.args.context.now) c.requires.bytes c.requires.prefix.0 c.requires.prefix.1 c.args.few c.requires.few
+    misses-all (g.W.SearchContext.searching c.args.context.now) c.args.prefix.now c.args.from (g.met.W.SearchContext.has_units c.args.context.now) c.requires.prefix.0 c.requires.prefix.1 c.args.few c.requires.few
     c.misses.at c.misses.invariant c.in_default.ensures
 
 pub returns-then-prefix_fits_inlined : goal.returns-then-prefix_fits_inlined
 returns-then-prefix_fits_inlined g c =
     let s =
-    misses-before (g.W.SearchContext.searching c.args.context.now) c.args.prefix.now c.args.from (g.met.W.SearchContext.has_units c.args.context.now) c.requires.bytes c.requires.prefix.0 c.requires.prefix.1 c.args.few c.requires.few
+    misses-before (g.W.SearchContext.searching c.args.context.now) c.args.prefix.now c.args.from (g.met.W.SearchContext.has_units c.args.context.now) c.requires.prefix.0 c.requires.prefix.1 c.args.few c.requires.few
     c.misses.at c.in-Some.hit c.misses.invariant c.in-Some.ensures in
     (s.boundary, s.ahead, sym c.prefix_fits_inlined.ensures ∙ c.if-prefix_fits_inlined.true, s.none)
 
@@ -30,7 +30,7 @@ offset_after_char-at-requires-clause-inside g c =
 pub misses-preserved : goal.misses-preserved
 misses-preserved g c =
     let s =
-    misses-before (g.W.SearchContext.searching c.args.context.now) c.args.prefix.now c.args.from (g.met.W.SearchContext.has_units c.args.context.now) c.requires.bytes c.requires.prefix.0 c.requires.prefix.1 c.args.few c.requires.few
+    misses-before (g.W.SearchContext.searching c.args.context.now) c.args.prefix.now c.args.from (g.met.W.SearchContext.has_units c.args.context.now) c.requires.prefix.0 c.requires.prefix.1 c.args.few c.requires.few
     c.misses.at c.in-Some.hit c.misses.invariant c.in-Some.ensures in
     misses-go (g.W.SearchContext.searching c.args.context.now) c.args.prefix.now c.args.from (g.met.W.SearchContext.is_text c.args.context.now) c.in-Some.hit c.offset_after_char-at.result
     s (sym c.prefix_fits_inlined.ensures ∙ c.if-prefix_fits_inlined.false) c.offset_after_char-at.ensures

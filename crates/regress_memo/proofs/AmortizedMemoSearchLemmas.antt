@@ -1,15 +1,17 @@
 -- Each step of a memoized search keeps its threads keyed, and potentials or key costs cover it.
-use Rattle.std.proofs.Common.{◌≡◌, ◌≤◌, ◌<◌, ◌^◌, ℕ, ◌+◌, Bool, true, false, List, [], ◌∷◌, ◌++◌, length, Option, Some, None, refl, sym, ap, ◌∙◌, subst, arith, append_assoc, if◌then◌else◌}
+use Rattle.std.proofs.Common.{◌≡◌, ◌≤◌, ◌<◌, ◌^◌, ℕ, ◌+◌, Bool, true, false, List, [], ◌∷◌, ◌++◌, Option, Some, None}
+use Rattle.std.proofs.Common.{refl, sym, ap, ◌∙◌, subst, arith, append_assoc, if◌then◌else◌, sum_by, slice_get}
 use Rattle.std.proofs.lemmas.List.{length-replicate}
 use Rattle.regex_meaning.specs.Laws.{Each}
 use Rattle.regex_meaning.proofs.EachElementLemmas.{Each-append}
 use Rattle.regex_meaning.specs.Text.{Text, Direction, rightwards}
 use Rattle.regex_meaning.specs.CodeUnitOffsets.{HasRisingPlaceOffsets, units}
-use Rattle.regex_meaning.specs.CompilationRelation.{Program}
+use Rattle.regex_meaning.specs.CompilationRelation.{Program, Insn, Lookahead, Lookbehind}
 use Rattle.regress_machine.specs.SearchFindsFirstOutcomeAtPlace.{state_before_first_insn}
-use Rattle.regress_machine.specs.Machine.{State, Thread, running, waiting, goes, act}
+use Rattle.regress_machine.specs.Machine.{State, Thread, running, waiting, goes, Found, after_lookaround, state_with_ip, state_at_next_ip, act, search}
 use Rattle.regress_memo.specs.Liveness.{Agree, outermost, ReadsAsBytes}
-use Rattle.regress_memo.specs.ThreadBisimulation.{AlikeThreads}
+use Rattle.regress_memo.specs.ThreadBisimulation.{AlikeThreads, AlikeAnswers}
+use Rattle.regress_memo.specs.SkippedLookarounds.{LookaroundInsn, lookaround_at}
 use Rattle.regress_memo.specs.LoopDataKeyCodes.{HasSlotsOfProgram, plan_code, key_of}
 use Rattle.regress_memo.specs.DistinctLists.{IsNew}
 use Rattle.regress_memo.specs.PreservedSlotCounts.{state_of_thread}
@@ -18,13 +20,18 @@ use Rattle.regress_memo.specs.MemoPlanChecksAndGuarantees.{RecordsNewKey, plan_s
 use Rattle.regress_memo.specs.MemoSearch.{Key, Entry, one_thread, key_record, thread_entries, threads_in, at_first, gives, reaches}
 use Rattle.regress_memo.specs.ThreadPotentials.{is_one_of}
 use Rattle.regress_memo.proofs.CappedCharLoopLemmas.{others-paid}
-use Rattle.regress_memo.proofs.PreservedSlotLemmas.{states-stay}
+use Rattle.regress_memo.proofs.PreservedSlotLemmas.{states-stay, end-has-slots}
+use Rattle.regress_memo.proofs.LivenessLemmas.{threads-alike}
+use Rattle.regress_memo.proofs.SkippedLookaroundLemmas.{asks-there}
+use Rattle.regress_memo.proofs.ClosedLookaroundLemmas.{look-weighs}
 use Rattle.regress_memo.proofs.SharedMemoLookaroundLemmas.{soundness-stays}
-use Rattle.regress_memo.proofs.StepCostLemmas.{turns-paid}
+use Rattle.regress_memo.proofs.StepCostLemmas.{turns-paid, tries-weigh, one-weighs}
 use Rattle.regress_memo.proofs.MemoPlanLemmas.{plans-take}
-use Rattle.regress_memo.proofs.MemoSearchLemmas.{threads-tries, threads-joined, turns-right}
+use Rattle.regress_memo.proofs.MemoSearchLemmas.{threads-tries, threads-joined, turns-right, keys-tries}
 use Rattle.regress_memo.specs.declared.analysis_result.MemoAnalysis.{MemoAnalysis}
-use Rattle.regress_memo.specs.UnreachedCharLoopBodies.{IsNotLoopBody}
+use Rattle.regress_memo.specs.UnreachedCharLoopBodies.{IsNotLoopBody, FlowsPastBodies}
+use Rattle.regress_memo.specs.Successors.{successors_of_insn_if_any}
+use Rattle.regress_memo.specs.AnalysisChecks.{IsConsistentAt}
 use Rattle.regress_memo.specs.WorkBound.{IsWorkBounded, initial_threads}
 use Rattle.regress_memo.specs.AnalysisAsPotentials.{insn_analysis_of, analysis_as_liveness, key_code_questions_of, recorded, potentials_of, key_cost_of, insn_direction}
 use Rattle.regress_memo.specs.CheckedAnalysis.{IsAnalysisOf, ip_of, IsMemoPlanForText}
@@ -82,6 +89,24 @@ module _ (program : Program) (text : Text) (t : MemoAnalysis) (d : Direction) wh
 
   keyed-tries : (ts : List Thread) → AreKeyed program text t d ts → AreKeyed program text t d (threads_in (thread_entries ts))
   keyed-tries ts h = subst (AreKeyed program text t d) (sym (threads-tries ts)) h
+
+-- The instruction after a lookaround is searched in the same direction, and is not the body of a char loop.
+record LookFlows (program : Program) (t : MemoAnalysis) (ip : ℕ) (l : LookaroundInsn) : Type 0 where
+  way : insn_direction t l.continuation ≡ insn_direction t ip
+  no_body : IsNotLoopBody program l.continuation
+
+look-flows : (program : Program) (t : MemoAnalysis) → IsAnalysisOf program t → ((ip : ℕ) → FlowsPastBodies program (successors_of_insn_if_any ip (slice_get program.insns ip)) ip)
+    → (ip : ℕ) (l : LookaroundInsn) → lookaround_at (slice_get program.insns ip) ≡ Some l → LookFlows program t ip l
+look-flows program t of past ip l is = by (slice_get program.insns ip) is (of.steps ip) (past ip)
+  where
+    same : (a : LookaroundInsn) → Some a ≡ Some l → LookFlows program t ip a → LookFlows program t ip l
+    same a e h = subst (LookFlows program t ip) (let q : a ≡ l = cc in q) h
+
+    by : (x : Option Insn) → lookaround_at x ≡ Some l → IsConsistentAt t program (successors_of_insn_if_any ip x) ip → FlowsPastBodies program (successors_of_insn_if_any ip x) ip
+        → LookFlows program t ip l
+    by (Some (Lookahead negate start_group end_group continuation)) e h p = same _ e (record { way = h.on.way; no_body = p.1 })
+    by (Some (Lookbehind negate start_group end_group continuation)) e h p = same _ e (record { way = h.on.way; no_body = p.1 })
+    by _ e h p = cc
 
 -- ---- Steps of keyed threads
 
@@ -150,11 +175,70 @@ module _ (program : Program) (t : MemoAnalysis) (of : IsAnalysisOf program t) (b
         keyed = h.keyed.1;
       }
 
+  -- ---- Lookarounds
+
+  module _ (s : State) (l : LookaroundInsn) (is : lookaround_at (slice_get program.insns s.ip) ≡ Some l) (turns : ℕ) (f : Found)
+      (e : search program text turns l.inner (running (state_at_next_ip s) ∷ []) ≡ Some f) where
+    abbrev behind : List Thread
+    behind = after_lookaround l.negate (state_with_ip l.continuation s) f.end
+
+    -- The thread that continues is sound, because the end of the contents is.
+    behind-sound : IsKeyed program text t d s → AlikeThreads (Agree (analysis_as_liveness t) (units text) outermost d) behind behind
+    behind-sound k =
+        let asked = (soundness-stays program text (analysis_as_liveness t) served.plan.liveness d).asks outermost l.inner l.negate s (state_at_next_ip s) (state_with_ip l.continuation s) k.sound
+        (asks-there program text d s l (slice_get program.insns s.ip) is) in
+        let both = threads-alike program text (analysis_as_liveness t) served.plan.liveness turns asked.world l.inner (running (state_at_next_ip s) ∷ []) (running (state_at_next_ip s) ∷ []) (asked.contents, tt) in
+        asked.behind f.end f.end (subst (λ o. AlikeAnswers (Agree (analysis_as_liveness t) (units text) asked.world l.inner) o o) e both).ends
+
+    abbrev Slotted : State → Type 0
+    Slotted = HasSlotsOfProgram program
+
+    behind-slotted : Slotted s → Each (λ u. Slotted (state_of_thread u)) behind
+    behind-slotted k = by l.negate f.end refl
+      where
+        its : Slotted (state_with_ip l.continuation s)
+        its = record { groups = k.groups; starts = k.starts; loops = k.loops }
+
+        by : (negate : Bool) (end : Option State) → f.end ≡ end → Each (λ u. Slotted (state_of_thread u)) (after_lookaround negate (state_with_ip l.continuation s) end)
+        by false None ended = tt
+        by true None ended = (its, tt)
+        by true (Some u) ended = tt
+        by false (Some u) ended =
+            let there = end-has-slots program text l.inner turns (state_at_next_ip s) u f (record { groups = k.groups; starts = k.starts; loops = k.loops }) e ended in
+            (record { groups = there.groups; starts = there.starts; loops = there.loops }, tt)
+
+    each-behind : (Good : ℕ → Type 0) → Good l.continuation → Each (λ u. Good (ip_of u)) behind
+    each-behind Good h = by l.negate f.end
+      where
+        by : (negate : Bool) (end : Option State) → Each (λ u. Good (ip_of u)) (after_lookaround negate (state_with_ip l.continuation s) end)
+        by false None = tt
+        by true None = (h, tt)
+        by true (Some u) = tt
+        by false (Some u) = (h, tt)
+
+    behind-keyed : IsKeyed program text t d s → AreKeyed program text t d behind
+    behind-keyed k =
+        let on = look-flows program t of bounded.past s.ip l is in
+        all-keyed program text t d behind (behind-slotted k.of) (behind-sound k) (each-behind (λ ip. insn_direction t ip ≡ d) (on.way ∙ k.way)) (each-behind (IsNotLoopBody program) on.no_body)
+
+    looked : Come work now (one_thread (running s) ∷ rest) → Come (work + (f.steps + 1)) now (thread_entries behind ++ rest)
+    looked h = record {
+      comes = gives work (f.steps + 1) now (one_thread (running s) ∷ []) (thread_entries behind) rest tt h.comes ((served.serves.looks d now s l is).searched turns f e)
+          (let w = potentials_of t in
+          let x = one-weighs program w (key_cost_of t) (recorded t) (one_thread (running s)) in
+          let y = tries-weigh program w (key_cost_of t) (recorded t) behind in
+          let none = ap (sum_by (λ (k : Key). key_cost_of t k.ip)) (keys-tries behind) in
+          let enough = look-weighs program t of bounded text s l is turns f e in
+          omega (arith, x, y, none, enough));
+      keyed = keyed-joined program text t d (thread_entries behind) rest (keyed-tries program text t d behind (behind-keyed h.keyed.0)) h.keyed.1;
+    }
+
   pub comes-on : StepsReachEntries program text t d memory first work now rest
   comes-on = record {
     turned = turned;
     recorded = with-record;
     known = known-fails;
+    looked = λ s l turns f is e h. looked s l is turns f e h;
     taken_up = λ s h. record {
       comes = gives work 1 now (one_thread (waiting s) ∷ []) (one_thread (running s) ∷ []) rest tt h.comes (served.serves.gives d now s).taken_up
           (turns-paid.threads program (potentials_of t) (key_cost_of t) (recorded t) of.paid text (plan_code (key_code_questions_of t)) d s).taken_up;

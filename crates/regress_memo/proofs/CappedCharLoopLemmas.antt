@@ -35,7 +35,7 @@ module _ (w : Potentials) (ip : ℕ) where
       let same : suc (length ss) * (w.at ip + 1) ≡ (1 + length ss) * (w.at ip + 1) = ap (λ n. n * (w.at ip + 1)) (omega arith) in
       omega (arith, a, l, here, m, same)
 
-  in-turn-weigh : (ss : List State) → Each (λ t. t.ip ≡ ip) ss → sum_by (potential_of w) (first_running_and_others_waiting ss) ≤ length ss * (w.at ip + 1)
+  pub in-turn-weigh : (ss : List State) → Each (λ t. t.ip ≡ ip) ss → sum_by (potential_of w) (first_running_and_others_waiting ss) ≤ length ss * (w.at ip + 1)
   in-turn-weigh [] h = omega arith
   in-turn-weigh (s ∷ ss) h =
       let a = sum_by-cons (potential_of w) (running s) (map waiting ss) in

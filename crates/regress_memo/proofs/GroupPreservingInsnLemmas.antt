@@ -14,10 +14,9 @@ use Rattle.regex_meaning.specs.CompilationRelation.{LoopAgain, ResetCaptureGroup
 use Rattle.regex_meaning.specs.CompilationRelation.{BeginCaptureGroup, EndCaptureGroup, BackRef, Lookahead, Lookbehind}
 use Rattle.regress_machine.specs.Machine.{State, Thread, running, waiting, Next, goes, scans, ends, asks, stuck, after_lookaround, state_with_ip, with_some, go}
 use Rattle.regress_machine.specs.Machine.{go_if, loop_again_effect, test_of, next_insn_at_place, offset_moved_in_direction, read_one, stay_if, read_group, char_loop_states, scan, act_on, act}
-use Rattle.regress_memo.specs.ThreadBisimulation.{AlikeThreads, AlikeEnds, AlikeAnswers, AlikeNext, IsBisimulation}
 use Rattle.regress_memo.specs.GroupPreservingInsns.{IsSilentAgain, IsSilentAt, AreGroupPreserving, InsnsKeepGroupsToEnd}
 use Rattle.regress_machine.proofs.StatesInEffects.{IsOfThread, IsOfNext, of-in_turn, of-with_some, of-go_if, of-map, of-loop_turn, of-again_at}
-use Rattle.regress_memo.proofs.ThreadBisimulationLemmas.{threads-end-alike}
+use Rattle.regress_memo.proofs.PropertiesOfSearchEnds.{good-end}
 
 module _ (silent : ℕ → Bool) (groups : Groups) (starts : List ℕ) (loops : ℕ) where
   -- A state is at a silent instruction, with the given groups, starts and number of loops.
@@ -99,46 +98,12 @@ module _ (silent : ℕ → Bool) (groups : Groups) (starts : List ℕ) (loops : 
     act-keeps (Some (Lookbehind negate start_group end_group continuation)) h = (record { at = h.0; has = k.has; began = k.began; many = k.many }, record { at = h.1; has = k.has; began = k.began; many = k.many })
     act-keeps o h = read-keeps (test_of program o) h
 
-  -- `Same` relates a state that keeps its groups to itself.
-  record Same (w : Bool) (d : Direction) (s t : State) : Type 0 where
-    keeps : Keeps s
-    is : s ≡ t
-
-  threads-same : (w : Bool) (d : Direction) (ts : List Thread) → Each KeepsIn ts → AlikeThreads (Same w d) ts ts
-  threads-same w d [] h = tt
-  threads-same w d (running s ∷ ts) h = (record { keeps = h.0; is = refl }, threads-same w d ts h.1)
-  threads-same w d (waiting s ∷ ts) h = (record { keeps = h.0; is = refl }, threads-same w d ts h.1)
-
-  resumed-same : (w : Bool) (d inner : Direction) (negate : Bool) (s : State) → Keeps s → (x y : Option State) → AlikeEnds (Same w inner) x y → AlikeThreads (Same w d) (after_lookaround negate s x) (after_lookaround negate s y)
-  resumed-same w d inner false s k None None h = tt
-  resumed-same w d inner true s k None None h = (record { keeps = k; is = refl }, tt)
-  resumed-same w d inner true s k (Some x) (Some y) h = tt
-  resumed-same w d inner false s k (Some x) (Some y) h =
-      (record { keeps = record { at = k.at; has = h.keeps.has; began = h.keeps.began; many = h.keeps.many }; is = ap (λ (z : State). record z { ip = s.ip; pos = s.pos }) h.is }, tt)
-  resumed-same w d inner negate s k None (Some y) h = absurd h
-  resumed-same w d inner negate s k (Some x) None h = absurd h
-
-  next-same : (w : Bool) (d : Direction) (x : Next) → NextKeeps x → AlikeNext Same w d x x
-  next-same w d (goes ts) h = threads-same w d ts h
-  next-same w d (scans n ts) h = (refl, threads-same w d ts h)
-  next-same w d (ends s) h = record { keeps = h; is = refl }
-  next-same w d (asks inner negate u s) h = (refl, refl, record { world = w; contents = record { keeps = h.0; is = refl }; behind = λ x y e. resumed-same w d inner negate s h.1 x y e })
-  next-same w d stuck h = tt
-
-  same-kept : (program : Program) (text : Text) → AreGroupPreserving silent program → IsBisimulation Same program text
-  same-kept program text are = record {
-    kept = λ w d s t r.
-        subst (λ t. AlikeNext Same w d (act program text d s) (act program text d t)) r.is
-        (next-same w d (act program text d s) (act-keeps program text d s r.keeps (slice_get program.insns s.ip) (are.silent_at s.ip r.keeps.at)));
-  }
+  resumed-keeps : (s x : State) → Keeps s → Keeps x → Keeps (record x { ip = s.ip; pos = s.pos })
+  resumed-keeps s x k h = record { at = k.at; has = h.has; began = h.began; many = h.many }
 
 pub groups-stay : InsnsKeepGroupsToEnd
 groups-stay program text silent are d turns u e f at searches ended =
-    let groups = u.groups in
-    let starts = u.starts in
-    let loops = length u.loops in
-    let both = threads-end-alike Bool (Same silent groups starts loops) program text (same-kept silent groups starts loops program text are) true d turns (running u ∷ []) (running u ∷ [])
-    (record { keeps = record { at = at; has = refl; began = refl; many = refl }; is = refl }, tt) in
-    let found = subst (λ o. AlikeAnswers (Same silent groups starts loops true d) o o) searches both in
-    let end = subst (λ o. AlikeEnds (Same silent groups starts loops true d) o o) ended found.ends in
-    record { groups = end.keeps.has; starts = end.keeps.began; loops = end.keeps.many }
+    let end = good-end (Keeps silent u.groups u.starts (length u.loops)) (resumed-keeps silent u.groups u.starts (length u.loops)) program text
+    (λ d s k. act-keeps silent u.groups u.starts (length u.loops) program text d s k (slice_get program.insns s.ip) (are.silent_at s.ip k.at)) d turns u e f
+    (record { at = at; has = refl; began = refl; many = refl }) searches ended in
+    record { groups = end.has; starts = end.began; loops = end.many }

@@ -28,6 +28,7 @@ pub mod MemoSearchSoundnessLemmas
 pub mod RecordingCostLemmas
 pub mod WorkBudgetLemmas
 pub mod CappedCharLoopLemmas
+pub mod PropertiesOfSearchEnds
 pub mod PreservedSlotLemmas
 pub mod LoopFactFlowLemmas
 pub mod AnalysisCheckLemmas
@@ -37,5 +38,7 @@ pub mod CheckedAnalysisLemmas
 pub mod SearchDirectionLemmas
 pub mod ReachableLoopStateLemmas
 pub mod UnreachedLoopBodyLemmas
+pub mod StepKindByInstruction
+pub mod ClosedLookaroundLemmas
 pub mod InsnsOutsideLoops
 pub mod WorkBoundLemmas

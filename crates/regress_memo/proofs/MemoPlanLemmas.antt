@@ -85,7 +85,7 @@ module _ (program : Program) (text : Text) (a : Liveness) (questions : ℕ → L
         after-it = state_with_ip look.continuation s
 
         asked : act program text d s ≡ asks look.inner look.negate (state_at_next_ip s) after-it
-        asked = asks-there program text a d s look (slice_get program.insns s.ip) is
+        asked = asks-there program text d s look (slice_get program.insns s.ip) is
 
         look-gives : LookGives program text a questions way ips taken d memory s look
         look-gives = record {

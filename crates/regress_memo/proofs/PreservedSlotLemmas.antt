@@ -14,9 +14,10 @@ use Rattle.regex_meaning.specs.CompilationRelation.{Program, LoopFields, Insn, G
 use Rattle.regex_meaning.specs.CompilationRelation.{LoopAgain, ResetCaptureGroup, Loop1CharBody}
 use Rattle.regex_meaning.specs.CompilationRelation.{BeginCaptureGroup, EndCaptureGroup, BackRef, Lookahead, Lookbehind}
 use Rattle.regress_machine.specs.Machine.{State, Thread, running, waiting, Next, goes, state_with_ip, with_some, go, go_if, range_swapped_if_leftwards, test_of, next_insn_at_place}
-use Rattle.regress_machine.specs.Machine.{offset_moved_in_direction, read_one, stay_if, read_group, char_loop_states, scan, act_on, act}
+use Rattle.regress_machine.specs.Machine.{offset_moved_in_direction, read_one, stay_if, read_group, char_loop_states, scan, act_on, act, Found, search}
 use Rattle.regress_machine.proofs.StatesInEffects.{IsOfThread, IsOfNext, of-in_turn, of-with_some, of-only_if, of-go_if, of-map, of-loop_turn, of-again_at}
 use Rattle.regress_memo.specs.LoopDataKeyCodes.{HasSlotsOfProgram}
+use Rattle.regress_memo.proofs.PropertiesOfSearchEnds.{good-end}
 use Rattle.regress_memo.specs.PreservedSlotCounts.{state_of_thread, StatesKeepSlots}
 
 module _ (program : Program) (text : Text) (d : Direction) (s : State) (is : HasSlotsOfProgram program s) where
@@ -103,3 +104,10 @@ each-state program (waiting s ∷ ts) h = (h.0, each-state program ts h.1)
 pub states-stay : StatesKeepSlots
 states-stay program text d s ts is turn =
     each-state program ts (subst (IsOfNext (HasSlotsOfProgram program)) turn (acts program text d s is (slice_get program.insns s.ip)))
+
+-- The state in which a search ends has as many groups and loops as the program.
+pub end-has-slots : (program : Program) (text : Text) (d : Direction) (turns : ℕ) (u e : State) (f : Found) → HasSlotsOfProgram program u
+    → search program text turns d (running u ∷ []) ≡ Some f → f.end ≡ Some e → HasSlotsOfProgram program e
+end-has-slots program text d turns u e f is searches ended =
+    good-end (HasSlotsOfProgram program) (λ s x k h. record { groups = h.groups; starts = h.starts; loops = h.loops }) program text
+    (λ d s is. acts program text d s is (slice_get program.insns s.ip)) d turns u e f is searches ended

@@ -31,6 +31,7 @@ module _ (program : Program) (text : Text) (a : Liveness) (d : Direction) (s : S
       subst (λ (x : LookaroundInsn). IsConsistentLookaround a s.ip x.continuation) (some-same (record { inner = leftwards; negate = negate; continuation = continuation }) look e) r
   looks-there _ e r = cc
 
+module _ (program : Program) (text : Text) (d : Direction) (s : State) (look : LookaroundInsn) where
   pub asks-there : (o : Option Insn) → lookaround_at o ≡ Some look → act_on program text d o s ≡ asks look.inner look.negate (state_at_next_ip s) (state_with_ip look.continuation s)
   asks-there (Some (Lookahead negate start_group end_group continuation)) e =
       ap (λ (x : LookaroundInsn). asks x.inner x.negate (state_at_next_ip s) (state_with_ip x.continuation s)) (some-same (record { inner = rightwards; negate = negate; continuation = continuation }) look e)
@@ -75,7 +76,7 @@ module _ (program : Program) (text : Text) (a : Liveness) (acc : IsLivenessFor p
 success-goes-on : (program : Program) (text : Text) (a : Liveness) → SuccessGoesOn program text a
 success-goes-on program text a acc silent are w d s look is positive quiet g found turns vs f e =
     let looks = looks-there program text a d s look (slice_get program.insns s.ip) is (acc.right.right s.ip) in
-    let asked = asks-there program text a d s look (slice_get program.insns s.ip) is
+    let asked = asks-there program text d s look (slice_get program.insns s.ip) is
     ∙ ap (λ b. asks look.inner b (state_at_next_ip s) (state_with_ip look.continuation s)) positive in
     let x = asked-inner program text turns d look.inner false s (state_at_next_ip s) (state_with_ip look.continuation s) vs f asked e in
     by looks asked x.found.end turns x.found x.searches refl (found turns x.found x.searches)

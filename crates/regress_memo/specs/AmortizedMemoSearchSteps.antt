@@ -1,12 +1,13 @@
 -- A search with a memo table, step by step. Each thread at a recording instruction has a key, and
 -- the work is covered by potentials and costs.
-use Rattle.std.specs.Prelude.{◌≡◌, ◌≤◌, ◌<◌, ◌^◌, ℕ, ◌+◌, List, ◌∷◌, ◌++◌, [], Some, None}
+use Rattle.std.specs.Prelude.{◌≡◌, ◌≤◌, ◌<◌, ◌^◌, ℕ, ◌+◌, List, ◌∷◌, ◌++◌, [], Some, None, slice_get}
 use Rattle.regex_meaning.specs.Laws.{Each}
 use Rattle.regex_meaning.specs.Text.{Text, Direction, rightwards}
 use Rattle.regex_meaning.specs.CodeUnitOffsets.{HasRisingPlaceOffsets, units}
 use Rattle.regex_meaning.specs.CompilationRelation.{Program}
-use Rattle.regress_machine.specs.Machine.{State, Thread, running, waiting, goes, act}
+use Rattle.regress_machine.specs.Machine.{State, Thread, running, waiting, goes, Found, after_lookaround, state_with_ip, state_at_next_ip, act, search}
 use Rattle.regress_memo.specs.Liveness.{Agree, outermost, ReadsAsBytes}
+use Rattle.regress_memo.specs.SkippedLookarounds.{LookaroundInsn, lookaround_at}
 use Rattle.regress_memo.specs.LoopDataKeyCodes.{HasSlotsOfProgram}
 use Rattle.regress_memo.specs.DistinctLists.{IsNew}
 use Rattle.regress_memo.specs.PreservedSlotCounts.{state_of_thread}
@@ -44,7 +45,7 @@ module _ (program : Program) (text : Text) (t : MemoAnalysis) (d : Direction) wh
     pub keyed : AreKeyed (threads_in row)
 
   module _ (memory : List Key) (first : List Entry) (work : ℕ) (now : List Key) (rest : List Entry) where
-    -- The steps of a search. Each one does one more unit of work.
+    -- The steps of a search. Each one does one more unit of work, except for lookarounds.
     pub record StepsReachEntries : Type 0 where
       -- A thread executes a step without a record, because it has no key.
       pub turned : (s : State) (ts : List Thread) → act program text d s ≡ goes ts → memo_key_at t s ≡ None
@@ -59,6 +60,14 @@ module _ (program : Program) (text : Text) (t : MemoAnalysis) (d : Direction) wh
       pub known : (s : State) (k : Key) → memo_key_at t s ≡ Some k → KeyFails program text t k
           → ReachesEntries memory first work now (one_thread (running s) ∷ rest)
           → ReachesEntries memory first (work + 1) now rest
+      -- A thread executes a lookaround. The search of its contents does one unit of work in each
+      -- step.
+      pub looked : (s : State) (l : LookaroundInsn) (turns : ℕ) (f : Found)
+          → lookaround_at (slice_get program.insns s.ip) ≡ Some l
+          → search program text turns l.inner (running (state_at_next_ip s) ∷ []) ≡ Some f
+          → ReachesEntries memory first work now (one_thread (running s) ∷ rest)
+          → ReachesEntries memory first (work + (f.steps + 1)) now
+          (thread_entries (after_lookaround l.negate (state_with_ip l.continuation s) f.end) ++ rest)
       -- A waiting thread is resumed.
       pub taken_up : (s : State) → ReachesEntries memory first work now (one_thread (waiting s) ∷ rest)
           → ReachesEntries memory first (work + 1) now (one_thread (running s) ∷ rest)

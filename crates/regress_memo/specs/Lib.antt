@@ -36,4 +36,5 @@ pub mod AnalysisChecks
 pub mod CheckedAnalysis
 pub mod ReachableThreadLoopStates
 pub mod UnreachedCharLoopBodies
+pub mod ClosedLookarounds
 pub mod WorkBound

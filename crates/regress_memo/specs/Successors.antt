@@ -52,6 +52,11 @@ successors_of ip (Lookbehind negate start_group end_group continuation) =
     LookaroundSuccessor (record { forward = false; negate = negate; past = continuation })
 successors_of ip _ = fall_through ip false true
 
+-- Whether the instruction is the goal, which ends the search.
+abbrev pub is_goal_insn : Insn → Bool
+is_goal_insn Goal = true
+is_goal_insn _ = false
+
 -- Whether the instruction continues only at the next one: it reads no byte sequence and is no end,
 -- jump, alternation or loop.
 abbrev pub is_fall_through_insn : Insn → Bool

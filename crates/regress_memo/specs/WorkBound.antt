@@ -5,7 +5,7 @@ use Rattle.regex_meaning.specs.Text.{Text}
 use Rattle.regex_meaning.specs.CodeUnitOffsets.{HasRisingPlaceOffsets, units}
 use Rattle.regex_meaning.specs.CompilationRelation.{Program, Insn, Loop1CharBody}
 use Rattle.regress_machine.specs.SearchFindsFirstOutcomeAtPlace.{state_before_first_insn}
-use Rattle.regress_machine.specs.Machine.{Thread, running}
+use Rattle.regress_machine.specs.Machine.{State, Thread, running, Found, state_at_next_ip, search}
 use Rattle.regress_memo.specs.Liveness.{ReadsAsBytes}
 use Rattle.regress_memo.specs.SkippedLookarounds.{LookaroundInsn, lookaround_at}
 use Rattle.regress_memo.specs.DelayedMemoizationWorkBudget.{AreInTwoStages}
@@ -16,6 +16,7 @@ use Rattle.regress_memo.specs.declared.analysis_result.InsnAnalysis.{InsnAnalysi
 use Rattle.regress_memo.specs.declared.successors.Successors.{Successors}
 use Rattle.regress_memo.specs.declared.successors.Successors.TheVariants.{Run as AsRun, LookaroundSuccessor as AsLook}
 use Rattle.regress_memo.specs.UnreachedCharLoopBodies.{FlowsPastBodies}
+use Rattle.regress_memo.specs.ClosedLookarounds.{HasClosedContentsIfLookaround}
 use Rattle.regress_memo.specs.AnalysisChecks.{unlimited}
 use Rattle.regress_memo.specs.AnalysisAsPotentials.{insn_analysis_of, analysis_as_liveness, key_code_questions_of, recorded, potentials_of, key_cost_of, insn_direction}
 use Rattle.regress_memo.specs.Successors.{successors_of_insn_if_any}
@@ -57,13 +58,23 @@ module _ (t : MemoAnalysis) where
   IsStepWorkBounded _ ip = Unit {0}
 
   -- Each thread has some potential. No thread reaches the body of a char loop, because its keys
-  -- belong to the loop.
+  -- belong to the loop. The contents of lookarounds are closed.
   pub record IsWorkBounded (program : Program) : Type 0 where
     pub ready : (ip : ℕ) → 1 ≤ (insn_analysis_of t ip).ready
     pub past : (ip : ℕ) → FlowsPastBodies program (successors_of_insn_if_any ip (slice_get program.insns ip)) ip
+    pub closed : (ip : ℕ)
+        → HasClosedContentsIfLookaround program (successors_of_insn_if_any ip (slice_get program.insns ip)) ip
     pub insns : (ip : ℕ) → InsnIsBounded (slice_get program.insns ip) ip
 
 -- ---- Laws
+
+-- The search of a lookaround's contents takes at most as many steps as the potential of their first
+-- instruction.
+abbrev pub ContentsTakeFewSteps : Type 0
+ContentsTakeFewSteps = (program : Program) (t : MemoAnalysis) → IsAnalysisOf program t → IsWorkBounded t program
+    → (text : Text) (s : State) (l : LookaroundInsn) → lookaround_at (slice_get program.insns s.ip) ≡ Some l
+    → (turns : ℕ) (f : Found) → search program text turns l.inner (running (state_at_next_ip s) ∷ []) ≡ Some f
+    → f.steps ≤ (insn_analysis_of t (s.ip + 1)).ready
 
 -- The threads with which an attempt begins at an offset.
 abbrev pub initial_threads : Program → ℕ → List Thread

@@ -1,6 +1,6 @@
 //! Laws of memo analyses.
 
-ghost use Rattle.regress_memo.specs.{UnreachedCharLoopBodies.{CharLoopBodiesAreUnreached}, WorkBound.{AnalysesBoundTotalWork}};
+ghost use Rattle.regress_memo.specs.{UnreachedCharLoopBodies.{CharLoopBodiesAreUnreached}, WorkBound.{AnalysesBoundTotalWork, ContentsTakeFewSteps}};
 ghost use Rattle.regress_memo.specs.CheckedAnalysis.{AnalysesAreMemoPlans, DirectionsAreKept, KeysHaveDistinctBits};
 
 /// An analysis of a program is a memo plan in each text: its keys decide failure, its steps are
@@ -33,4 +33,11 @@ pub fn char_loop_bodies_are_unreached()
 /// Statement: `specs/WorkBound`.
 pub fn analyses_bound_total_work()
     ensures { AnalysesBoundTotalWork }
+{}
+
+/// If an analysis of a program is bounded, the search of a lookaround's contents takes at most as
+/// many steps as the potential of their first instruction.
+/// Statement: `specs/WorkBound`.
+pub fn contents_take_few_steps()
+    ensures { ContentsTakeFewSteps }
 {}

@@ -7,6 +7,7 @@ mod analysis_check;
 pub mod analysis_laws;
 pub mod analysis_result;
 mod bit_set;
+mod closed_lookarounds;
 mod cost_check;
 mod flow_edges;
 pub mod laws;

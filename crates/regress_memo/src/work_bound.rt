@@ -8,6 +8,7 @@ ghost use Rattle.regress_memo.specs.AnalysisAsPotentials.{insn_analysis_of};
 ghost use Rattle.regress_memo.specs.Successors.{DeclaredInsnsEqualProgramInsns, successors_of_insn_if_any};
 
 use crate::analysis_result::{InsnAnalysis, MemoAnalysis};
+use crate::closed_lookarounds::are_lookarounds_closed;
 use crate::successors::{LookaroundSuccessor, Successors, successors_at};
 use crate::unreached_loop_bodies::no_char_loop_body_is_reached;
 use regress_program::instructions::Insn;
@@ -41,9 +42,9 @@ impl MemoAnalysis {
         Some(all)
     }
 
-    // Checks three conditions under which all work is covered: nothing in a lookaround records, so
-    // no record is discarded when its contents match; no lazy char loop without a maximum is
-    // searched to the left; and no thread reaches the body of a char loop.
+    // Checks conditions under which all work is covered: the contents of lookarounds are closed, and
+    // nothing in them records, so no record is discarded when they match; no lazy char loop without
+    // a maximum is searched to the left; and no thread reaches the body of a char loop.
     fn all_is_paid(&self, insns: &[Insn]) -> bool
         ensures { result ≡ true → (program : Program) → DeclaredInsnsEqualProgramInsns program insns.now → IsWorkBounded
             self.now program }
@@ -53,7 +54,7 @@ impl MemoAnalysis {
                 return false;
             }
         }
-        self.all_are_ready() && no_char_loop_body_is_reached(insns)
+        self.all_are_ready() && no_char_loop_body_is_reached(insns) && are_lookarounds_closed(insns)
     }
 
     // Checks that each thread has some potential.

@@ -397,7 +397,7 @@ static void work(void)
     static const char text[] = "aaaaaaaaaaaaaaaaaaaaaaaaac";
     regress_c_pattern heavy = compiled("(?:a|a)*b", "");
     regress_c_pattern light = compiled("a", "");
-    regress_c_pattern looking = compiled("(?=a)b", "");
+    regress_c_pattern looking = compiled("(?=a*)b", "");
     regress_c_pattern nothing = REGRESS_C_PATTERN_INIT;
     uint64_t each = 0;
     print_code("work for each", regress_c_work_per_unit(&heavy, &each));
@@ -441,7 +441,7 @@ static void all_in_work(void)
     regress_c_pattern heavy = compiled("(?:a|a)*b|c", "");
     regress_c_pattern light = compiled("a(b)?", "");
     regress_c_pattern empty = compiled("x*", "");
-    regress_c_pattern looking = compiled("(?=a)b", "");
+    regress_c_pattern looking = compiled("(?=a*)b", "");
     regress_c_pattern nothing = REGRESS_C_PATTERN_INIT;
     uint64_t each = 0;
     print_code("work for each", regress_c_work_per_unit(&heavy, &each));

@@ -94,7 +94,7 @@ enum regress_c_code {
     REGRESS_C_NOT_OPEN = 17,
     /* Steps are counted in UTF-8 only. */
     REGRESS_C_NOT_COUNTED = 18,
-    /* No bound of the work of the pattern's searches is known, since the pattern has a lookaround. */
+    /* No bound of the work of the pattern's searches is known, since a lookaround has a loop or joins alternatives. */
     REGRESS_C_UNBOUNDED_LOOKAROUND = 19,
     /* The work limit is reached. */
     REGRESS_C_WORK_LIMIT = 20,
@@ -290,10 +290,11 @@ regress_c_reply regress_c_match_at_ucs2(regress_c_pattern *pattern, const uint16
  * Sets `per_unit` to the work bound of the pattern, and returns DONE: on a text of n bytes, `per_unit` * (n + 1) work
  * is enough for all matches together. (That it is enough for the calls below is tested.) Returns EMPTY or MEMORY, or
  * one of the UNBOUNDED codes if no bound is known (docs/LINEAR.md), and then `per_unit` is unchanged. A pattern with a
- * lookaround is UNBOUNDED_LOOKAROUND, and another pattern with a backreference is UNBOUNDED_BACKREFERENCE.
+ * backreference is UNBOUNDED_BACKREFERENCE. Another one may be UNBOUNDED_LOOKAROUND if it has a lookaround.
  *
- * A unit of bounded work is one step of a thread, one character that a loop over characters examines, one way back to a
- * waiting thread, one thread that is dropped since it is known to fail, or one record of a failure that is reached.
+ * A unit of bounded work is one step of a thread, one character that a loop over characters examines, one code unit that
+ * a search skips, one way back to a waiting thread, one thread that is dropped since it is known to fail, or one record
+ * of a failure that is reached.
  */
 uint32_t regress_c_work_per_unit(regress_c_pattern *pattern, uint64_t *per_unit);
 
@@ -309,8 +310,8 @@ uint32_t regress_c_work_per_unit(regress_c_pattern *pattern, uint64_t *per_unit)
  * say how much work it did, only that the work left never rises; those of regress_c_next_in_work say exactly what each
  * search costs, in a unit of their own.
  *
- * Each call computes the bound again and takes memory for the failures that it records: some bits for each byte of the
- * text.
+ * Each call computes the bound again. Only a search of much work takes memory for the failures that it records: some bits
+ * for each byte of the text.
  */
 regress_c_reply regress_c_find_utf8_in_work(regress_c_pattern *pattern, const uint8_t *text, size_t text_len,
                                             size_t start, uint64_t *work, regress_c_span *spans, size_t spans_len);

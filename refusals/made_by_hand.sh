@@ -22,7 +22,7 @@ allowed='crates/regress_tool/src/main.rt
 crates/regress_backtrack/src/attempts.rt
 crates/regress_backtrack/src/interpreter.rt
 crates/regress_backtrack/src/work_limited.rt
-crates/regress_bounded/src/executor.rt
+crates/regress_bounded/src/memoizing_executor.rt
 crates/regress_search/src/exec/work_matches.rt
 crates/regress_backtrack/src/step_and_work_budgets.rt
 crates/regex_parser/src/parse.rt

@@ -144,9 +144,9 @@ impl error::Error for SearchError {}
 #[derive(Clone, Copy, Debug, PartialEq, Eq, Hash)]
 #[non_exhaustive]
 pub enum Unbounded {
-    /// The pattern has a lookahead or a lookbehind.
+    /// The contents of a lookahead or a lookbehind have a loop or join alternatives (`docs/LINEAR.md`).
     Lookaround,
-    /// The pattern has a backreference, and no lookaround.
+    /// The pattern has a backreference.
     Backreference,
     /// The counts of loops are too large, or loops are nested too deeply.
     Count,

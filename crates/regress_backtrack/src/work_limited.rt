@@ -29,6 +29,7 @@ use regress_search::exec::{
     ProducerFromProgramAndText, SearchError, SearchState, WorkLimitedProducer,
 };
 use regress_search::leaping::{LeapTarget, leap_target_within};
+use regress_search::program_and_input::ProgramAndInput;
 use regress_search::search_context::{
     PositionOf, SearchContext, offset_in_searched_text, position_in_searched_text, text_end,
 };
@@ -119,6 +120,13 @@ impl<'r, Input: InputIndexer> WorkLimitedExecutor<'r, Input> {
             },
             leaps,
         }
+    }
+
+    /// Returns the program and the text that it searches.
+    pub fn searched(&self) -> &ProgramAndInput<'r, Input>
+        ensures { result.now ≡ self.now.executor.search.searched }
+    {
+        &self.executor.search.searched
     }
 }
 

@@ -33,7 +33,7 @@ use Rattle.regress_bounded.specs.declared.memo_and_work_budget.AttemptAbortReaso
 use Rattle.regress_pikevm.specs.InsnEffects.{end_and_groups}
 use Rattle.regress_pikevm.proofs.ExecutorTurnLemmas.{map-end}
 use Rattle.regress_pikevm.specs.declared.pikevm.states.State.{State}
-use Rattle.regress_bounded.specs.WorkBoundForAllMatches.{AnalysisBoundsProgram, work_per_unit}
+use Rattle.regress_bounded.specs.WorkBoundForAllMatches.{AnalysisBoundsProgram, second_stage_work_per_position}
 use Rattle.regress_bounded.specs.BoundedState.{AnalysisBoundsSearch, IsSoundMemo, IsMemoRight, BoundedAttempt, BoundedAttemptBegins, AttemptHasState, HasAttemptState, AbortedBecauseWorkIsSpent}
 use Rattle.regress_bounded.specs.BoundedState.{AttemptEndsAt, AttemptResultIs, entry_of_current_thread}
 use Rattle.regress_bounded.specs.CostsOfSearchEvents.{Costs, nothing_yet, then_happens}
@@ -43,7 +43,7 @@ use Rattle.regress_search.specs.CostsOfSearches.{CostsMoreThanLeft, Failures, Ta
 use Rattle.regress_bounded.specs.WorkOfCharLoopsAndAttempts.{HasMadeAttempts, AttemptsHaveKnownKeys, AttemptIsUnderWay}
 use Rattle.regress_pikevm.specs.States.{machine_state_of}
 use Rattle.regress_bounded.specs.WorkOfSuccessiveAttempts.{Walked, AttemptsLeaveEnoughWork as AreWalked}
-use Rattle.regress_bounded.proofs.StepKindByInstruction.{ends-itself}
+use Rattle.regress_memo.proofs.StepKindByInstruction.{ends-itself}
 use Rattle.regress_bounded.proofs.SearchEventCostLemmas.{event-comes}
 use Rattle.regress_bounded.proofs.SuccessiveAttemptLemmas.{memory-of, then-starts, in-order, still-onward, so-far, behind-end, then-ends, then-none}
 use Rattle.regress_bounded.proofs.BoundedStateLemmas.{row-none}
@@ -145,10 +145,10 @@ module _ {P : Type 0} (offset : P → ℕ) (program : Program) (text : Text) whe
         holds = holds;
       }
 
-      still-enough : (work : ℕ) → work + new.left ≡ old.left → work_per_unit t * (units text + 1) ≤ walked.done + work + new.left
+      still-enough : (work : ℕ) → work + new.left ≡ old.left → second_stage_work_per_position t * (units text + 1) ≤ walked.done + work + new.left
       still-enough work spent =
           let e = walked.enough in
-          let u = ap (λ t. work_per_unit t * (units text + 1)) same in
+          let u = ap (λ t. second_stage_work_per_position t * (units text + 1)) same in
           omega (arith, e, u, spent)
 
       -- An attempt that finds no match leaves enough work for an attempt at the next offset.
@@ -189,9 +189,9 @@ module _ {P : Type 0} (offset : P → ℕ) (program : Program) (text : Text) whe
           let all =
           so-far program t paid.memo_analysis text paid.is_text paid.bytes paid.short at walked.done its.memory
           (still-onward program t paid.memo_analysis text paid.is_text paid.bytes paid.short ahead walked.done its.memory has at le) answered (before.work + x.cost) x.now x.row inside comes in
-          let third : work_per_unit t ≡ 1 + (work_per_position t + (all_keys_cost_per_position t + (insn_analysis_of t 0).ready)) = omega arith in
+          let third : second_stage_work_per_position t ≡ 1 + (work_per_position t + (all_keys_cost_per_position t + (insn_analysis_of t 0).ready)) = omega arith in
           let same_all = ap (λ m. m * (units text + 1)) third in
-          let u = ap (λ t. work_per_unit t * (units text + 1)) same in
+          let u = ap (λ t. second_stage_work_per_position t * (units text + 1)) same in
           let e = walked.enough in
           let total : before.work + h.before.left ≡ old.left = before.spent in
           let over = x.over in
@@ -202,17 +202,17 @@ module _ {P : Type 0} (offset : P → ℕ) (program : Program) (text : Text) whe
 module _ (program : Program) (text : Text) (is_text : HasRisingPlaceOffsets text) (bytes : ReadsAsBytes program text) (short : units text < 2 ^ 63) (t : MemoAnalysis) (has : AnalysisBoundsProgram program t)
     (m : MemoView) (begun : IsEmptyMemo t (units text + 1) false m) where
   its-paid : AnalysisBoundsSearch program text t
-  its-paid = record { memo_analysis = has.memo_analysis; bounded = has.bounded; no_look = has.no_look; is_text = is_text; bytes = bytes; short = short }
+  its-paid = record { memo_analysis = has.memo_analysis; bounded = has.bounded; is_text = is_text; bytes = bytes; short = short }
 
   pub begun-right : IsSoundMemo program text m
   begun-right = record { paid = subst (AnalysisBoundsSearch program text) (sym begun.memo_analysis) its-paid; is_true = memos-are-true.begun program text t false m has.memo_analysis begun }
 
-  pub begun-walked : (left : ℕ) → work_per_unit t * (units text + 1) ≤ left → Walked program text (record { memo = m; left = left }) 0
+  pub begun-walked : (left : ℕ) → second_stage_work_per_position t * (units text + 1) ≤ left → Walked program text (record { memo = m; left = left }) 0
   begun-walked left enough = record {
     done = 0;
     walked = subst (λ t. AttemptsHaveKnownKeys program text t (has_failure m) 0 0) (sym begun.memo_analysis)
         (then-starts program t has.memo_analysis text is_text bytes short (has_failure m) (memory-of t (units text + 1) false m begun) 0);
-    enough = (let same = ap (λ t. work_per_unit t * (units text + 1)) begun.memo_analysis in omega (arith, same, enough));
+    enough = (let same = ap (λ t. second_stage_work_per_position t * (units text + 1)) begun.memo_analysis in omega (arith, same, enough));
   }
 
 -- The search at a boundary of the text has an answer.

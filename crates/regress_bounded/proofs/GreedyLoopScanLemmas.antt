@@ -49,7 +49,7 @@ module _ {P : Type 0} (offset : P → ℕ) (text : Text) (is : HasRisingPlaceOff
       → OneFurther offset text at next
   one-further test at next found h passes led =
       let p = IsBoundary-place text (offset at) is h in
-      let on = past-more offset text is test p.0 0 at next found (past-none offset text is test p.0 at p.1) passes led in
+      let on = past-more offset text is rightwards test p.0 0 at next found (past-none offset text is rightwards test p.0 at p.1) passes led in
       let less = offset-less text p.0 (p.0 + 1) is (omega arith) on.within in
       let le = offset-le text (p.0 + 1) (last_place text) is on.within (omega arith) in
       let e = p.2 in
@@ -69,7 +69,7 @@ module _ {P : Type 0} (offset : P → ℕ) (text : Text) (is : HasRisingPlaceOff
   further-by {tests} some at next found h passes led = let t = some-of tests some in one-further t.0 at next found h passes (led t.0 t.1)
 
   -- The number of characters passed is at most the offset behind them.
-  pub past-few : (test : ℕ → Bool) (place count : ℕ) (at : P) → IsPositionAfterCharsOfClass offset text test place count at → count ≤ offset at
+  pub past-few : (test : ℕ → Bool) (place count : ℕ) (at : P) → IsPositionAfterCharsOfClass offset text rightwards test place count at → count ≤ offset at
   past-few test place count at h =
       let few : place + count ≤ text_offset text (place + count) = places-few text is (place + count) h.within in
       let e : offset at ≡ text_offset text (place + count) = h.at in
@@ -78,7 +78,7 @@ module _ {P : Type 0} (offset : P → ℕ) (text : Text) (is : HasRisingPlaceOff
 -- All characters up to a position pass, and the exits before it wait.
 pub record Furthest {P : Type 0} (offset : P → ℕ) (program : Program) (text : Text) (m : MemoView) (s : machine.State) (least : ℕ) (test : ℕ → Bool) (place : ℕ)
     (old new : List (StackEntry P)) (at : P) (n : ℕ) : Type 0 where
-  pub past : IsPositionAfterCharsOfClass offset text test place n at
+  pub past : IsPositionAfterCharsOfClass offset text rightwards test place n at
   pub wait : ExitsArePending offset program text m.memo_analysis (has_failure m) test place s least old new n
 
 -- The same holds for any test and from any place where the loop may begin.
@@ -87,7 +87,7 @@ pub record HasGoneOver {P : Type 0} (offset : P → ℕ) (program : Program) (te
   pub boundary : IsBoundary text (offset at)
   pub few : n ≤ offset at
   pub paid : n ≤ left
-  pub going : (test : ℕ → Bool) (place : ℕ) → tests ≡ Some test → IsPositionAfterCharsOfClass offset text test place least from → Furthest offset program text m s least test place old new at n
+  pub going : (test : ℕ → Bool) (place : ℕ) → tests ≡ Some test → IsPositionAfterCharsOfClass offset text rightwards test place least from → Furthest offset program text m s least test place old new at n
 
 -- ---- Keys
 
@@ -163,7 +163,7 @@ module _ {P : Type 0} {offset : P → ℕ} {program : Program} {text : Text} {ru
     places-row test place count = exits_with_records program text m.memo_analysis rightwards test place s run.least count
 
     -- No exit waits behind the required characters.
-    pub furthest-none : (test : ℕ → Bool) (place : ℕ) (old : List (StackEntry P)) (from : P) → IsPositionAfterCharsOfClass offset text test place run.least from → Goes test place old old from run.least
+    pub furthest-none : (test : ℕ → Bool) (place : ℕ) (old : List (StackEntry P)) (from : P) → IsPositionAfterCharsOfClass offset text rightwards test place run.least from → Goes test place old old from run.least
     furthest-none test place old from h =
         let none : run.least - run.least ≡ 0 = omega arith in
         let sum = h.sum in
@@ -216,7 +216,7 @@ module _ {P : Type 0} {offset : P → ℕ} {program : Program} {text : Text} {ru
           → new ≡ mid ++ AsRecord key ∷ [] → (left : ℕ) → ScansWithMemo offset program text m.memo_analysis (has_failure m) test place s run.least left old new (Some there, n)
       furthest-all next passes is_text fails led new same left =
           let sum = h.past.sum in
-          let none = past-all offset text is_text test place n at (offset next) passes h.past fails led in
+          let none = past-all offset text is_text rightwards test place n at (offset next) passes h.past fails led in
           record {
             enough = h.wait.enough;
             all = omega (arith, sum, none);
@@ -229,7 +229,7 @@ module _ {P : Type 0} {offset : P → ℕ} {program : Program} {text : Text} {ru
       pub furthest-more : (next : P) (passes : Bool) → HasRisingPlaceOffsets text → passes ≡ true → end_if_matched passes (offset next) ≡ past_if text test rightwards (offset at) → (new : List (StackEntry P))
           → new ≡ (mid ++ AsRecord key ∷ []) ++ AsThread there ∷ [] → Goes test place old new next (n + 1)
       furthest-more next passes is_text on_it led new same =
-          let on = past-more offset text is_text test place n at next passes h.past on_it led in
+          let on = past-more offset text is_text rightwards test place n at next passes h.past on_it led in
           let le = h.wait.enough in
           let sum = on.sum in
           let count : n + 1 - run.least ≡ suc (n - run.least) = omega (arith, le) in

@@ -25,11 +25,11 @@ use Rattle.regress_bounded.proofs.BoundedStateLemmas.{CostsAtLeast, comes-on, fa
 module _ {P : Type 0} {offset : P → ℕ} {program : Program} {text : Text} {run : UnboundedCharLoop} {limit : ℕ} {s : machine.State} {passed : ℕ} {pos : P}
     (p : PassesOver offset program text run limit s passed pos) (few : limit ≤ run.least) (le : run.least ≤ passed) where
   -- If enough characters pass, the position is behind the required ones.
-  pub all-passed : IsPositionAfterCharsOfClass offset text p.test p.place run.least pos
+  pub all-passed : IsPositionAfterCharsOfClass offset text rightwards p.test p.place run.least pos
   all-passed =
       let most = p.over.few in
       let same : passed ≡ run.least = omega (arith, most, few, le) in
-      subst (λ n. IsPositionAfterCharsOfClass offset text p.test p.place n pos) same p.over.past
+      subst (λ n. IsPositionAfterCharsOfClass offset text rightwards p.test p.place n pos) same p.over.past
 
   module _ (c : MemoAndWorkBudget) (old last : List (StackEntry P)) (next : Option (State P)) (n : ℕ) where
     abbrev Meets : (test : ℕ → Bool) (place : ℕ) → Option (State P) → Type 0
@@ -37,11 +37,11 @@ module _ {P : Type 0} {offset : P → ℕ} {program : Program} {text : Text} {ru
 
     -- The scan has met these exits, for each test and place.
     abbrev pub HasMet : Type 0
-    HasMet = (test : ℕ → Bool) (place : ℕ) → test_of program (Some (insn_as_spec_insn run.body)) ≡ Some test → IsPositionAfterCharsOfClass offset text test place run.least pos → Meets test place next
+    HasMet = (test : ℕ → Bool) (place : ℕ) → test_of program (Some (insn_as_spec_insn run.body)) ≡ Some test → IsPositionAfterCharsOfClass offset text rightwards test place run.least pos → Meets test place next
 
     pub met-few : HasRisingPlaceOffsets text → HasMet → n ≤ units text
     met-few is_text met =
-        let few = few-passed text is_text p.test p.place p.inside in
+        let few = few-passed text is_text rightwards p.test p.place p.inside in
         let reached = passes next (met p.test p.place p.tests all-passed) in
         omega (arith, few, reached)
       where

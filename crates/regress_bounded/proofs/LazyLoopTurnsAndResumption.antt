@@ -4,7 +4,7 @@ use Rattle.std.specs.Prelude.{◌⊎◌, IsSome, is_some, option_map, slice_get}
 use Rattle.std.proofs.Math.Logic.{∥∥₁_elim}
 use Rattle.std.proofs.Props.{props}
 use Rattle.std.proofs.lemmas.Bool.{cases_lt}
-use Rattle.regex_meaning.specs.Text.{Text, rightwards, last_place, moved}
+use Rattle.regex_meaning.specs.Text.{Text, Direction, rightwards, last_place, moved}
 use Rattle.regex_meaning.specs.CodeUnitOffsets.{HasRisingPlaceOffsets, IsBoundary, units, place_at, offset as text_offset}
 use Rattle.regex_meaning.specs.CompilationRelation.{Program, Loop1CharBody}
 use Rattle.regex_meaning.proofs.CodeUnitOffsetsLemmas.{place_at-offset, offset-place_at, IsBoundary-place}
@@ -36,6 +36,7 @@ use Rattle.regress_bounded.specs.BudgetSpending.{LowersBudgetByWork, WorkExceeds
 use Rattle.regress_pikevm.specs.States.{machine_state_of}
 use Rattle.regress_bounded.proofs.SearchEventCostLemmas.{ScansAt, scans-at}
 use Rattle.regress_bounded.proofs.CharLoopEventLemmas.{few-happen, greedy-at-least, nearest-behind, row-above}
+use Rattle.regex_meaning.proofs.OutcomeDirectionLemmas.{left-few}
 use Rattle.regress_memo.proofs.CharLoopExitLemmas.{passing-left}
 use Rattle.regress_search.proofs.CharLoopReach.{some-of}
 use Rattle.regress_search.proofs.StopByteScanLemmas.{places-few}
@@ -46,11 +47,12 @@ use Rattle.regress_input.proofs.BoundaryPositions.{boundary_inside}
 -- ---- The characters that a loop reads
 
 -- At most as many characters pass as the text has code units.
-pub few-passed : (text : Text) → HasRisingPlaceOffsets text → (test : ℕ → Bool) (place : ℕ) → place ≤ last_place text → passing text test rightwards place ≤ units text
-few-passed text is test place inside =
-    let a = passing-left text test rightwards place inside in
-    let b = places-few text is (last_place text) (omega arith) in
-    omega (arith, a, b, inside)
+pub few-passed : (text : Text) → HasRisingPlaceOffsets text → (d : Direction) (test : ℕ → Bool) (place : ℕ) → place ≤ last_place text → passing text test d place ≤ units text
+few-passed text is d test place inside =
+    let a = passing-left text test d place inside in
+    let b = left-few text d place inside in
+    let c = places-few text is (last_place text) (omega arith) in
+    omega (arith, a, b, c, inside)
 
 -- The loop has a test and a place, and it passes over `passed` characters up to a limit.
 pub record PassesOver {P : Type 0} (offset : P → ℕ) (program : Program) (text : Text) (run : UnboundedCharLoop) (limit : ℕ) (s : machine.State) (passed : ℕ) (pos : P) : Type 0 where
@@ -59,7 +61,7 @@ pub record PassesOver {P : Type 0} (offset : P → ℕ) (program : Program) (tex
   pub place : ℕ
   pub at : place_at text s.pos ≡ Some place
   pub inside : place ≤ last_place text
-  pub over : HasPassedRequiredChars offset text test limit place passed pos
+  pub over : HasPassedRequiredChars offset text rightwards test limit place passed pos
 
 module _ {P : Type 0} {offset : P → ℕ} {program : Program} {text : Text} {run : UnboundedCharLoop} {greedy : Bool} {s : machine.State} (here : IsStateAtUnboundedLoopOverInsn offset program text run greedy s) where
   -- The loop has a test, and its state is at a boundary.
@@ -74,14 +76,14 @@ module _ {P : Type 0} {offset : P → ℕ} {program : Program} {text : Text} {ru
     pub reads-here : Reads
     reads-here =
         let by = λ (x : SomeAttemptHasState offset program text (one_thread (running s) ∷ []) stack c).
-        reads-at (scans-at program text s run.least unlimited greedy here.insn (can-turn offset program text x.begin s x.stands)) in
+        reads-at (scans-at program text rightwards s run.least unlimited greedy here.insn (can-turn offset program text x.begin s x.stands)) in
         record {
           test = ∥∥₁_elim there (Prim.hlevel props) (λ x. (by x).test);
           at = ∥∥₁_elim there (Prim.hlevel props) (λ x. (by x).at);
         }
 
     pub passes-over : HasRisingPlaceOffsets text → (limit passed : ℕ) (pos : P)
-        → ((test : ℕ → Bool) (place : ℕ) → test_of program (Some (insn_as_spec_insn run.body)) ≡ Some test → place_at text s.pos ≡ Some place → HasPassedRequiredChars offset text test limit place passed pos)
+        → ((test : ℕ → Bool) (place : ℕ) → test_of program (Some (insn_as_spec_insn run.body)) ≡ Some test → place_at text s.pos ≡ Some place → HasPassedRequiredChars offset text rightwards test limit place passed pos)
         → PassesOver offset program text run limit s passed pos
     passes-over is limit passed pos h =
         let t = some-of (test_of program (Some (insn_as_spec_insn run.body))) reads-here.test in
@@ -96,7 +98,7 @@ module _ {P : Type 0} {offset : P → ℕ} {program : Program} {text : Text} {ru
 pub passed-fits : {P : Type 0} {offset : P → ℕ} {program : Program} {text : Text} {run : UnboundedCharLoop} {limit : ℕ} {s : machine.State} {passed : ℕ} {pos : P}
     → PassesOver offset program text run limit s passed pos
     → HasRisingPlaceOffsets text → units text < 2 ^ 63 → passed + 2 < 2 ^ 64
-passed-fits p is short = let few = few-passed _ is p.test p.place p.inside in let sum = p.over.past.sum in omega (arith, few, sum, short)
+passed-fits p is short = let few = few-passed _ is rightwards p.test p.place p.inside in let sum = p.over.past.sum in omega (arith, few, sum, short)
 
 -- The loop is the same for an equal greediness.
 pub run-which : {P : Type 0} {offset : P → ℕ} {program : Program} {text : Text} {run : UnboundedCharLoop} {greedy which : Bool} {s : machine.State} → IsStateAtUnboundedLoopOverInsn offset program text run greedy s → greedy ≡ which

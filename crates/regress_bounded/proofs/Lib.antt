@@ -1,12 +1,12 @@
 pub mod CharLoopBodyInsns
 pub mod AttemptResultLemmas
-pub mod StepKindByInstruction
 pub mod SearchEventCostLemmas
 pub mod GreedyLoopScanLemmas
 pub mod GreedyLoopTurnLemmas
 pub mod LazyLoopTurnsAndResumption
 pub mod UnboundednessLemmas
 pub mod MatchIteratorLemmas
+pub mod StagesLemmas
 pub mod CharLoopEventLemmas
 pub mod CharLoopWorkLemmas
 pub mod SuccessiveAttemptLemmas
@@ -17,3 +17,5 @@ pub mod BoundedStateLemmas
 pub mod StepResultLemmas
 pub mod StatesPushedOneByOne
 pub mod ThreadTurnLemmas
+pub mod ContentsSearchLemmas
+pub mod LookaroundTurnLemmas

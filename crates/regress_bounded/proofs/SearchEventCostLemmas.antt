@@ -16,7 +16,7 @@ use Rattle.regress_memo.specs.MemoContents.{memo_key_at}
 use Rattle.regress_memo.specs.AmortizedMemoSearchSteps.{ReachesEntries, StepsReachEntries}
 use Rattle.regress_memo.proofs.AmortizedMemoSearchLemmas.{searches-are-paid}
 use Rattle.regress_bounded.specs.CostsOfSearchEvents.{IsSearchEvent, Costs, ThreadsPendAbove, none_waits, some_wait, drops, turns, tries_chars, too_few, fails_from, takes_furthest, takes_nearest}
-use Rattle.regress_bounded.specs.CostsOfSearchEvents.{drops_loop, resumes_loop, resumes, reaches, nothing_yet, then_happens}
+use Rattle.regress_bounded.specs.CostsOfSearchEvents.{drops_loop, resumes_loop, searches_contents, resumes, reaches, nothing_yet, then_happens}
 use Rattle.regress_bounded.specs.CostsOfSearchEvents.{IsKeyNewIfAny, entries_with_record_of_state}
 use Rattle.regress_bounded.specs.BoundedState.{AnalysisBoundsSearch}
 use Rattle.regress_bounded.specs.WorkOfCharLoopsAndAttempts.{StateIsAtUnboundedCharLoop}
@@ -31,13 +31,13 @@ pub record ScansAt (program : Program) (text : Text) (s : State) : Type 0 where
   pub place : ℕ
   pub at : place_at text s.pos ≡ Some place
 
-module _ (program : Program) (text : Text) (s : State) (least most : ℕ) (greedy : Bool) where
+module _ (program : Program) (text : Text) (d : Direction) (s : State) (least most : ℕ) (greedy : Bool) where
   abbrev over : (ℕ → Bool) → ℕ → Next
-  over test p = scan text least most greedy test rightwards p s
+  over test p = scan text least most greedy test d p s
 
-  pub scans-at : slice_get program.insns s.ip ≡ Some (Loop1CharBody least most greedy) → IsNotStuck (act program text rightwards s) → ScansAt program text s
+  pub scans-at : slice_get program.insns s.ip ≡ Some (Loop1CharBody least most greedy) → IsNotStuck (act program text d s) → ScansAt program text s
   scans-at run can =
-      by (test_of program (slice_get program.insns (s.ip + 1))) refl (place_at text s.pos) refl (subst (λ o. IsNotStuck (act_on program text rightwards o s)) run can)
+      by (test_of program (slice_get program.insns (s.ip + 1))) refl (place_at text s.pos) refl (subst (λ o. IsNotStuck (act_on program text d o s)) run can)
     where
       by : (o : Option (ℕ → Bool)) → test_of program (slice_get program.insns (s.ip + 1)) ≡ o → (q : Option ℕ) → place_at text s.pos ≡ q
           → IsNotStuck (with_some o (λ test. with_some q (λ p. over test p))) → ScansAt program text s
@@ -62,6 +62,7 @@ cost-some (takes_furthest s test least place n rest unbounded_loop at all le new
 cost-some (takes_nearest s test least place rest row unbounded_loop at le wait) = omega arith
 cost-some (drops_loop s test least place rest unbounded_loop at known) = omega arith
 cost-some (resumes_loop s test least place rest row unbounded_loop at new wait) = omega arith
+cost-some (searches_contents s look n f rest is e) = omega arith
 cost-some (resumes s rest) = omega arith
 cost-some (reaches k ts rest) = omega arith
 
@@ -90,7 +91,7 @@ module _ (program : Program) (text : Text) (t : MemoAnalysis) (paid : AnalysisBo
   module _ (work : ℕ) (now : List Key) (rest : List Entry) (s : State) (least most : ℕ) (greedy : Bool) (run : slice_get program.insns s.ip ≡ Some (Loop1CharBody least most greedy))
       (limited : (most == unlimited) ≡ false) (n : ℕ) (ts : List Thread) (acts : act program text rightwards s ≡ scans n ts) where
     its : ScansAt program text s
-    its = scans-at program text s least most greedy run (subst IsNotStuck (sym acts) tt)
+    its = scans-at program text rightwards s least most greedy run (subst IsNotStuck (sym acts) tt)
 
     tried-chars : (key : Option Key) → memo_key_at t s ≡ key → IsKeyNewIfAny key now → Come work now (one_thread (running s) ∷ rest) → Come (work + (n + 1)) now (thread_entries ts ++ entries_with_record_of_state s key rest)
     tried-chars None is new h =
@@ -128,6 +129,7 @@ module _ (program : Program) (text : Text) (t : MemoAnalysis) (paid : AnalysisBo
       waits-above (work + 2) now _ _ _ above wait
       (lazy-again program t paid.memo_analysis paid.bounded text paid.is_text paid.bytes paid.short rightwards memory first work now rest s test least place unbounded_loop
       (offset-place_at text s.pos place paid.is_text at).1 new h)
+  event-comes work cost now now' row row' (searches_contents s look n f rest is e) h = (laws work now rest).looked s look n f is e h
   event-comes work cost now now' row row' (resumes s rest) h = (laws work now rest).taken_up s h
   event-comes work cost now now' row row' (reaches k ts rest) h = (laws work now rest).reached k ts h
 

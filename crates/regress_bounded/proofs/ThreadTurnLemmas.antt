@@ -5,7 +5,7 @@ use Rattle.std.specs.Prelude.{◌⊎◌, ◌==◌, Result, Ok, Err, IfOk, IfSome
 use Rattle.std.proofs.Math.Logic.{∥∥₁_elim}
 use Rattle.std.proofs.Props.{props}
 use Rattle.std.proofs.lemmas.Bool.{cases_lt, eqb-true}
-use Rattle.regex_meaning.specs.Text.{Text, rightwards}
+use Rattle.regex_meaning.specs.Text.{Text, Direction, rightwards}
 use Rattle.regex_meaning.specs.CodeUnitOffsets.{HasRisingPlaceOffsets, place_at, units}
 use Rattle.regex_meaning.specs.CompilationRelation.{Program, Insn, Goal, Loop1CharBody}
 use Rattle.regex_meaning.proofs.EscapesAndNamesLemmas.{Some_inj}
@@ -21,7 +21,9 @@ use Rattle.regress_machine.specs.InsnEffects.{IsNotStuck, tested_char_count_of_s
 use Rattle.regress_machine.proofs.InsnFetchLemmas.{act-some, fetched-below}
 use Rattle.regress_machine.proofs.CharLoopExitStateLemmas.{run-turn}
 use Rattle.regress_memo.specs.CharLoopExitThreadLists.{passing}
+use Rattle.regress_memo.specs.SkippedLookarounds.{lookaround_at}
 use Rattle.regress_memo.specs.MemoSearch.{Key, Entry, one_thread, key_record, thread_entries}
+use Rattle.regress_memo.specs.Successors.{is_goal_insn}
 use Rattle.regress_memo.specs.AnalysisChecks.{unlimited}
 use Rattle.regress_memo.specs.declared.memo.ThreadMemoKey.{ThreadMemoKey as Stored}
 use Rattle.regress_memo.specs.MemoContents.{memo_key_as_spec, memo_key_at, has_failure}
@@ -31,7 +33,7 @@ use Rattle.regress_bounded.specs.declared.pending_stack.StackEntry.TheVariants.{
 use Rattle.regress_pikevm.specs.declared.pikevm.states.State.{State}
 use Rattle.regress_pikevm.specs.declared.pikevm.states.NextStates.{NextStates}
 use Rattle.regress_bounded.specs.CostsOfSearchEvents.{StepLeavesOnlyThreads, IsKeyNewIfAny, work_of_machine_step, threads_after_step, entries_with_record_of_state, drops, turns, tries_chars}
-use Rattle.regress_bounded.specs.BoundedState.{BoundedAttempt, IsUnfailedStateKeyIfAny, IsNotUnboundedCharLoop, char_loop_max, is_goal_insn, HasAttemptState, IsStackOfEntriesFromTop, AttemptHasState}
+use Rattle.regress_bounded.specs.BoundedState.{BoundedAttempt, IsUnfailedStateKeyIfAny, IsNotUnboundedCharLoop, char_loop_max, HasAttemptState, IsStackOfEntriesFromTop, AttemptHasState}
 use Rattle.regress_bounded.specs.BoundedState.{MayBeNextSearchEvent, TakesOneEvent, NextEventExceedsWorkLeft}
 use Rattle.regress_bounded.specs.BoundedState.{TakesPreferredState, TakesPreferredThread, HasPassedRequiredChars, IsStateAtUnboundedLoopOverInsn, entry_of_current_thread, is_known_key}
 use Rattle.regress_bounded.specs.BoundedState.{stack_with_record_if_any, min_and_greed_of_loop}
@@ -40,7 +42,7 @@ use Rattle.regress_pikevm.specs.States.{machine_state_of, effect_of_next_states,
 use Rattle.regress_pikevm.proofs.InsnFetchLemmas.{insn-here}
 use Rattle.regress_pikevm.proofs.ExecutorTurnLemmas.{scan-threads, waiting-append}
 use Rattle.regress_bounded.proofs.CharLoopBodyInsns.{body-tested, body-insn, body-below}
-use Rattle.regress_bounded.proofs.StepKindByInstruction.{asks-none, never-ends, scans-run}
+use Rattle.regress_memo.proofs.StepKindByInstruction.{asks-none, never-ends, scans-run}
 use Rattle.regress_bounded.proofs.SearchEventCostLemmas.{ScansAt, scans-at}
 use Rattle.regress_bounded.proofs.BoundedStateLemmas.{row-push, can-turn, inside, new, known, comes-on, is-short}
 
@@ -157,16 +159,16 @@ module _ {P : Type 0} (offset : P → ℕ) (re : Regex) (text : Text) (insns : L
     pub here : (body : Coded) → body ≡ get_or insns (s.ip + 1) body
         → IsStateAtUnboundedLoopOverInsn offset (compiled (tree_of re)) text (record { body = body; least = least; greedy = greedy }) greedy s
 
-module _ (re : Regex) (text : Text) (insns : List Coded) (code : map insn_as_spec_insn insns ≡ (compiled (tree_of re)).insns) (s : machine.State)
-    (can : IsNotStuck (act (compiled (tree_of re)) text rightwards s)) where
+module _ (re : Regex) (text : Text) (d : Direction) (insns : List Coded) (code : map insn_as_spec_insn insns ≡ (compiled (tree_of re)).insns) (s : machine.State)
+    (can : IsNotStuck (act (compiled (tree_of re)) text d s)) where
   abbrev its-program : Program
   its-program = compiled (tree_of re)
 
   pub can-below : s.ip < length insns
-  can-below = fetched-below insn_as_spec_insn insns its-program.insns s.ip code (act-some its-program text rightwards (slice_get its-program.insns s.ip) s can)
+  can-below = fetched-below insn_as_spec_insn insns its-program.insns s.ip code (act-some its-program text d (slice_get its-program.insns s.ip) s can)
 
   pub can-insn : (insn : Coded) → insn ≡ get_or insns s.ip insn → slice_get its-program.insns s.ip ≡ Some (insn_as_spec_insn insn)
-  can-insn insn is = insn-here re insns code text rightwards s can insn is
+  can-insn insn is = insn-here re insns code text d s can insn is
 
   -- The current instruction is a char loop, and its body follows it.
   pub record ReadsAt (least most : ℕ) (greedy : Bool) : Type 0 where
@@ -177,7 +179,7 @@ module _ (re : Regex) (text : Text) (insns : List Coded) (code : map insn_as_spe
 
   pub reads-at : (least most : ℕ) (greedy : Bool) → slice_get its-program.insns s.ip ≡ Some (Loop1CharBody least most greedy) → ReadsAt least most greedy
   reads-at least most greedy run =
-      let at = scans-at its-program text s least most greedy run can in
+      let at = scans-at its-program text d s least most greedy run can in
       let tested = body-tested its-program s.ip at.test at.body in
       record { run = run; at = at; below = body-below re insns code s.ip tested; body = λ body is. body-insn re insns code s.ip tested body is }
 
@@ -195,15 +197,15 @@ module _ (re : Regex) (text : Text) (insns : List Coded) (code : map insn_as_spe
 module _ {P : Type 0} {offset : P → ℕ} (re : Regex) {text : Text} (insns : List Coded) (code : map insn_as_spec_insn insns ≡ (compiled (tree_of re)).insns) {s : machine.State}
     {stack : List (StackEntry P)} {c : MemoAndWorkBudget} (there : HasAttemptState offset (compiled (tree_of re)) text (one_thread (running s) ∷ []) stack c) where
   pub here-below : s.ip < length insns
-  here-below = can-below re text insns code s (standing-can there)
+  here-below = can-below re text rightwards insns code s (standing-can there)
 
   pub here-insn : (insn : Coded) → insn ≡ get_or insns s.ip insn → slice_get (compiled (tree_of re)).insns s.ip ≡ Some (insn_as_spec_insn insn)
-  here-insn insn is = can-insn re text insns code s (standing-can there) insn is
+  here-insn insn is = can-insn re text rightwards insns code s (standing-can there) insn is
 
   pub run-at : (insn : Coded) → insn ≡ get_or insns s.ip insn → (greedy : Bool) (least : ℕ) → Some (least, greedy) ≡ min_and_greed_of_loop (insn_as_spec_insn insn)
       → RunAt offset re text insns s greedy least
   run-at insn is greedy least found =
-      let x = reads-at re text insns code s (standing-can there) least unlimited greedy (here-insn insn is ∙ ap Some (unbounded_loop-run (insn_as_spec_insn insn) greedy least found)) in
+      let x = reads-at re text rightwards insns code s (standing-can there) least unlimited greedy (here-insn insn is ∙ ap Some (unbounded_loop-run (insn_as_spec_insn insn) greedy least found)) in
       record { below = x.below; reads = x.body; here = λ body body_is. record { insn = x.run; body = x.body body body_is } }
 
 -- ---- The work of a turn
@@ -218,28 +220,27 @@ goal-ends re text s insn here goal =
     by Goal e = refl
     by x e = cc
 
--- A turn that is not at a goal leaves threads.
+-- A turn that is neither at a goal nor at a lookaround leaves threads.
 module _ {P : Type 0} {offset : P → ℕ} {program : Program} {text : Text} {s : machine.State} {stack : List (StackEntry P)} {c : MemoAndWorkBudget}
     (there : HasAttemptState offset program text (one_thread (running s) ∷ []) stack c) where
-  pub leads-on : (insn : Insn) → slice_get program.insns s.ip ≡ Some insn → false ≡ is_goal_insn insn → StepLeavesOnlyThreads (act program text rightwards s)
-  leads-on insn here other = by (act program text rightwards s) refl (standing-can there)
+  pub leads-on : (insn : Insn) → slice_get program.insns s.ip ≡ Some insn → false ≡ is_goal_insn insn → lookaround_at (Some insn) ≡ None → StepLeavesOnlyThreads (act program text rightwards s)
+  leads-on insn here other none = by (act program text rightwards s) refl (standing-can there)
     where
       by : (x : Next) → act program text rightwards s ≡ x → IsNotStuck x → StepLeavesOnlyThreads x
       by (goes ts) is can = tt
       by (scans tries ts) is can = tt
       by (ends t) is can = absurd (never-ends program text rightwards s insn here (sym other) t is)
-      by (asks inner negate u t) is can =
-          ∥∥₁_elim there (Prim.hlevel props) (λ h. asks-none program text rightwards s inner negate u t is (h.stands.right.paid.no_look s.ip))
+      by (asks inner negate u t) is can = absurd (asks-none program text rightwards s inner negate u t is (ap lookaround_at here ∙ none))
       by stuck is can = absurd can
 
 -- A turn that is not at a char loop tries no character.
-pub other-work : (program : Program) (text : Text) (s : machine.State) (x : Insn) → slice_get program.insns s.ip ≡ Some x → None ≡ char_loop_max x → (left : ℕ)
-    → IsWorkOrMoreThanLeft left (work_of_machine_step (act program text rightwards s)) 1
-other-work program text s x here none left = inl (by (act program text rightwards s) refl)
+pub other-work : (program : Program) (text : Text) (d : Direction) (s : machine.State) (x : Insn) → slice_get program.insns s.ip ≡ Some x → None ≡ char_loop_max x → (left : ℕ)
+    → IsWorkOrMoreThanLeft left (work_of_machine_step (act program text d s)) 1
+other-work program text d s x here none left = inl (by (act program text d s) refl)
   where
-    by : (n : Next) → act program text rightwards s ≡ n → 1 ≡ work_of_machine_step n
+    by : (n : Next) → act program text d s ≡ n → 1 ≡ work_of_machine_step n
     by (scans n ts) is =
-        let r = scans-run program text rightwards s n ts is in
+        let r = scans-run program text d s n ts is in
         let never : None ≡ Some r.most = none ∙ ap char_loop_max (Some_inj (sym here ∙ r.is)) in
         let no : ⊥ = cc in absurd no
     by (goes ts) is = refl
@@ -248,19 +249,19 @@ other-work program text s x here none left = inl (by (act program text rightward
     by stuck is = refl
 
 -- A turn at a char loop does this much work for the characters that pass up to a limit.
-pub run-work : (program : Program) (text : Text) (s : machine.State) → HasRisingPlaceOffsets text → (test : ℕ → Bool) (place least most : ℕ) (greedy : Bool)
+pub run-work : (program : Program) (text : Text) (d : Direction) (s : machine.State) → HasRisingPlaceOffsets text → (test : ℕ → Bool) (place least most : ℕ) (greedy : Bool)
     → slice_get program.insns s.ip ≡ Some (Loop1CharBody least most greedy) → test_of program (slice_get program.insns (s.ip + 1)) ≡ Some test → place_at text s.pos ≡ Some place
-    → {P : Type 0} (offset : P → ℕ) (left passed : ℕ) (pos : P) → HasPassedRequiredChars offset text test (min most (left - 1)) place passed pos
-    → IsWorkOrMoreThanLeft left (work_of_machine_step (act program text rightwards s)) (min most (passed + 1) + 1)
-run-work program text s is_text test place least most greedy run body at offset left passed pos over = by (cases_lt passed (min most (left - 1)))
+    → {P : Type 0} (offset : P → ℕ) (left passed : ℕ) (pos : P) → HasPassedRequiredChars offset text d test (min most (left - 1)) place passed pos
+    → IsWorkOrMoreThanLeft left (work_of_machine_step (act program text d s)) (min most (passed + 1) + 1)
+run-work program text d s is_text test place least most greedy run body at offset left passed pos over = by (cases_lt passed (min most (left - 1)))
   where
     all : ℕ
-    all = passing text test rightwards place
+    all = passing text test d place
 
-    tries_are : tested_char_count_of_step (act program text rightwards s) ≡ min most (all + 1)
-    tries_are = ap tested_char_count_of_step (run-turn program text rightwards place s least most greedy test run body at)
+    tries_are : tested_char_count_of_step (act program text d s) ≡ min most (all + 1)
+    tries_are = ap tested_char_count_of_step (run-turn program text d place s least most greedy test run body at)
 
-    by : (passed < min most (left - 1)) ⊎ (min most (left - 1) ≤ passed) → IsWorkOrMoreThanLeft left (work_of_machine_step (act program text rightwards s)) (min most (passed + 1) + 1)
+    by : (passed < min most (left - 1)) ⊎ (min most (left - 1) ≤ passed) → IsWorkOrMoreThanLeft left (work_of_machine_step (act program text d s)) (min most (passed + 1) + 1)
     by (inl few) =
         let none = over.all few in
         let sum = over.past.sum in

@@ -2,9 +2,9 @@
 -- records.
 use Rattle.std.specs.Prelude.{◌≡◌, ◌≤◌, ◌<◌, ◌^◌, ◌+◌, ◌-◌, ℕ, Bool, true, false, List, [], ◌∷◌, ◌++◌, map, reverse, Option, Some, None, option_map, Result, Ok, Err, IfSome, ◌⊎◌, ◌==◌, if◌then◌else◌}
 use Rattle.std.specs.Prelude.{slice_get}
-use Rattle.regex_meaning.specs.Text.{Text, rightwards, moved, last_place}
+use Rattle.regex_meaning.specs.Text.{Text, Direction, rightwards, moved, last_place}
 use Rattle.regex_meaning.specs.CodeUnitOffsets.{HasRisingPlaceOffsets, offset as text_offset, place_at, units}
-use Rattle.regex_meaning.specs.CompilationRelation.{Program, Insn, Goal, Loop1CharBody}
+use Rattle.regex_meaning.specs.CompilationRelation.{Program, Insn, Loop1CharBody}
 use Rattle.regex_pattern_front.specs.AstToSpecTree.{tree_of}
 use Rattle.regex_pattern_front.specs.declared.ir.Regex.{Regex}
 use Rattle.regress_program.specs.InsnsAsSpec.{insn_as_spec_insn}
@@ -14,7 +14,6 @@ use Rattle.regress_machine.specs.Machine.{Thread, running, waiting, first_runnin
 use Rattle.regress_machine.specs.InsnEffects.{state_after_char_loop_to_offset}
 use Rattle.regress_machine.specs.CharLoopExitStatesByPreference.{behind}
 use Rattle.regress_memo.specs.Liveness.{ReadsAsBytes}
-use Rattle.regress_memo.specs.SkippedLookarounds.{lookaround_at}
 use Rattle.regress_memo.specs.CharLoopExitThreadLists.{passing, pending_loop_threads}
 use Rattle.regress_memo.specs.MemoSearch.{Key, Entry, one_thread, thread_group, key_record, thread_entries, IsMemory}
 use Rattle.regress_memo.specs.declared.analysis_result.MemoAnalysis.{MemoAnalysis}
@@ -46,11 +45,10 @@ stack_with_record_if_any None stack = stack
 stack_with_record_if_any (Some key) stack = stack ++ AsRecord key ∷ []
 
 module _ (program : Program) (text : Text) where
-  -- The memo analysis bounds the searches of this text with the program, which has no lookarounds.
+  -- The memo analysis bounds the searches of this text with the program.
   pub record AnalysisBoundsSearch (t : MemoAnalysis) : Type 0 where
     pub memo_analysis : IsAnalysisOf program t
     pub bounded : IsWorkBounded t program
-    pub no_look : (ip : ℕ) → lookaround_at (slice_get program.insns ip) ≡ None
     pub is_text : HasRisingPlaceOffsets text
     pub bytes : ReadsAsBytes program text
     pub short : units text < 2 ^ 63
@@ -88,11 +86,6 @@ min_and_greed_of_loop _ = None
 abbrev pub char_loop_max : Insn → Option ℕ
 char_loop_max (Loop1CharBody least most greedy) = Some most
 char_loop_max _ = None
-
--- Whether the instruction is the goal, which ends the search.
-abbrev pub is_goal_insn : Insn → Bool
-is_goal_insn Goal = true
-is_goal_insn _ = false
 
 -- The instruction is not a char loop without a maximum.
 abbrev pub IsNotUnboundedCharLoop : Program → (ip : ℕ) → Type 0
@@ -318,19 +311,21 @@ module _ {P : Type 0} (offset : P → ℕ) where
 
   -- ---- Characters read
 
-  -- The position is `count` characters after a place, and all of these characters pass the test.
-  pub record IsPositionAfterCharsOfClass (text : Text) (test : ℕ → Bool) (place count : ℕ) (pos : P) : Type 0 where
-    pub at : offset pos ≡ text_offset text (moved text rightwards count place)
-    pub within : moved text rightwards count place ≤ last_place text
-    pub sum : passing text test rightwards place ≡ count + passing text test rightwards
-        (moved text rightwards count place)
+  -- The position is `count` characters after a place in the direction, and all of these characters
+  -- pass the test.
+  pub record IsPositionAfterCharsOfClass (text : Text) (d : Direction) (test : ℕ → Bool) (place count : ℕ)
+      (pos : P) : Type 0 where
+    pub at : offset pos ≡ text_offset text (moved text d count place)
+    pub within : moved text d count place ≤ last_place text
+    pub sum : passing text test d place ≡ count + passing text test d (moved text d count place)
 
   -- `count` characters, at most `least`, pass the test. If there are fewer than `least`, the next
   -- one does not pass.
-  pub record HasPassedRequiredChars (text : Text) (test : ℕ → Bool) (least place count : ℕ) (pos : P) : Type 0 where
+  pub record HasPassedRequiredChars (text : Text) (d : Direction) (test : ℕ → Bool) (least place count : ℕ)
+      (pos : P) : Type 0 where
     pub few : count ≤ least
-    pub past : IsPositionAfterCharsOfClass text test place count pos
-    pub all : count < least → passing text test rightwards (moved text rightwards count place) ≡ 0
+    pub past : IsPositionAfterCharsOfClass text d test place count pos
+    pub all : count < least → passing text test d (moved text d count place) ≡ 0
 
   -- The pending entry of a lazy loop that continues after the next character.
   pub record LaterLazyExitsArePending (text : Text) (place : ℕ) (s : State P) (old new : List (StackEntry P)) : Type 0

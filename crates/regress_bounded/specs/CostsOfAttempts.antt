@@ -1,6 +1,6 @@
 -- The cost of attempts that remember failures from the first one on. An attempt is a search from
 -- the first instruction. Its cost is the sum of the costs of its events (`CostsOfSearchEvents`).
-use Rattle.std.specs.Prelude.{◌≡◌, ◌+◌, ℕ, false, List, [], ◌∷◌, Option, IfSome}
+use Rattle.std.specs.Prelude.{◌≡◌, ℕ, false, List, [], ◌∷◌, Option, IfSome}
 use Rattle.regex_meaning.specs.Text.{Text, rightwards}
 use Rattle.regex_meaning.specs.Tree.{Tree}
 use Rattle.regex_meaning.specs.CompilationRelation.{Program}

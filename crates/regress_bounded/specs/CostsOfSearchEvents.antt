@@ -4,14 +4,17 @@
 --
 -- A unit of work is an operation that is executed, a character that a char loop tests, a thread
 -- that is resumed or dropped, or a record that is reached. The end of a search is not an event.
+-- The contents of a lookaround are searched without the memo table. This costs a unit for each step
+-- of the machine, and the end is one of them.
 use Rattle.std.specs.Prelude.{◌≡◌, ◌≤◌, ◌<◌, ◌+◌, ◌-◌, ◌==◌, ℕ, Bool, true, false, List, [], ◌∷◌, ◌++◌, Option, Some, None, slice_get}
 use Rattle.regex_meaning.specs.Text.{Text, Direction}
 use Rattle.regex_meaning.specs.CodeUnitOffsets.{place_at}
 use Rattle.regex_meaning.specs.CompilationRelation.{Program, Loop1CharBody}
-use Rattle.regress_machine.specs.Machine.{State, Thread, Next, running, waiting, goes, scans, act}
+use Rattle.regress_machine.specs.Machine.{State, Thread, Next, running, waiting, goes, scans, Found, after_lookaround, state_with_ip, state_at_next_ip, act, search}
 use Rattle.regress_machine.specs.CharLoopExitStatesByPreference.{behind}
 use Rattle.regress_machine.specs.InsnEffects.{tested_char_count_of_step}
 use Rattle.regress_memo.specs.CharLoopExitThreadLists.{passing, pending_loop_threads}
+use Rattle.regress_memo.specs.SkippedLookarounds.{LookaroundInsn, lookaround_at}
 use Rattle.regress_memo.specs.DistinctLists.{IsIn, IsNew}
 use Rattle.regress_memo.specs.MemoSearch.{Key, Entry, one_thread, thread_group, key_record, thread_entries}
 use Rattle.regress_memo.specs.declared.analysis_result.MemoAnalysis.{MemoAnalysis}
@@ -127,6 +130,12 @@ module _ (program : Program) (text : Text) (t : MemoAnalysis) (d : Direction) wh
         (pending_loop_threads text test d 0 place s) ∷ rest) row
         → IsSearchEvent memory 2 (thread_group (pending_loop_threads text test d 0 place s) ∷ rest) memory
         (one_thread (running (behind text d place s 0)) ∷ row)
+    -- A thread executes a lookaround, and its contents are searched.
+    searches_contents : (s : State) (look : LookaroundInsn) (turns : ℕ) (f : Found) (rest : List Entry)
+        → lookaround_at (slice_get program.insns s.ip) ≡ Some look
+        → search program text turns look.inner (running (state_at_next_ip s) ∷ []) ≡ Some f
+        → IsSearchEvent memory (f.steps + 1) (one_thread (running s) ∷ rest) memory
+        (thread_entries (after_lookaround look.negate (state_with_ip look.continuation s) f.end) ++ rest)
     -- A waiting thread is resumed.
     resumes : (s : State) (rest : List Entry)
         → IsSearchEvent memory 1 (one_thread (waiting s) ∷ rest) memory (one_thread (running s) ∷ rest)

@@ -6,3 +6,5 @@ pub mod WorkOfCharLoopsAndAttempts
 pub mod BudgetSpending
 pub mod WorkOfSuccessiveAttempts
 pub mod CostsOfAttempts
+pub mod LookaroundResults
+pub mod CostsOfStages

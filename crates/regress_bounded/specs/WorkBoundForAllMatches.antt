@@ -1,13 +1,12 @@
 -- Work bounds of programs: how much work suffices for all matches of a text together.
 use Rattle.std.specs.Arc.{arc_value}
 use Rattle.std.specs.List.{fold, sum_by}
-use Rattle.std.specs.Prelude.{◌≡◌, ◌≤◌, ℕ, ◌+◌, ◌*◌, ◌/◌, ◌==◌, Bool, true, false, if◌then◌else◌, max, nat_le, slice_get, Option, None}
+use Rattle.std.specs.Prelude.{◌≡◌, ◌≤◌, ℕ, ◌+◌, ◌*◌, ◌/◌, ◌==◌, Bool, true, false, if◌then◌else◌, max, nat_le, Option, None}
 use Rattle.regex_meaning.specs.MatchGroupsByNumberAndName.{answers_from}
 use Rattle.regex_meaning.specs.CompilationRelation.{Program, Insn, Loop1CharBody}
 use Rattle.regex_meaning.specs.Text.{Text}
 use Rattle.regex_meaning.specs.Tree.{Tree}
 use Rattle.regex_meaning.specs.CodeUnitOffsets.{units}
-use Rattle.regress_memo.specs.SkippedLookarounds.{lookaround_at}
 use Rattle.regress_program.specs.CompilationOfTreesAsFunction.{compiled}
 use Rattle.regress_search.specs.MatchesWithinWork.{RemainingAnswersAndWork}
 use Rattle.regress_search.specs.CostsOfSearches.{Failures}
@@ -19,10 +18,18 @@ use Rattle.regress_memo.specs.CheckedAnalysis.{IsAnalysisOf}
 use Rattle.regress_bounded.specs.CostsOfAttempts.{NoFailuresAreKnown}
 use Rattle.regress_bounded.specs.declared.work_bound.WorkBound.{WorkBound}
 
--- The bound per position: 1 to pass the position, the work of all searches together, and the work
--- of one more search.
+-- The work of the first stage of a search per position (see `CostsOfStages`).
+abbrev pub first_stage_work_per_position : ℕ
+first_stage_work_per_position = 16
+
+-- The work per position that is enough for the second stage: 1 to pass the position, the work of all
+-- searches together, and the work of one more search.
+abbrev pub second_stage_work_per_position : MemoAnalysis → ℕ
+second_stage_work_per_position t = 1 + (work_per_position t + work_per_position t / 3)
+
+-- The bound per position: the work of both stages.
 abbrev pub work_per_unit : MemoAnalysis → ℕ
-work_per_unit t = 1 + (work_per_position t + work_per_position t / 3)
+work_per_unit t = first_stage_work_per_position + second_stage_work_per_position t
 
 -- The size of an instruction. That of a char loop is 1 plus its maximum, or 1 plus its minimum if
 -- it has no maximum. That of other instructions is 1.
@@ -38,11 +45,10 @@ program_size program = sum_by work_size_of_insn program.insns
 abbrev pub most_memo_codes_per_insn : MemoAnalysis → ℕ
 most_memo_codes_per_insn t = fold (λ most x. max most x.codes) 0 t.lines.items
 
--- The memo analysis bounds the searches with the program, which has no lookarounds.
+-- The memo analysis bounds the searches with the program.
 pub record AnalysisBoundsProgram (program : Program) (t : MemoAnalysis) : Type 0 where
   pub memo_analysis : IsAnalysisOf program t
   pub bounded : IsWorkBounded t program
-  pub no_look : (ip : ℕ) → lookaround_at (slice_get program.insns ip) ≡ None
 
 -- The bound belongs to the tree's program. Per unit, it is at most a constant times the size of the
 -- program times its largest number of codes.

@@ -6,7 +6,7 @@ use Rattle.regex_meaning.specs.CodeUnitOffsets.{units}
 use Rattle.regex_meaning.specs.CompilationRelation.{Program}
 use Rattle.regress_memo.specs.MemoContents.{has_failure}
 use Rattle.regress_bounded.specs.declared.memo_and_work_budget.MemoAndWorkBudget.{MemoAndWorkBudget}
-use Rattle.regress_bounded.specs.WorkBoundForAllMatches.{work_per_unit}
+use Rattle.regress_bounded.specs.WorkBoundForAllMatches.{second_stage_work_per_position}
 use Rattle.regress_bounded.specs.WorkOfCharLoopsAndAttempts.{AttemptsHaveKnownKeys}
 
 module _ (program : Program) (text : Text) (c : MemoAndWorkBudget) (ahead : ℕ) where
@@ -15,7 +15,7 @@ module _ (program : Program) (text : Text) (c : MemoAndWorkBudget) (ahead : ℕ)
   pub record Walked : Type 0 where
     pub done : ℕ
     pub walked : AttemptsHaveKnownKeys program text c.memo.memo_analysis (has_failure c.memo) ahead done
-    pub enough : work_per_unit c.memo.memo_analysis * (units text + 1) ≤ done + c.left
+    pub enough : second_stage_work_per_position c.memo.memo_analysis * (units text + 1) ≤ done + c.left
 
   -- `Walked` as a proposition.
   abbrev pub AttemptsLeaveEnoughWork : Type 0

@@ -1,29 +1,27 @@
-//! The bounded executor. It copies its states, and remembers each failure from the first attempt
-//! on.
+//! The bounded executor: searches in two stages, within a work budget.
 
-ghost use Rattle.std.specs.Prelude.{◌≡◌, ◌≤◌, ◌<◌, ◌^◌, ◌*◌, ◌+◌, nat_le, not, IfErr, IfOk, IsAscii, None, Some, [], false, refl, true};
+ghost use Rattle.std.specs.Prelude.{◌≡◌, ◌≤◌, ◌<◌, ◌^◌, ◌*◌, ◌+◌, ◌-◌, nat_le, IfErr, IfOk, IsAscii, None, false, min, refl, true};
+ghost use Rattle.std.specs.Option.{ForSome, option_map_or};
+ghost use Rattle.std.specs.Arc.{arc_value};
+ghost use Rattle.std.specs.Coded.{codes};
 ghost use Rattle.std.proofs.Props.{props};
-ghost use Rattle.regex_meaning.specs.{CodeUnitOffsets.{IsBoundary, units, IsBoundaryOrPastEnd, is_past}, Text.{ascii_text, ucs2_text, utf16_text, utf8_text}};
+ghost use Rattle.regex_meaning.specs.{CodeUnitOffsets.{units, IsBoundaryOrPastEnd, is_past}, Text.{ascii_text, ucs2_text, utf16_text, utf8_text}};
 ghost use Rattle.regex_pattern_front.specs.AstToSpecTree.{tree_of};
-ghost use Rattle.regress_search.specs.{AttemptsAndStarts.{match_end_and_groups_at}, MatchesWithinWork.{least_offset_after_match}};
+ghost use Rattle.regex_pattern_front.specs.contracts.ir.Node as node;
 ghost use Rattle.regress_search.specs.CostsOfCalls.{without_costs};
 ghost use Rattle.regress_search.specs.declared.exec.SearchError.TheVariants.{Memory};
-ghost use Rattle.regress_program.specs.CompilationOfTreesAsFunction.{compiled};
-ghost use Rattle.regress_pikevm.specs.{InsnEffects.{end_and_groups}, States.{groups_as_offset_ranges}};
-ghost use Rattle.regress_bounded.specs.WorkBoundForAllMatches.{TreeHasWorkBound, HasMadeNoAttempt, YieldsMatchesIfWorkSuffices, is_work_enough_for_text};
-ghost use Rattle.regress_bounded.specs.BoundedState.{BoundedAttempt, BoundedAttemptBegins, IsMemoRightForRegex, AttemptHasState, HasAttemptState, AttemptResultIs, entry_of_current_thread};
-ghost use Rattle.regress_bounded.specs.WorkOfSuccessiveAttempts.{AttemptsLeaveEnoughWork};
-ghost use Rattle.regress_bounded.specs.CostsOfAttempts.{NoFailuresAreKnown, AttemptCosts, IteratorBeginsSearches, failures_of};
+ghost use Rattle.regress_pikevm.specs.States.{groups_as_offset_ranges};
+ghost use Rattle.regress_backtrack.specs.{State.{current_thread_state_of}, WorkOfAttempts.{no_failures}};
+ghost use Rattle.regress_bounded.specs.WorkBoundForAllMatches.{TreeHasWorkBound, HasMadeNoAttempt, YieldsMatchesIfWorkSuffices, first_stage_work_per_position};
+ghost use Rattle.regress_bounded.specs.WorkBoundForAllMatches.{is_work_enough_for_text, second_stage_work_per_position};
+ghost use Rattle.regress_bounded.specs.CostsOfAttempts.{NoFailuresAreKnown, IteratorBeginsSearches, failures_of};
+ghost use Rattle.regress_bounded.specs.CostsOfStages.{costs_of_stages};
 
-use crate::memo_and_work_budget::{AttemptAbortReason, MemoAndWorkBudget};
-use crate::pending_stack::StackEntry;
-use crate::thread_steps_and_backtracking::{
-    StepResult, backtrack_to_pending_entry, execute_thread_step,
-};
-use crate::work_bound::WorkBound;
+use crate::memoizing_executor::MemoizingExecutor;
+use crate::work_bound::{FIRST_STAGE_WORK_PER_POSITION, WorkBound};
+use regress_backtrack::classicalbacktrack::WorkLimitedExecutor;
 use regress_input::indexing::{AsciiInput, InputIndexer, Ucs2Input, Utf8Input, Utf16Input};
 use regress_input::position::PositionType;
-use regress_pikevm::pikevm::states::{State, initial_state};
 use regress_program::insn::{CompiledRegex, CompiledRegexFor16BitUnits, Program};
 use regress_search::exec::{SearchError, SearchState, WorkLimitedProducer, WorkMatches};
 use regress_search::program_and_input::ProgramAndInput;
@@ -32,165 +30,106 @@ use regress_search::search_loop::{SingleAttemptExecutor, position_range_of_group
 /// Searches a text with a program that has a work bound. A limited amount of work is shared by all
 /// matches.
 ///
-/// A unit of work is a step of a thread, a backtrack to a pending entry, a thread that is dropped
-/// because it is known to fail, a character that a char loop tests, or a record that is reached
-/// (`CostsOfSearchEvents`). Copying states and passing over positions are not counted.
+/// A search has two stages. The first one has at most 16 units of work for each position of the text,
+/// and executes attempts as `WorkLimitedExecutor` does: it remembers no failures, and skips starts. If
+/// an attempt costs more than what is left of them, the second stage repeats it with the rest of the
+/// work. It remembers failures (`MemoizingExecutor`), and makes all further attempts.
 ///
 /// Only `WorkMatches` holds such an executor, and it reports an exhausted budget as `WorkLimit`. No
 /// function returns the executor itself, because `SearchError` has no such variant.
 #[derive(Drop)]
 pub struct BoundedExecutor<'r, Input: InputIndexer> {
-    searched: ProgramAndInput<'r, Input>,
-    // The pending entries. The next one is last.
-    stack: Vec<StackEntry<Input::Position>>,
-    // The groups of the last attempt that found an end.
-    groups: Vec<Option<(Input::Position, Input::Position)>>,
-    progress: MemoAndWorkBudget,
-    // Whether the budget suffices and all attempts were made in ascending order, so that no later
-    // attempt is before `ahead`.
+    first: WorkLimitedExecutor<'r, Input>,
+    bound: WorkBound,
+    // The work of the second stage, until that begins.
+    reserve: u64,
+    // Whether that is enough for all matches.
     enough: bool,
-    ahead: usize,
-    // Whether the last attempt was aborted because the budget was exhausted. If so, no work is
-    // left.
+    // How much less work the first stage was given than 16 units for each position. It decides by the
+    // full number whether it skips starts, so that costs do not depend on the budget.
+    lacking: u64,
+    // Whether the last attempt or skip of the first stage reached the limit of all work.
     out: bool,
-    ghost right: { IsMemoRightForRegex searched.program.now (Input.text searched.input)
-        progress.memo } by { Prim.hlevel props },
-    ghost walked: { enough ≡ true
-        → AttemptsLeaveEnoughWork (compiled (tree_of searched.program.now)) (Input.text searched.input) progress
-        ahead } by { Prim.hlevel props },
-    ghost spent: { out ≡ true → progress.left ≡ 0 } by { Prim.hlevel props },
-}
-
-// Returns the preferred end state that can be reached from a state, within the budget.
-fn run<Input: InputIndexer>(
-    searched: &ProgramAndInput<'_, Input>,
-    start: State<Input::Position>,
-    stack: &mut Vec<StackEntry<Input::Position>>,
-    progress: &mut MemoAndWorkBudget,
-) -> Result<Option<State<Input::Position>>, AttemptAbortReason>
-    requires stands { let s = searched.now in
-        HasAttemptState Input.Position.offset (compiled (tree_of s.program.now)) (Input.text s.input)
-        (entry_of_current_thread Input.Position.offset (Some start)) [] progress.old }
-    ensures sound { let s = searched.now in IsMemoRightForRegex s.program.now (Input.text s.input) progress.new.memo }
-    ensures memo_analysis { progress.new.memo.memo_analysis ≡ progress.old.memo.memo_analysis }
-    ensures left { progress.new.left ≤ progress.old.left }
-    ensures runs { let at = Input.Position.offset in let s = searched.now in
-        let program = compiled (tree_of s.program.now) in let text = Input.text s.input in
-        (b : BoundedAttempt) → AttemptHasState at program text b (entry_of_current_thread at (Some start)) []
-        progress.old
-        → AttemptResultIs at program text b result progress.new }
-{
-    stack.clear();
-    let insns = searched.program.insns();
-    let mut next = Some(start);
-    'search: loop {
-        next = match next {
-            Some(state) => match execute_thread_step(searched, insns, state, stack, progress)? {
-                StepResult::ContinueWith(next) => next,
-                StepResult::End(end) => return Ok(Some(end)),
-            },
-            None => match stack.pop() {
-                Some(waiting) => backtrack_to_pending_entry(
-                    searched, insns, waiting, stack, progress,
-                )?,
-                None => return Ok(None),
-            },
-        };
-    }
-}
-
-// Returns the end state of the preferred match that begins at a position, within the budget.
-// Returns `None` if there is none.
-// Contract: `found` says which end and groups are returned, and `runs` says what the attempt did
-// with the budget and the memo table. `sound` and `memo_analysis` say that the table stays right
-// and keeps its analysis. `left` says that the work that is left does not grow.
-fn preferred_final_state<Input: InputIndexer>(
-    searched: &ProgramAndInput<'_, Input>,
-    stack: &mut Vec<StackEntry<Input::Position>>,
-    progress: &mut MemoAndWorkBudget,
-    pos: Input::Position,
-) -> Result<Option<State<Input::Position>>, AttemptAbortReason>
-    requires at { IsBoundary (Input.text searched.now.input) (Input.Position.offset pos) }
-    requires sound { let s = searched.now in IsMemoRightForRegex s.program.now (Input.text s.input) progress.old.memo }
-    ensures sound { let s = searched.now in IsMemoRightForRegex s.program.now (Input.text s.input) progress.new.memo }
-    ensures found { let s = searched.now in IfOk result (λ end. end_and_groups Input.Position.offset end
-        ≡ match_end_and_groups_at (tree_of s.program.now) (Input.text s.input) (Input.Position.offset pos)) }
-    ensures memo_analysis { progress.new.memo.memo_analysis ≡ progress.old.memo.memo_analysis }
-    ensures left { progress.new.left ≤ progress.old.left }
-    ensures runs { let at = Input.Position.offset in let s = searched.now in
-        let program = compiled (tree_of s.program.now) in let text = Input.text s.input in
-        (b : BoundedAttempt) → BoundedAttemptBegins program text (at pos) progress.old b → AttemptResultIs
-        at program text b result progress.new }
-{
-    let start = initial_state(searched.program, pos)?;
-    let end = run(searched, start, stack, progress)?;
-    Ok(end)
+    second: Option<MemoizingExecutor<'r, Input>>,
+    ghost bounded: { TreeHasWorkBound (tree_of first.executor.search.program.regex) bound } by { Prim.hlevel props },
+    ghost program: { ForSome second (λ m. m.searched.program.now ≡ first.executor.search.program.regex) } by { Prim.hlevel (props, codes, node.the_row.coded) },
+    ghost text: { ForSome second (λ m. Input.text m.searched.input ≡ Input.text first.executor.search.searched.input) } by { Prim.hlevel props },
+    ghost sum: { first.progress.steps.left + reserve < 2 ^ 64 },
+    ghost suffices: { enough ≡ true → second_stage_work_per_position (arc_value bound.memo_analysis)
+        * (units (Input.text first.executor.search.searched.input) + 1) ≤ reserve } by { Prim.hlevel props },
+    ghost all_given: { 0 < lacking → reserve ≡ 0 } by { Prim.hlevel props },
+    ghost spent: { out ≡ true → (first.progress.steps.left ≡ 0) × (reserve ≡ 0) } by { Prim.hlevel props },
 }
 
 impl<'r, Input: InputIndexer> SearchState for BoundedExecutor<'r, Input> {
-    ghost tree = { λ e. tree_of e.searched.program.now };
+    ghost tree = { λ e. tree_of e.first.executor.search.program.regex };
 
-    ghost text = { λ e. Input.text e.searched.input };
+    ghost text = { λ e. Input.text e.first.executor.search.searched.input };
 
-    ghost enough = { λ e. e.enough };
+    ghost enough = { λ e. option_map_or (λ m. m.enough) e.second e.enough };
 
-    ghost ahead = { λ e. e.ahead };
+    ghost ahead = { λ e. option_map_or (λ m. m.ahead) e.second 0 };
 
-    ghost out_of_work = { λ e. e.out };
+    ghost out_of_work = { λ e. option_map_or (λ m. m.out) e.second e.out };
 
-    ghost left = { λ e. e.progress.left };
+    ghost left = { λ e. option_map_or (λ m. m.progress.left) e.second
+        (e.first.progress.steps.left + e.reserve) };
 
     ghost counts_work = { true };
 
-    ghost failures = { λ e. failures_of e.progress.memo };
+    ghost failures = { λ e. option_map_or (λ m. failures_of m.progress.memo) e.second no_failures };
 
-    ghost costs = { record { of_attempt = AttemptCosts; may_skip = false } };
+    ghost costs = { costs_of_stages Input.Units.encoding };
 }
 
 impl<'r, Input: InputIndexer> SingleAttemptExecutor for BoundedExecutor<'r, Input> {
     type Input = Input;
 
-    ghost groups = { λ e. groups_as_offset_ranges Input.Position.offset e.groups.items };
+    ghost groups = { λ e. option_map_or (λ m. groups_as_offset_ranges Input.Position.offset m.groups.items) e.second
+        (current_thread_state_of e.first.executor.memory 0 0).groups };
 
-    ghost is_text = { λ e. Input.is_text e.searched.input };
+    ghost is_text = { λ e. Input.is_text e.first.executor.search.searched.input };
 
     fn program(&self) -> &Program {
-        self.searched.program
+        self.first.program()
     }
 
     fn input(&self) -> &Input {
-        &self.searched.input
+        self.first.input()
     }
 
     fn attempt(&mut self, pos: Input::Position) -> Result<Option<Input::Position>, SearchError> {
-        let at = pos.to_offset();
-        self.out = false;
-        self.enough = self.enough && self.ahead <= at;
-        match preferred_final_state(&self.searched, &mut self.stack, &mut self.progress, pos) {
-            Ok(Some(end)) => {
-                let pos = end.pos;
-                self.ahead = least_offset_after_match(at, pos.to_offset());
-                self.groups = end.groups;
-                Ok(Some(pos))
-            }
-            Ok(None) => {
-                self.ahead = at + 1;
-                Ok(None)
-            }
-            Err(refusal) => {
-                self.enough = false;
-                self.out = matches!(refusal, AttemptAbortReason::Work);
-                Err(SearchError::Memory)
-            }
+        match &mut self.second {
+            Some(second) => return second.attempt(pos),
+            None => {}
         }
+        self.out = false;
+        let result = self.first.attempt(pos);
+        if !self.first.is_work_exhausted() {
+            return result;
+        }
+        if self.reserve == 0 {
+            self.out = true;
+            return result;
+        }
+        let mut second = self.new_second_stage()?;
+        let result = second.attempt(pos);
+        self.second = Some(second);
+        result
     }
 
     fn group_count(&self) -> usize {
-        self.groups.len()
+        match &self.second {
+            Some(second) => second.groups.len(),
+            None => self.first.group_count(),
+        }
     }
 
     fn group(&self, id: usize) -> Option<(Input::Position, Input::Position)> {
-        position_range_of_group(&self.groups, id)
+        match &self.second {
+            Some(second) => position_range_of_group(&second.groups, id),
+            None => self.first.group(id),
+        }
     }
 
     fn first_start_to_try_from(&self, pos: Input::Position) -> Option<Input::Position> {
@@ -198,25 +137,60 @@ impl<'r, Input: InputIndexer> SingleAttemptExecutor for BoundedExecutor<'r, Inpu
     }
 
     fn next_start_after_failure(&self, tried: Input::Position) -> Option<Input::Position> {
-        self.searched.position_after_failure(tried)
+        self.first.next_start_after_failure(tried)
     }
-}
 
-// Returns the least offset of the next attempt after a match.
-fn least_offset_after_match(at: usize, end: usize) -> usize
-    requires { end + 1 < 2 ^ 64 }
-    ensures { result ≡ least_offset_after_match at end }
-{
-    if at < end { end } else { end + 1 }
+    fn skip_to_candidate(
+        &mut self,
+        from: Input::Position,
+    ) -> Result<Option<Input::Position>, SearchError> {
+        match &self.second {
+            Some(_) => return Ok(Some(from)),
+            None => {}
+        }
+        let end = self.first.input().unit_count();
+        let left = self.first.work_left();
+        if !pays_for_rest_of_text(end, from.to_offset(), left, self.lacking) {
+            return Ok(Some(from));
+        }
+        let next = self.first.skip_to_candidate(from);
+        self.out = next.is_err();
+        next
+    }
+
+    fn skip_after_failure(
+        &mut self,
+        tried: Input::Position,
+        next: Input::Position,
+    ) -> Result<Option<Input::Position>, SearchError> {
+        match &self.second {
+            Some(_) => return Ok(Some(next)),
+            None => {}
+        }
+        let end = self.first.input().unit_count();
+        let left = self.first.work_left();
+        if !pays_for_rest_of_text(end, next.to_offset(), left, self.lacking) {
+            return Ok(Some(next));
+        }
+        let start = self.first.skip_after_failure(tried, next);
+        self.out = start.is_err();
+        start
+    }
 }
 
 impl<'r, Input: InputIndexer> WorkLimitedProducer for BoundedExecutor<'r, Input> {
     fn work_left(&self) -> u64 {
-        self.progress.left
+        match &self.second {
+            Some(second) => second.progress.left,
+            None => self.first.work_left() + self.reserve,
+        }
     }
 
     fn is_work_exhausted(&self) -> bool {
-        self.out
+        match &self.second {
+            Some(second) => second.out,
+            None => self.out,
+        }
     }
 
     ghost is_counted = { refl };
@@ -224,39 +198,89 @@ impl<'r, Input: InputIndexer> WorkLimitedProducer for BoundedExecutor<'r, Input>
 
 impl<'r, Input: InputIndexer> BoundedExecutor<'r, Input> {
     // Creates an executor that has made no attempt.
-    // Contract: `bound` is a work bound of the program's tree, and `refused` says that an error is
-    // an allocation failure. The other clauses say what the executor has: this text, this work,
-    // whether it suffices for all matches, attempts from offset 0 on, and no known failures.
-    fn over(
-        searched: ProgramAndInput<'r, Input>,
+    // Contract: `first` searches a text of `unit_count` units, with `given` of the work. The other
+    // clauses say what the executor has: this program and text, this work, whether it suffices for all
+    // matches, and that it is in the first stage. An error is an allocation failure.
+    fn from_first_stage(
+        first: WorkLimitedExecutor<'r, Input>,
+        given: u64,
+        unit_count: usize,
         bound: &WorkBound,
         work: u64,
     ) -> Result<Self, SearchError>
-        requires { TreeHasWorkBound (tree_of searched.program.now) bound.now }
-        ensures searched { IfOk result (λ e. e.searched ≡ searched.entry) }
-        ensures left { IfOk result (λ e. e.progress.left ≡ work) }
-        ensures enough { IfOk result (λ e. e.enough
-            ≡ is_work_enough_for_text bound.now.per_unit (Input.text searched.entry.input) work) }
-        ensures ahead { IfOk result (λ e. e.ahead ≡ 0) }
-        ensures fresh { IfOk result (λ e. NoFailuresAreKnown (failures_of e.progress.memo)) }
+        requires bound { TreeHasWorkBound (tree_of first.executor.search.program.regex) bound.now }
+        requires unit_count { unit_count ≡ units (Input.text first.executor.search.searched.input) }
+        requires left { first.progress.steps.left ≡ given }
+        requires given { given ≡ min (first_stage_work_per_position * (unit_count + 1)) work }
+        ensures program { IfOk result (λ e. e.first.executor.search.program.regex
+            ≡ first.entry.executor.search.program.regex) }
+        ensures text { IfOk result (λ e. Input.text e.first.executor.search.searched.input
+            ≡ Input.text first.entry.executor.search.searched.input) }
+        ensures left { IfOk result (λ e. e.first.progress.steps.left + e.reserve ≡ work) }
+        ensures enough { IfOk result (λ e. e.enough ≡ is_work_enough_for_text bound.now.per_unit
+            (Input.text first.entry.executor.search.searched.input) work) }
+        ensures first_stage { IfOk result (λ e. e.second ≡ None) }
         ensures refused { IfErr result (λ e. e ≡ Memory) }
     {
-        let alloc = searched.program.allocator();
-        let places = searched.input.unit_count() + 1;
-        let Some(memo) = bound.empty_memo_table(alloc, places)? else {
-            return Err(SearchError::Memory);
-        };
-        let enough = is_work_enough_for_places(bound.per_unit(), places, work);
+        let enough = is_work_enough_for_places(bound.per_unit(), unit_count + 1, work);
+        let bound = bound.clone()?;
+        let reserve = work - given;
+        let lacking = full_work_of_first_stage(unit_count).saturating_sub(given);
         Ok(BoundedExecutor {
-            searched,
-            stack: Vec::new(alloc),
-            groups: Vec::new(alloc),
-            progress: MemoAndWorkBudget { memo, left: work },
+            first,
+            bound,
+            reserve,
             enough,
-            ahead: 0,
+            lacking,
             out: false,
+            second: None,
         })
     }
+
+    // Creates the second stage, which has made no attempt and has the work that is left for it.
+    fn new_second_stage(&self) -> Result<MemoizingExecutor<'r, Input>, SearchError>
+        ensures program { IfOk result (λ m. m.searched.program.now ≡ self.now.first.executor.search.program.regex) }
+        ensures text { IfOk result (λ m. Input.text m.searched.input
+            ≡ Input.text self.now.first.executor.search.searched.input) }
+        ensures left { IfOk result (λ m. m.progress.left ≡ self.now.reserve) }
+        ensures enough { IfOk result (λ m. m.enough ≡ self.now.enough) }
+        ensures ahead { IfOk result (λ m. m.ahead ≡ 0) }
+        ensures fresh { IfOk result (λ m. NoFailuresAreKnown (failures_of m.progress.memo)) }
+        ensures refused { IfErr result (λ e. e ≡ Memory) }
+    {
+        let searched = self.first.searched();
+        let searched = ProgramAndInput {
+            program: searched.program,
+            anchored: searched.anchored,
+            input: searched.input,
+        };
+        MemoizingExecutor::over(searched, &self.bound, self.reserve, self.enough)
+    }
+}
+
+// Checks whether the first stage may skip starts from an offset on: whether what is left of the full
+// number of units pays for a skip to the end of the text.
+#[inline(always)]
+fn pays_for_rest_of_text(end: usize, from: usize, left: u64, lacking: u64) -> bool
+    ensures { result ≡ true → end ≤ from + (left + lacking) }
+{
+    end.saturating_sub(from) as u64 <= left.saturating_add(lacking)
+}
+
+// Returns the work of the first stage in a text of this number of units, of all the work.
+fn first_stage_work(unit_count: usize, work: u64) -> u64
+    ensures { result ≡ min (first_stage_work_per_position * (unit_count + 1)) work }
+{
+    full_work_of_first_stage(unit_count).min(work)
+}
+
+// Returns the units of work of the first stage if there are as many: 16 for each position.
+fn full_work_of_first_stage(unit_count: usize) -> u64
+    ensures { result ≡ min (first_stage_work_per_position * (unit_count + 1)) (2 ^ 64 - 1) }
+{
+    (unit_count as u64)
+        .saturating_add(1)
+        .saturating_mul(FIRST_STAGE_WORK_PER_POSITION)
 }
 
 // Checks whether `work` suffices for a text with this number of positions.
@@ -281,7 +305,7 @@ impl<'r, 't> BoundedExecutor<'r, Ucs2Input<'t>> {
     ///
     /// # Errors
     ///
-    /// Returns `Memory` if the memo table cannot be allocated.
+    /// Returns `Memory` if an allocation fails.
     pub fn matches_ucs2(
         re: &'r CompiledRegexFor16BitUnits,
         bound: &WorkBound,
@@ -316,7 +340,11 @@ impl<'r, 't> BoundedExecutor<'r, Ucs2Input<'t>> {
             IfOk result (HasMadeNoAttempt e (tree_of re.now) (ucs2_text text.now) bound.now work) }
         ensures refused { IfErr result (λ e. e ≡ Memory) }
     {
-        BoundedExecutor::over(ProgramAndInput::pair_with_ucs2_text(re, text), bound, work)
+        let searched = ProgramAndInput::pair_with_ucs2_text(re, text);
+        let unit_count = searched.input.unit_count();
+        let given = first_stage_work(unit_count, work);
+        let first = WorkLimitedExecutor::<Ucs2Input>::new_ucs2(re, text, given)?;
+        BoundedExecutor::from_first_stage(first, given, unit_count, bound, work)
     }
 }
 
@@ -332,7 +360,7 @@ impl<'r, 't> BoundedExecutor<'r, Utf8Input<'t>> {
     ///
     /// # Errors
     ///
-    /// Returns `Memory` if the memo table cannot be allocated.
+    /// Returns `Memory` if an allocation fails.
     pub fn matches_utf8(
         re: &'r CompiledRegex,
         bound: &WorkBound,
@@ -367,7 +395,11 @@ impl<'r, 't> BoundedExecutor<'r, Utf8Input<'t>> {
             IfOk result (HasMadeNoAttempt e (tree_of re.now) (utf8_text text.now) bound.now work) }
         ensures refused { IfErr result (λ e. e ≡ Memory) }
     {
-        BoundedExecutor::over(ProgramAndInput::pair_with_utf8_text(re, text), bound, work)
+        let searched = ProgramAndInput::pair_with_utf8_text(re, text);
+        let unit_count = searched.input.unit_count();
+        let given = first_stage_work(unit_count, work);
+        let first = WorkLimitedExecutor::<Utf8Input>::new(re, text, given)?;
+        BoundedExecutor::from_first_stage(first, given, unit_count, bound, work)
     }
 }
 
@@ -383,7 +415,7 @@ impl<'r, 't> BoundedExecutor<'r, AsciiInput<'t>> {
     ///
     /// # Errors
     ///
-    /// Returns `Memory` if the memo table cannot be allocated.
+    /// Returns `Memory` if an allocation fails.
     pub fn matches_ascii(
         re: &'r CompiledRegex,
         bound: &WorkBound,
@@ -420,7 +452,11 @@ impl<'r, 't> BoundedExecutor<'r, AsciiInput<'t>> {
             IfOk result (HasMadeNoAttempt e (tree_of re.now) (ascii_text text.now) bound.now work) }
         ensures refused { IfErr result (λ e. e ≡ Memory) }
     {
-        BoundedExecutor::over(ProgramAndInput::pair_with_ascii_text(re, text), bound, work)
+        let searched = ProgramAndInput::pair_with_ascii_text(re, text);
+        let unit_count = searched.input.unit_count();
+        let given = first_stage_work(unit_count, work);
+        let first = WorkLimitedExecutor::<AsciiInput>::new_ascii(re, text, given)?;
+        BoundedExecutor::from_first_stage(first, given, unit_count, bound, work)
     }
 }
 
@@ -436,7 +472,7 @@ impl<'r, 't> BoundedExecutor<'r, Utf16Input<'t>> {
     ///
     /// # Errors
     ///
-    /// Returns `Memory` if the memo table cannot be allocated.
+    /// Returns `Memory` if an allocation fails.
     pub fn matches_utf16(
         re: &'r CompiledRegexFor16BitUnits,
         bound: &WorkBound,
@@ -471,6 +507,10 @@ impl<'r, 't> BoundedExecutor<'r, Utf16Input<'t>> {
             IfOk result (HasMadeNoAttempt e (tree_of re.now) (utf16_text text.now) bound.now work) }
         ensures refused { IfErr result (λ e. e ≡ Memory) }
     {
-        BoundedExecutor::over(ProgramAndInput::pair_with_utf16_text(re, text), bound, work)
+        let searched = ProgramAndInput::pair_with_utf16_text(re, text);
+        let unit_count = searched.input.unit_count();
+        let given = first_stage_work(unit_count, work);
+        let first = WorkLimitedExecutor::<Utf16Input>::new_utf16(re, text, given)?;
+        BoundedExecutor::from_first_stage(first, given, unit_count, bound, work)
     }
 }

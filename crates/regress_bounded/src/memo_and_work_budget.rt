@@ -11,7 +11,7 @@ use crate::pending_stack::ThreadLoopStates;
 use regress_input::position::PositionType;
 use regress_memo::memo::{MemoTable, ThreadMemoKey};
 use regress_pikevm::pikevm::states::State;
-use std::alloc::AllocError;
+use std::alloc::{AllocError, AllocFailed};
 
 /// Why an attempt was aborted.
 #[derive(Clone, Copy)]
@@ -26,6 +26,14 @@ impl From<AllocError> for AttemptAbortReason {
     ghost from_gives = { λ _ e. e ≡ Memory };
 
     fn from(_: AllocError) -> Self {
+        AttemptAbortReason::Memory
+    }
+}
+
+impl<T: Drop> From<AllocFailed<T>> for AttemptAbortReason {
+    ghost from_gives = { λ _ e. e ≡ Memory };
+
+    fn from(_: AllocFailed<T>) -> Self {
         AttemptAbortReason::Memory
     }
 }

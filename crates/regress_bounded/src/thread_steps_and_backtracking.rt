@@ -7,19 +7,20 @@ ghost use Rattle.regress_memo.specs.MemoSearch.{one_thread};
 ghost use Rattle.regress_machine.specs.{InsnEffects.{IsNotStuck}, Machine.{act, running}};
 ghost use Rattle.regress_memo.specs.MemoContents.{memo_key_as_spec, has_failure};
 ghost use Rattle.regress_program.specs.{CompilationOfTreesAsFunction.{compiled}, InsnsAsSpec.{insn_as_spec_insn}};
-ghost use Rattle.regress_memo.specs.CheckedAnalysis.{IsRecordableMemoKey};
+ghost use Rattle.regress_memo.specs.{CheckedAnalysis.{IsRecordableMemoKey}, Successors.{is_goal_insn}};
 ghost use Rattle.regress_bounded.specs.CostsOfSearchEvents.{StepLeavesOnlyThreads, threads_after_step, work_of_machine_step};
-ghost use Rattle.regress_bounded.specs.BoundedState.{IsMemoRightForRegex, IsUnfailedStateKeyIfAny, char_loop_max, is_goal_insn, IsNotUnboundedCharLoop, is_known_key, min_and_greed_of_loop};
+ghost use Rattle.regress_bounded.specs.BoundedState.{IsMemoRightForRegex, IsUnfailedStateKeyIfAny, char_loop_max, IsNotUnboundedCharLoop, is_known_key, min_and_greed_of_loop};
 ghost use Rattle.regress_bounded.specs.BoundedState.{HasAttemptState, ContinuesOrStopsInEachAttempt, StepResultInEachAttempt, TakesPreferredState, TakesPreferredThread, stack_with_record_if_any};
 ghost use Rattle.regress_bounded.specs.BudgetSpending.{LowersBudgetByWork, IsWorkOrMoreThanLeft, WorkExceedsBudget};
 ghost use Rattle.regress_bounded.specs.declared.memo_and_work_budget.AttemptAbortReason.TheVariants.{Work};
 ghost use Rattle.regress_pikevm.specs.States.{machine_state_of};
 
+use crate::lookarounds::execute_lookaround;
 use crate::memo_and_work_budget::{AttemptAbortReason, MemoAndWorkBudget};
 use crate::pending_stack::{StackEntry, UnboundedCharLoop, push_entry};
-use crate::unbounded_char_loops::{
-    read_chars_within_budget, resume_lazy_char_loop, unbounded_char_loop_with_memo,
-};
+use crate::step_work::work_of_step;
+use crate::unbounded_char_loops::{resume_lazy_char_loop, unbounded_char_loop_with_memo};
+use crate::work_bound::is_lookaround;
 use regress_input::cursor::Forward;
 use regress_input::indexing::InputIndexer;
 use regress_input::position::PositionType;
@@ -108,7 +109,7 @@ fn is_key_known_to_fail(key: Option<ThreadMemoKey>, progress: &MemoAndWorkBudget
 }
 
 // Takes the work of an instruction from the budget, and executes it. If there is a key, pushes its
-// record below the threads that the instruction leaves.
+// record below the threads that the instruction leaves. A lookaround has no record.
 // Contract: `stands` says that an attempt is at this state, and `continues` says how that attempt
 // goes on. `code`, `key` and `limited` say that `insns` is the program's code, that `key` is the
 // state's key and not known to fail, and that no char loop without a maximum is executed. `memo`,
@@ -135,10 +136,15 @@ fn execute_with_record<Input: InputIndexer>(
         (one_thread (running (machine_state_of at state)) ∷ []) stack.old.items progress.old result stack.new.items
         progress.new }
 {
-    if is_goal(insns[state.ip]) {
+    let insn = insns[state.ip];
+    if is_goal(insn) {
         return Ok(StepResult::End(state));
     }
-    let work = work_of_step(searched, insns, &state, progress);
+    if is_lookaround(&insn) {
+        let next = execute_lookaround(searched, insns, state, progress)?;
+        return Ok(StepResult::ContinueWith(next));
+    }
+    let work = work_of_step(searched, insns, Forward, &state, progress);
     spend_and_push_record(key, work, stack, progress)?;
     let next = push_threads_of_step(searched, insns, state, stack)?;
     Ok(StepResult::ContinueWith(next))
@@ -150,41 +156,6 @@ fn is_goal(insn: Insn) -> bool
     ensures { result ≡ is_goal_insn (insn_as_spec_insn insn) }
 {
     matches!(insn, Insn::Goal)
-}
-
-// Returns the work of a step: 1, plus 1 for each character that a char loop tests. If this is more
-// than is left, returns another number that is more than is left. It reads no more characters than
-// work is left.
-fn work_of_step<Input: InputIndexer>(
-    searched: &ProgramAndInput<'_, Input>,
-    insns: &[Insn],
-    state: &State<Input::Position>,
-    progress: &MemoAndWorkBudget,
-) -> u64
-    requires code { map insn_as_spec_insn insns.now ≡ (compiled (tree_of searched.now.program.now)).insns }
-    requires executable { let s = searched.now in IsNotStuck (act (compiled (tree_of s.program.now))
-        (Input.text s.input) rightwards (machine_state_of Input.Position.offset state.now)) }
-    ensures { let s = searched.now in IsWorkOrMoreThanLeft progress.now.left (work_of_machine_step (act
-        (compiled (tree_of s.program.now)) (Input.text s.input) rightwards
-        (machine_state_of Input.Position.offset state.now))) result }
-{
-    let Some(most) = char_loop_max(insns[state.ip]) else {
-        return 1;
-    };
-    let mut at = state.pos;
-    let passed = read_chars_within_budget(searched, insns[state.ip + 1], most, progress, &mut at);
-    most.min(passed + 1) as u64 + 1
-}
-
-// Returns the maximum of a char loop. Returns `None` for other instructions.
-#[inline(always)]
-fn char_loop_max(insn: Insn) -> Option<usize>
-    ensures { result ≡ char_loop_max (insn_as_spec_insn insn) }
-{
-    let Insn::Loop1CharBody { max_iters, .. } = insn else {
-        return None;
-    };
-    Some(max_iters)
 }
 
 // Executes an instruction that does not end the search. Pushes the threads that it leaves, and

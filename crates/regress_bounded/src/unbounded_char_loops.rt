@@ -1,7 +1,8 @@
 //! Char loops without a maximum. Each of their exits has a record.
 
 ghost use Rattle.std.specs.Prelude.{◌≡◌, ◌<◌, ◌≤◌, ◌^◌, ◌+◌, ◌-◌, ℕ, Bool, true, false, min, Some, IfOk, IfErr, IsSome, [], ◌∷◌, ◌++◌, map};
-ghost use Rattle.regex_meaning.specs.CodeUnitOffsets.{IsBoundary, place_at};
+ghost use Rattle.regex_meaning.specs.{CodeUnitOffsets.{IsBoundary, place_at}, Text.{rightwards}};
+ghost use Rattle.regress_input.specs.CharAndByteReadsFromOffset.{direction_of_forward_flag};
 ghost use Rattle.regex_pattern_front.specs.AstToSpecTree.{tree_of};
 ghost use Rattle.regress_memo.specs.{CharLoopExitThreadLists.{passing}, MemoSearch.{one_thread}};
 ghost use Rattle.regress_machine.specs.Machine.{running};
@@ -16,7 +17,7 @@ ghost use Rattle.regress_pikevm.specs.States.{machine_state_of};
 
 use crate::memo_and_work_budget::{AttemptAbortReason, MemoAndWorkBudget};
 use crate::pending_stack::{StackEntry, UnboundedCharLoop, push_entry};
-use regress_input::cursor::Forward;
+use regress_input::cursor::{Direction, Forward};
 use regress_input::indexing::InputIndexer;
 use regress_input::position::PositionType;
 use regress_memo::memo::ThreadMemoKey;
@@ -29,9 +30,10 @@ use std::alloc::AllocError;
 
 /// Reads the next characters that a loop accepts, up to `most` and up to what the budget allows
 /// after the cost of the step itself. Returns their number.
-pub(crate) fn read_chars_within_budget<Input: InputIndexer>(
+pub(crate) fn read_chars_within_budget<Input: InputIndexer, Dir: Direction>(
     searched: &ProgramAndInput<'_, Input>,
     body: Insn,
+    dir: Dir,
     most: usize,
     progress: &MemoAndWorkBudget,
     pos: &mut Input::Position,
@@ -43,13 +45,13 @@ pub(crate) fn read_chars_within_budget<Input: InputIndexer>(
     ensures passed { let s = searched.now in let text = Input.text s.input in (test : ℕ → Bool) (place : ℕ)
         → char_test_of_insn s.program.now body ≡ Some test → place_at text
         (Input.Position.offset pos.old) ≡ Some place → HasPassedRequiredChars Input.Position.offset text
-        test (min most (progress.now.left - 1)) place result pos.new }
+        (direction_of_forward_flag Dir.FORWARD) test (min most (progress.now.left - 1)) place result pos.new }
 {
     let limit = progress.chars_within_budget(most);
     let mut count = 0;
     'characters: while count < limit {
         let mut next = *pos;
-        if !insn_matchers::consume_next_char_if_accepted(searched, body, Forward, &mut next) {
+        if !insn_matchers::consume_next_char_if_accepted(searched, body, dir, &mut next) {
             break;
         }
         *pos = next;
@@ -92,7 +94,9 @@ pub(crate) fn unbounded_char_loop_with_memo<Input: InputIndexer>(
         progress.new }
 {
     let mut at = state.pos;
-    let passed = read_chars_within_budget(searched, run.body, run.least, progress, &mut at);
+    let passed = read_chars_within_budget(
+        searched, run.body, Forward, run.least, progress, &mut at,
+    );
     if passed < run.least {
         progress.spend(passed as u64 + 2)?;
         return Ok(None);
@@ -135,7 +139,7 @@ fn scan_greedy_loop_with_memo<Input: InputIndexer>(
     ensures paid { IfOk result (λ r. r.1 ≤ progress.now.left) }
     ensures scans { let at = Input.Position.offset in let s = searched.now in let text = Input.text s.input in
         (test : ℕ → Bool) (place : ℕ) → char_test_of_insn s.program.now run.body ≡ Some test
-        → IsPositionAfterCharsOfClass at text test place run.least from
+        → IsPositionAfterCharsOfClass at text rightwards test place run.least from
         → IfOk result (ScansWithMemo at (compiled (tree_of s.program.now)) text progress.now.memo.memo_analysis
         (has_failure progress.now.memo) test place (machine_state_of at state.now) run.least progress.now.left
         stack.old.items stack.new.items) }

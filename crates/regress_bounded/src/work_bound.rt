@@ -7,9 +7,10 @@ ghost use Rattle.regex_pattern_front.specs.AstToSpecTree.{tree_of};
 ghost use Rattle.regress_memo.specs.CheckedAnalysis.{HasDisjointCodes};
 ghost use Rattle.regress_memo.specs.MemoContents.{IsEmptyMemo};
 ghost use Rattle.regress_program.specs.InsnsAsSpec.{insn_as_spec_insn};
-ghost use Rattle.regress_bounded.specs.Unboundedness.{HasNoLookaroundOrBackreference, IsReasonForUnboundedness, is_lookaround_or_backref_insn};
-ghost use Rattle.regress_bounded.specs.WorkBoundForAllMatches.{TreeHasWorkBound, most_memo_codes_per_insn, work_size_of_insn};
+ghost use Rattle.regress_bounded.specs.Unboundedness.{HasOnlySimpleLookarounds, IsReasonForUnboundedness, is_lookaround_or_backref_insn};
+ghost use Rattle.regress_bounded.specs.WorkBoundForAllMatches.{TreeHasWorkBound, first_stage_work_per_position, most_memo_codes_per_insn, work_size_of_insn};
 
+use crate::complex_lookarounds::has_complex_lookaround;
 use regress_memo::analysis_result::MemoAnalysis;
 use regress_memo::loop_data_key_codes::MOST_CODES;
 use regress_memo::memo::MemoTable;
@@ -17,6 +18,9 @@ use regress_program::insn::{CompiledRegex, CompiledRegexFor16BitUnits, Insn, Pro
 use std::alloc::{AllocError, AllocFailed, Global};
 use std::sync::Arc;
 use thiserror::Error;
+
+// The work of the first stage of a search for each position of the text.
+pub(crate) const FIRST_STAGE_WORK_PER_POSITION: u64 = 16;
 
 // The largest accepted bound, per unit of program size and per key code. If a bound is larger, no
 // bound is known.
@@ -34,7 +38,8 @@ pub enum Unbounded {
     /// An allocation failed. The pattern may have a bound.
     #[error("out of memory")]
     Memory,
-    /// The pattern has a lookahead or a lookbehind.
+    /// The contents of a lookahead or a lookbehind have a loop other than a loop over one character
+    /// with a maximum, or an alternative that other contents follow (`docs/LINEAR.md`).
     #[error("no work bound is known: the pattern has a lookaround")]
     Lookaround,
     /// The pattern has a backreference.
@@ -85,10 +90,10 @@ impl WorkBound {
     ///
     /// # Errors
     ///
-    /// Returns the reason why no bound is known. A lookaround is reported before a backreference.
+    /// Returns the reason why no bound is known. A backreference is reported before a lookaround.
     pub fn bound_for_bytes(re: &CompiledRegex) -> Result<WorkBound, Unbounded>
         ensures bound { IfOk result (TreeHasWorkBound (tree_of re.now)) }
-        ensures plain { OnOk result (HasNoLookaroundOrBackreference (tree_of re.now)) }
+        ensures plain { OnOk result (HasOnlySimpleLookarounds (tree_of re.now)) }
         ensures refused { IfErr result (IsReasonForUnboundedness (tree_of re.now)) }
     {
         WorkBound::bound_of_program(re.common_program())
@@ -101,7 +106,7 @@ impl WorkBound {
     /// The same as for `bound_for_bytes`.
     pub fn bound_for_units(re: &CompiledRegexFor16BitUnits) -> Result<WorkBound, Unbounded>
         ensures bound { IfOk result (TreeHasWorkBound (tree_of re.now)) }
-        ensures plain { OnOk result (HasNoLookaroundOrBackreference (tree_of re.now)) }
+        ensures plain { OnOk result (HasOnlySimpleLookarounds (tree_of re.now)) }
         ensures refused { IfErr result (IsReasonForUnboundedness (tree_of re.now)) }
     {
         WorkBound::bound_of_program(re.common_program())
@@ -110,16 +115,16 @@ impl WorkBound {
     // Computes the bound of a program.
     fn bound_of_program(program: &Program) -> Result<WorkBound, Unbounded>
         ensures bound { IfOk result (TreeHasWorkBound (tree_of program.now)) }
-        ensures plain { OnOk result (HasNoLookaroundOrBackreference (tree_of program.now)) }
+        ensures plain { OnOk result (HasOnlySimpleLookarounds (tree_of program.now)) }
         ensures refused { IfErr result (IsReasonForUnboundedness (tree_of program.now)) }
     {
         let alloc = program.allocator();
         let insns = program.insns();
-        if has_lookaround(insns) {
-            return Err(Unbounded::Lookaround);
-        }
         if has_backreference(insns) {
             return Err(Unbounded::Backreference);
+        }
+        if has_complex_lookaround(insns) {
+            return Err(Unbounded::Lookaround);
         }
         let Some(memo_analysis) = MemoAnalysis::new(alloc, insns, program.loops() as usize)? else {
             if counts_may_cause_no_bound(insns) {
@@ -130,7 +135,7 @@ impl WorkBound {
         let Some(work) = memo_analysis.work_per_position(insns) else {
             return Err(Unbounded::BoundTooLarge);
         };
-        let Some(per_unit) = work_per_position_of_searches(work) else {
+        let Some(per_unit) = work_per_position_of_stages(work) else {
             return Err(Unbounded::BoundTooLarge);
         };
         if !is_bound_small_enough(
@@ -155,6 +160,17 @@ impl WorkBound {
         self.per_unit
     }
 
+    // Returns the same bound.
+    pub(crate) fn clone(&self) -> Result<WorkBound, AllocError>
+        ensures analysis { IfOk result (λ b. arc_value b.memo_analysis ≡ arc_value self.now.memo_analysis) }
+        ensures per_unit { IfOk result (λ b. b.per_unit ≡ self.now.per_unit) }
+    {
+        Ok(WorkBound {
+            memo_analysis: self.memo_analysis.clone()?,
+            per_unit: self.per_unit,
+        })
+    }
+
     // Allocates an empty memo table of failures for `places` offsets.
     pub(crate) fn empty_memo_table(
         &self,
@@ -169,12 +185,13 @@ impl WorkBound {
     }
 }
 
-// Returns the work per position: 1 to pass it, the work of all searches together, and the work of
-// one more search.
-fn work_per_position_of_searches(work: u64) -> Option<u64>
-    ensures { IfSome result (λ all. all ≡ 1 + (work + work / 3)) }
+// Returns the work per position: that of the first stage, 1 to pass the position, the work of all
+// searches together, and the work of one more search.
+fn work_per_position_of_stages(work: u64) -> Option<u64>
+    ensures { IfSome result (λ all. all ≡ first_stage_work_per_position + (1 + (work + work / 3))) }
 {
-    work.checked_add(work / 3)?.checked_add(1)
+    work.checked_add(work / 3)?
+        .checked_add(FIRST_STAGE_WORK_PER_POSITION + 1)
 }
 
 // Checks that the bound is at most a constant times the program size times the number of codes.
@@ -231,15 +248,8 @@ fn most_memo_codes_per_insn(memo_analysis: &MemoAnalysis) -> u64
     most as u64
 }
 
-// Checks whether a program has a lookaround.
-fn has_lookaround(insns: &[Insn]) -> bool
-    ensures { result ≡ list_any (λ insn. is_lookaround_or_backref_insn true (insn_as_spec_insn insn)) insns.now }
-{
-    insns.iter().any(|insn| is_lookaround(insn))
-}
-
-// Checks whether an instruction is a lookaround.
-fn is_lookaround(insn: &Insn) -> bool
+/// Checks whether an instruction is a lookaround.
+pub(crate) fn is_lookaround(insn: &Insn) -> bool
     ensures { result ≡ is_lookaround_or_backref_insn true (insn_as_spec_insn insn.now) }
 {
     matches!(insn, Insn::Lookahead { .. } | Insn::Lookbehind { .. })

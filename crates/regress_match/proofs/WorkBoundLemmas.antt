@@ -22,7 +22,7 @@ use Rattle.regress_memo.specs.CheckedAnalysis.{HasDisjointCodes}
 use Rattle.regress_memo.specs.declared.analysis_result.InsnAnalysis.{InsnAnalysis}
 use Rattle.regress_memo.specs.declared.analysis_result.MemoAnalysis.{MemoAnalysis}
 use Rattle.regress_program.specs.CompilationOfTreesAsFunction.{compiled}
-use Rattle.regress_bounded.specs.Unboundedness.{HasNoLookaroundOrBackreference, IsReasonForUnboundedness}
+use Rattle.regress_bounded.specs.Unboundedness.{HasOnlySimpleLookarounds, IsReasonForUnboundedness}
 use Rattle.regress_bounded.specs.declared.work_bound.Unbounded.{Unbounded}
 use Rattle.regress_bounded.specs.WorkBoundForAllMatches.{TreeHasWorkBound, IsWorkBoundOfTree, most_memo_codes_per_insn, program_size}
 use Rattle.regress_bounded.specs.declared.work_bound.WorkBound.{WorkBound}
@@ -115,9 +115,9 @@ module _ {P : Type 0} (costs : WorkCosts) (tree_of : P → Tree) (text_of : P �
 pub bound-came : {X : Type 0} (of : X → Tree) (program own : X) (bound : WorkBound) → TreeHasWorkBound (of program) bound → program ≡ own → TreeHasWorkBound (of own) bound
 bound-came of program own bound is same = subst (λ p. TreeHasWorkBound (of p) bound) same is
 
--- An equal program has no lookaround or backreference either.
-pub plain-came : {X : Type 0} (of : X → Tree) (program own : X) → HasNoLookaroundOrBackreference (of program) → program ≡ own → HasNoLookaroundOrBackreference (of own)
-plain-came of program own is same = subst (λ p. HasNoLookaroundOrBackreference (of p)) same is
+-- An equal program has only simple lookarounds, and no backreference, too.
+pub plain-came : {X : Type 0} (of : X → Tree) (program own : X) → HasOnlySimpleLookarounds (of program) → program ≡ own → HasOnlySimpleLookarounds (of own)
+plain-came of program own is same = subst (λ p. HasOnlySimpleLookarounds (of p)) same is
 
 -- The pattern is unbounded because its 16-bit program is, or else its byte program is.
 module _ {X : Type 0} (re : Regex) (r : Result X Unbounded) (e : Unbounded) (is : IsErrAnd r (λ f. f ≡ e)) where
@@ -131,7 +131,7 @@ module _ {X : Type 0} (re : Regex) (r : Result X Unbounded) (e : Unbounded) (is 
   pub units-unbounded : (tree : Tree) → tree ≡ tree_for_16_bit_units re → IsReasonForUnboundedness tree e → IfErr r (IsPatternUnboundedBy re)
   units-unbounded tree same refused = handed-on (IsPatternUnboundedBy re) (inl (subst (λ t. IsReasonForUnboundedness t e) same refused))
 
-  pub bytes-unbounded : (tree : Tree) → tree ≡ tree_for_byte_units re → HasNoLookaroundOrBackreference (tree_for_16_bit_units re) → IsReasonForUnboundedness tree e → IfErr r (IsPatternUnboundedBy re)
+  pub bytes-unbounded : (tree : Tree) → tree ≡ tree_for_byte_units re → HasOnlySimpleLookarounds (tree_for_16_bit_units re) → IsReasonForUnboundedness tree e → IfErr r (IsPatternUnboundedBy re)
   bytes-unbounded tree same plain refused = handed-on (IsPatternUnboundedBy re) (inr (plain, subst (λ t. IsReasonForUnboundedness t e) same refused))
 
 -- Either number is at most the higher one.

@@ -14,7 +14,7 @@ use Rattle.regress_search.specs.declared.exec.work_matches.WorkError.TheVariants
 use Rattle.regress_program.specs.CompilationOfTreesAsFunction.{compiled}
 use Rattle.regress_bounded.specs.WorkBoundForAllMatches.{TreeHasWorkBound, program_size}
 pub use Rattle.regress_bounded.specs.WorkBoundForAllMatches.{YieldsMatchesIfWorkSuffices, enough_work_for_text}
-use Rattle.regress_bounded.specs.Unboundedness.{HasNoLookaroundOrBackreference, IsReasonForUnboundedness}
+use Rattle.regress_bounded.specs.Unboundedness.{HasOnlySimpleLookarounds, IsReasonForUnboundedness}
 use Rattle.regress_bounded.specs.declared.work_bound.Unbounded.{Unbounded}
 use Rattle.regress_bounded.specs.declared.work_bound.WorkBound.{WorkBound}
 use Rattle.regress_match.specs.declared.api.regex.Regex.{Regex}
@@ -48,17 +48,17 @@ IsHigherOfProgramWorkBounds re per_unit = (bytes : WorkBound) × (units : WorkBo
     × AreWorkBoundsOfBothPrograms re bytes units
     × (per_unit ≡ higher_bound_of bytes units)
 
--- Neither tree of the pattern has a lookaround or a backreference.
-pub record NoTreeHasLookaroundOrBackreference (re : Regex) : Type 0 where
-  pub units : HasNoLookaroundOrBackreference (tree_for_16_bit_units re)
-  pub bytes : HasNoLookaroundOrBackreference (tree_for_byte_units re)
+-- Neither tree of the pattern has a backreference, or a lookaround whose contents repeat or join.
+pub record BothTreesHaveOnlySimpleLookarounds (re : Regex) : Type 0 where
+  pub units : HasOnlySimpleLookarounds (tree_for_16_bit_units re)
+  pub bytes : HasOnlySimpleLookarounds (tree_for_byte_units re)
 
 -- When a pattern has no work bound for this reason. Either the reason holds for its tree for 16-bit
 -- units, which is the tree of the pattern as written. Or that tree has a bound, and the reason
 -- holds for its tree for bytes.
 abbrev pub IsPatternUnboundedBy : Regex → Unbounded → Type 0
 IsPatternUnboundedBy re reason = IsReasonForUnboundedness (tree_for_16_bit_units re) reason
-    ⊎ (HasNoLookaroundOrBackreference (tree_for_16_bit_units re)
+    ⊎ (HasOnlySimpleLookarounds (tree_for_16_bit_units re)
     × IsReasonForUnboundedness (tree_for_byte_units re) reason)
 
 -- A number that no bound of the pattern exceeds, computed from its two programs: 64 for each unit

@@ -52,9 +52,9 @@ impl<'r, Input: InputIndexer> PikeVMExecutor<'r, Input> {
     }
 }
 
-// Executes one instruction in a direction.
+/// Executes one instruction in a direction.
 #[inline(always)]
-fn execute_in_direction<Input: InputIndexer>(
+pub fn execute_in_direction<Input: InputIndexer>(
     searched: &ProgramAndInput<'_, Input>,
     insns: &[Insn],
     forward: bool,
@@ -89,8 +89,8 @@ fn current_or_popped_state<P: PositionType>(
     }
 }
 
-// Returns the preferred state, and pushes the others.
-fn take_preferred_exit_and_push_others<P: PositionType>(
+/// Returns the preferred state, and pushes the others.
+pub fn take_preferred_exit_and_push_others<P: PositionType>(
     mut states: Vec<State<P>>,
     stack: &mut Vec<State<P>>,
 ) -> Result<Option<State<P>>, AllocError>

@@ -8,7 +8,7 @@ ghost use Rattle.regress_match.specs.CompileErrors.{IsOutOfMemory};
 ghost use Rattle.regress_match.specs.ExpansionsAndMatchRanges.{MatchesFitTextInOrderFrom};
 ghost use Rattle.regress_bounded.specs.CostsOfAttempts.{IteratorBeginsSearches};
 ghost use Rattle.regress_search.specs.CostsOfCalls.{without_costs};
-ghost use Rattle.regress_match.specs.WorkBounds.{IsHigherOfProgramWorkBounds, NoTreeHasLookaroundOrBackreference, IsPatternUnboundedBy, YieldsMatchesIfWorkSuffices, max_of_two};
+ghost use Rattle.regress_match.specs.WorkBounds.{IsHigherOfProgramWorkBounds, BothTreesHaveOnlySimpleLookarounds, IsPatternUnboundedBy, YieldsMatchesIfWorkSuffices, max_of_two};
 
 use crate::api::{Regex, SearchError};
 use regress_bounded::executor::BoundedExecutor;
@@ -24,12 +24,14 @@ pub type MatchesInWork<'r, Input> = WorkMatches<BoundedExecutor<'r, Input>>;
 /// A pattern with a known work bound: on a text of n units, all matches together take at most
 /// `work_per_unit` × (n + 1) work. A unit of a text is a byte or a 16-bit code unit.
 ///
+/// A search begins as `Regex::find_from_in_work` does, with 16 units of work for each position. If
+/// they do not suffice, it goes on with an executor that remembers failures: in one bit for each
+/// position, each instruction that records, and each state of the loops around it.
+///
 /// A unit of work is one step of a thread, one backtrack to a pending thread, one thread that is
-/// dropped because it is known to fail, one character that a char loop examines, or one record of a
-/// failure that is reached. Each call of `next` takes exactly the cost of its search
-/// (`CostsInWork`). Copying states and passing over positions are not counted. On most texts, these
-/// searches take longer than those of `Regex` (`docs/LINEAR.md`). They remember failures in one bit
-/// for each position, each instruction that records, and each state of the loops around it.
+/// dropped because it is known to fail, one character that a char loop examines, one code unit that
+/// a search skips, or one record of a failure that is reached (`docs/LINEAR.md`). Each call of `next`
+/// takes exactly a cost of its search (`CostsInWork`).
 ///
 /// Contracts see the pattern, and the number that `work_per_unit` returns.
 #[derive(Drop)]
@@ -61,15 +63,17 @@ impl Regex {
     /// Returns the reason why no bound is known. `docs/LINEAR.md` has the full list of causes. It
     /// is proved when the first two are returned, and tested when the others are.
     ///
-    /// - `Lookaround` exactly if the pattern has one, and otherwise `Backreference` exactly if it
-    ///   has one.
+    /// - `Backreference` exactly if the pattern has one.
+    /// - Otherwise `Lookaround` exactly if in one of its two programs the contents of a lookaround
+    ///   have a loop, other than one over one character with a maximum, or alternatives that other
+    ///   contents follow.
     /// - `Count` if the counts of its loops are too large, or its loops are nested too deeply.
     /// - `BoundTooLarge` if the bound is too large.
     /// - `Memory` if an allocation for computing the bound fails.
     pub fn bounded(&self) -> Result<BoundedRegex<'_>, Unbounded>
         ensures pattern { IfOk result (λ bounded. bounded.re ≡ self.now) }
         ensures enough { IfOk result (λ bounded. IsHigherOfProgramWorkBounds self.now bounded.per_unit) }
-        ensures plain { OnOk result (NoTreeHasLookaroundOrBackreference self.now) }
+        ensures plain { OnOk result (BothTreesHaveOnlySimpleLookarounds self.now) }
         ensures refused { IfErr result (IsPatternUnboundedBy self.now) }
     {
         let units = WorkBound::bound_for_units(self.unit_program())?;
@@ -118,8 +122,8 @@ impl<'r> BoundedRegex<'r> {
     /// for a text of n bytes. The error is `Memory` if an allocation fails. The iterator's
     /// `work_left` returns how much work is left.
     ///
-    /// A search for all matches of `a` in `ba` takes 3 units of work. With 2 units, `WorkLimit`
-    /// follows the match (tested in `test_searches`).
+    /// A search for all matches of `a` in `ba` takes 3 units of work. With 2 units, the only item is
+    /// `WorkLimit` (tested in `test_searches`).
     ///
     /// The clause `yields` says that the iterator yields the list of matches, and when the work
     /// suffices for all of it. The clause `begins` says what determines the cost of its first call.
@@ -128,7 +132,7 @@ impl<'r> BoundedRegex<'r> {
     ///
     /// # Errors
     ///
-    /// `Memory` if an allocation for the search fails, or if the size of its memo table overflows.
+    /// `Memory` if an allocation fails.
     pub fn find_from<'t>(
         &self,
         text: &'t str,

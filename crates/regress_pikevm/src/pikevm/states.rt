@@ -102,7 +102,7 @@ pub fn initial_state<P: PositionType>(program: &Program, pos: P) -> Result<State
 /// Returns the state that continues after a lookaround, given the end of its search. After a
 /// positive lookaround, it keeps the groups and loop data of that search. Returns `None` if the
 /// lookaround fails.
-pub(crate) fn resume_after_lookaround<P: PositionType>(
+pub fn resume_after_lookaround<P: PositionType>(
     negate: bool,
     after: State<P>,
     found: Option<State<P>>,

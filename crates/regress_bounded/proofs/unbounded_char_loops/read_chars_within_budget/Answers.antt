@@ -1,6 +1,7 @@
 use Rattle.std.proofs.Common.{◌+◌, arith}
 use Rattle.regex_meaning.proofs.CodeUnitOffsetsLemmas.{IsBoundary-place}
 use Rattle.regress_search.proofs.CharLoopReach.{some-of}
+use Rattle.regress_input.specs.CharAndByteReadsFromOffset.{direction_of_forward_flag}
 use Rattle.regress_search.specs.OffsetsAfterMatchedInsns.{char_test_of_insn}
 use Rattle.regress_bounded.proofs.CharLoopProgress.{past-none, past-more, past-all, past-boundary}
 use Rattle.regress_bounded.proofs.unbounded_char_loops.read_chars_within_budget.Goals as goal
@@ -12,7 +13,7 @@ characters-init g c =
     record {
       boundary = c.requires.at;
       few = omega arith;
-      past = λ test place e f. past-none g.Input.Position.PositionType.offset text is test place c.args.pos.now f;
+      past = λ test place e f. past-none g.Input.Position.PositionType.offset text is (direction_of_forward_flag g.Dir.Direction.FORWARD) test place c.args.pos.now f;
     }
 
 pub consume_next_char_if_accepted-requires-clause-at : goal.consume_next_char_if_accepted-requires-clause-at
@@ -27,12 +28,12 @@ characters-preserved g c =
     let p = IsBoundary-place text (offset c.args.pos.now) is c.requires.at in
     record {
       boundary =
-          past-boundary offset text is t.0 p.0 (c.characters.count + 1) c.consume_next_char_if_accepted.new.pos
-          (past-more offset text is t.0 p.0 c.characters.count c.characters.pos c.consume_next_char_if_accepted.new.pos c.consume_next_char_if_accepted.result (c.characters.invariant.past t.0 p.0 t.1 p.1)
+          past-boundary offset text is (direction_of_forward_flag g.Dir.Direction.FORWARD) t.0 p.0 (c.characters.count + 1) c.consume_next_char_if_accepted.new.pos
+          (past-more offset text is (direction_of_forward_flag g.Dir.Direction.FORWARD) t.0 p.0 c.characters.count c.characters.pos c.consume_next_char_if_accepted.new.pos c.consume_next_char_if_accepted.result (c.characters.invariant.past t.0 p.0 t.1 p.1)
           c.if-not-consume_next_char_if_accepted.false (c.consume_next_char_if_accepted.ensures t.0 t.1));
       few = omega (arith, c.characters-test.true);
       past = λ test place e f.
-          past-more offset text is test place c.characters.count c.characters.pos c.consume_next_char_if_accepted.new.pos c.consume_next_char_if_accepted.result (c.characters.invariant.past test place e f)
+          past-more offset text is (direction_of_forward_flag g.Dir.Direction.FORWARD) test place c.characters.count c.characters.pos c.consume_next_char_if_accepted.new.pos c.consume_next_char_if_accepted.result (c.characters.invariant.past test place e f)
           c.if-not-consume_next_char_if_accepted.false (c.consume_next_char_if_accepted.ensures test e);
     }
 
@@ -57,7 +58,7 @@ returns-then-not-consume_next_char_if_accepted-clause-passed g c = λ test place
   few = (let limit_is = c.chars_within_budget-limit.ensures in let few = c.characters.invariant.few in omega (arith, few, limit_is));
   past = c.characters.invariant.past test place e f;
   all = λ less.
-      past-all g.Input.Position.PositionType.offset (g.Input.InputIndexer.text c.args.searched.now.input) (g.met.Input.InputIndexer.is_text c.args.searched.now.input) test place
+      past-all g.Input.Position.PositionType.offset (g.Input.InputIndexer.text c.args.searched.now.input) (g.met.Input.InputIndexer.is_text c.args.searched.now.input) (direction_of_forward_flag g.Dir.Direction.FORWARD) test place
       c.characters.count c.characters.pos (g.Input.Position.PositionType.offset c.consume_next_char_if_accepted.new.pos) c.consume_next_char_if_accepted.result (c.characters.invariant.past test place e f)
       c.if-not-consume_next_char_if_accepted.true (c.consume_next_char_if_accepted.ensures test e);
 }

@@ -3,7 +3,7 @@ use Rattle.regress_memo.specs.MemoContractView.{MemoView}
 use Rattle.regress_pikevm.proofs.ExecutorTurnLemmas.{popped-none}
 use Rattle.regress_bounded.proofs.BoundedStateLemmas.{knows, still-knows, standing-on, less-on, stands-as, standing-as}
 use Rattle.regress_bounded.proofs.StepResultLemmas.{runs-stopped, comes-less, came-on, came-end}
-use Rattle.regress_bounded.proofs.executor.run.Goals as goal
+use Rattle.regress_bounded.proofs.memoizing_executor.run.Goals as goal
 
 pub search-init : goal.search-init
 search-init g c = record {

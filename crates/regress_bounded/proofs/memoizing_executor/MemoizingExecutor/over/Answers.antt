@@ -3,18 +3,16 @@ use Rattle.std.specs.Arc.{arc_value}
 use Rattle.std.specs.Prelude.{MatchOption}
 use Rattle.std.proofs.Math.Logic.{∥∥₁_map, ∥∥₁_elim}
 use Rattle.std.proofs.Props.{props}
-use Rattle.std.proofs.lemmas.Bool.{leb-true}
 use Rattle.regex_meaning.specs.CodeUnitOffsets.{units}
 use Rattle.regex_pattern_front.specs.AstToSpecTree.{tree_of}
 use Rattle.regress_memo.specs.MemoContents.{IsEmptyMemo}
 use Rattle.regress_program.specs.CompilationOfTreesAsFunction.{compiled}
 use Rattle.regress_pikevm.proofs.ExecutorTurnLemmas.{reads-literals}
-use Rattle.regress_bounded.specs.WorkBoundForAllMatches.{work_per_unit}
 use Rattle.regress_bounded.proofs.AttemptResultLemmas.{begun-right, begun-walked}
-use Rattle.regress_bounded.proofs.executor.BoundedExecutor.over.Goals as goal
+use Rattle.regress_bounded.proofs.memoizing_executor.MemoizingExecutor.over.Goals as goal
 
 pub empty_memo_table-requires : goal.empty_memo_table-requires
-empty_memo_table-requires g c = ∥∥₁_elim c.requires (Prim.hlevel props) (λ b. b.has.memo_analysis.coded)
+empty_memo_table-requires g c = ∥∥₁_elim c.requires.bound (Prim.hlevel props) (λ b. b.has.memo_analysis.coded)
 
 pub invariant_of-result : goal.invariant_of-result
 invariant_of-result g c =
@@ -31,11 +29,8 @@ invariant_of-result g c =
     let begun' : IsEmptyMemo t places false m = subst (λ o. MatchOption o (2 ^ 64 ≤ t.codes * places) (IsEmptyMemo t places false)) c.in-Some.is c.in_ok-memo.ensures in
     let begun : IsEmptyMemo t (units text + 1) false m = subst (λ n. IsEmptyMemo t (n + 1) false m) c.unit_count-places.ensures begun' in
     record {
-      right = ∥∥₁_map c.requires (λ b. begun-right program text is bytes short t b.has m begun);
-      walked = λ e. ∥∥₁_map c.requires (λ b.
-          let fits : c.per_unit.result * places ≤ c.args.work = leb-true (c.per_unit.result * places) c.args.work (sym c.is_work_enough_for_places-enough.ensures ∙ e) in
-          let same : c.per_unit.result * places ≡ work_per_unit t * (units text + 1) = ap (λ p. p * places) (c.per_unit.ensures ∙ b.per_unit) ∙ ap (λ n. work_per_unit t * (n + 1)) c.unit_count-places.ensures in
-          begun-walked program text is bytes short t b.has m begun c.args.work (omega (arith, fits, same)));
+      right = ∥∥₁_map c.requires.bound (λ b. begun-right program text is bytes short t b.has m begun);
+      walked = λ e. ∥∥₁_map c.requires.bound (λ b. begun-walked program text is bytes short t b.has m begun c.args.work (c.requires.suffices e));
       spent = λ e. absurd (let no : ⊥ = cc in no);
     }
 

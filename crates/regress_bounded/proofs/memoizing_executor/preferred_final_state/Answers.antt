@@ -3,7 +3,7 @@ use Rattle.regress_search.proofs.SearchableProgramLemmas.{can-search}
 use Rattle.regress_program.specs.CompilationOfTreesAsFunction.{compiled}
 use Rattle.regress_bounded.proofs.AttemptResultLemmas.{begins-stands, attempt-stands, found-all}
 use Rattle.regress_bounded.proofs.StepResultLemmas.{runs-handed}
-use Rattle.regress_bounded.proofs.executor.preferred_final_state.Goals as goal
+use Rattle.regress_bounded.proofs.memoizing_executor.preferred_final_state.Goals as goal
 
 pub run-requires : goal.run-requires
 run-requires g c =

@@ -2,7 +2,7 @@ use Rattle.std.proofs.Common.{◌≡◌, ◌≤◌, [], Some}
 use Rattle.regex_pattern_front.specs.AstToSpecTree.{tree_of}
 use Rattle.regress_program.specs.CompilationOfTreesAsFunction.{compiled}
 use Rattle.regress_bounded.specs.BoundedState.{BoundedAttempt, AttemptHasState, HasAttemptState, entry_of_current_thread}
-use Rattle.regress_bounded.proofs.executor.run.Given as goal
+use Rattle.regress_bounded.proofs.memoizing_executor.run.Given as goal
 
 abbrev pub invariant-search : goal.invariant-search
 invariant-search g l =

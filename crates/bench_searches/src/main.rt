@@ -1,11 +1,13 @@
 //! Times a search of a file: `bench_searches PATTERN FLAGS FILE [WORK]`.
 //!
 //! Prints the number of matches, and the nanoseconds of the fastest of several passes over the
-//! file. Each pass finds all matches, or with `WORK` those that are found within that much work.
+//! file. Each pass finds all matches, or with `WORK` those that are found within that much work. If
+//! `WORK` is `bound`, the searches are those of `BoundedRegex`, with enough work.
 #![tactic(auto)]
 
 use anyhow::{Context, Result, bail};
-use regress_match::api::{Flags, Regex, WorkError};
+use regress_match::api::{BoundedRegex, Flags, Regex, WorkError};
+use regress_match::exec::{WorkLimitedProducer, WorkMatches};
 use std::alloc::Global;
 use std::rt::Clock;
 use std::time::Instant;
@@ -14,12 +16,38 @@ use std::{env, fs};
 /// The number of passes.
 const PASSES: u32 = 5;
 
-// A search of a text, within a work limit if there is one.
+// The work limit of a search.
+#[derive(Clone, Copy)]
+enum Limit {
+    None,
+    Work(u64),
+    /// The work that suffices by the bound of the pattern.
+    Bound,
+}
+
+impl Limit {
+    // Reads a limit.
+    fn parse(word: &str) -> Limit {
+        match word.parse::<u64>() {
+            Ok(work) => Limit::Work(work),
+            Err(_) => Limit::Bound,
+        }
+    }
+}
+
+// What finds the matches of a text.
+#[derive(Clone, Copy)]
+enum Searcher<'a> {
+    All(&'a Regex),
+    WithinWork(&'a Regex, u64),
+    Bounded(&'a BoundedRegex<'a>),
+}
+
+// A search of a text.
 #[derive(Clone, Copy)]
 struct Search<'a> {
-    re: &'a Regex,
+    searcher: Searcher<'a>,
     text: &'a str,
-    work: Option<u64>,
 }
 
 // Returns the number of matches in the text.
@@ -39,9 +67,24 @@ fn count(re: &Regex, text: &str) -> Result<u64> {
 
 // Returns the number of matches in the text that are found within a work limit.
 fn count_in_work(re: &Regex, text: &str, work: u64) -> Result<u64> {
-    let Ok(found) = re.find_from_in_work(text, 0, work) else {
-        bail!("out of memory");
-    };
+    match re.find_from_in_work(text, 0, work) {
+        Ok(found) => count_items(found),
+        Err(_) => bail!("out of memory"),
+    }
+}
+
+// Returns the number of matches in the text, by a search with enough work for all of them.
+fn count_within_bound(bounded: &BoundedRegex<'_>, text: &str) -> Result<u64> {
+    let places = (text.len() as u64).saturating_add(1);
+    let work = bounded.work_per_unit().saturating_mul(places);
+    match bounded.find_from(text, 0, work) {
+        Ok(found) => count_items(found),
+        Err(_) => bail!("out of memory"),
+    }
+}
+
+// Returns the number of matches before the end or the work limit.
+fn count_items<P: WorkLimitedProducer + Drop>(found: WorkMatches<P>) -> Result<u64> {
     let mut matches = 0u64;
     for item in found {
         match item {
@@ -56,9 +99,10 @@ fn count_in_work(re: &Regex, text: &str, work: u64) -> Result<u64> {
 // Returns the number of matches that a search finds, and the nanoseconds that it took.
 fn pass(clock: &impl Clock, search: &Search<'_>) -> Result<(u64, u128)> {
     let start = Instant::now(clock)?;
-    let matches = match search.work {
-        None => count(search.re, search.text)?,
-        Some(work) => count_in_work(search.re, search.text, work)?,
+    let matches = match search.searcher {
+        Searcher::All(re) => count(re, search.text)?,
+        Searcher::WithinWork(re, work) => count_in_work(re, search.text, work)?,
+        Searcher::Bounded(re) => count_within_bound(re, search.text)?,
     };
     Ok((matches, start.elapsed(clock)?.as_nanos()))
 }
@@ -70,6 +114,13 @@ fn fastest(clock: &impl Clock, search: &Search<'_>) -> Result<(u64, u128)> {
         nanoseconds = nanoseconds.min(pass(clock, search)?.1);
     }
     Ok((matches, nanoseconds))
+}
+
+// Prints the number of matches in the text, and the nanoseconds of the fastest pass.
+fn report(rt: &HostRuntime, searcher: Searcher<'_>, text: &str) -> Result<()> {
+    let (matches, nanoseconds) = fastest(rt, &Search { searcher, text })?;
+    println!(rt; "{matches} matches, {nanoseconds} ns")?;
+    Ok(())
 }
 
 // Returns the arguments after the program's name.
@@ -84,9 +135,9 @@ fn words(rt: &HostRuntime, alloc: Global) -> Result<Vec<String>> {
 fn main(rt: HostRuntime) -> Result<()> {
     let alloc = rt.alloc();
     let words = words(&rt, alloc)?;
-    let (pattern, flags, file, work) = match words.as_slice() {
-        [pattern, flags, file] => (pattern, flags, file, None),
-        [pattern, flags, file, work] => (pattern, flags, file, work.parse::<u64>().ok()),
+    let (pattern, flags, file, limit) = match words.as_slice() {
+        [pattern, flags, file] => (pattern, flags, file, Limit::None),
+        [pattern, flags, file, work] => (pattern, flags, file, Limit::parse(work)),
         _ => {
             println!(rt; "usage: bench_searches PATTERN FLAGS FILE [WORK]")?;
             return Ok(());
@@ -96,12 +147,15 @@ fn main(rt: HostRuntime) -> Result<()> {
     let Ok(re) = Regex::with_flags(alloc, pattern.as_str(), Flags::from(flags.as_str())) else {
         bail!("pattern refused");
     };
-    let search = Search {
-        re: &re,
-        text: text.as_str(),
-        work,
-    };
-    let (matches, nanoseconds) = fastest(&rt, &search)?;
-    println!(rt; "{matches} matches, {nanoseconds} ns")?;
-    Ok(())
+    let text = text.as_str();
+    match limit {
+        Limit::None => report(&rt, Searcher::All(&re), text),
+        Limit::Work(work) => report(&rt, Searcher::WithinWork(&re, work), text),
+        Limit::Bound => {
+            let Ok(bounded) = re.bounded() else {
+                bail!("no work bound is known");
+            };
+            report(&rt, Searcher::Bounded(&bounded), text)
+        }
+    }
 }

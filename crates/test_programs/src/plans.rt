@@ -11,7 +11,7 @@ use regress_program::lookbehind_filter::PrecedingCharFilter;
 use regress_program::ops::Op;
 use regress_program::plan::{ANYTHING, CandidateStarts, Plan};
 use regress_program::required_prefix_prefilters::{
-    FirstUnitsPrefilter, LiteralPrefilter, MaskedUnitProbe, RequiredPrefixPrefilter,
+    FirstUnitsPrefilter, LiteralPrefilter, MaskedUnitProbe, OtherPrefilter, RequiredPrefixPrefilter,
 };
 use regress_program::required_prefix_types::{Literal, Prefix};
 use regress_program::table_keys_of_units::KEYS;
@@ -157,12 +157,10 @@ fn write_literal(text: &mut String, literal: &Literal) -> Result<(), AllocError>
 fn write_first_units(text: &mut String, first: &FirstUnitsPrefilter) -> Result<(), AllocError> {
     let UpToThreeUnits { units, len } = first.units;
     write!(text, " first {len} of {units:?}")?;
-    if let Some(literal) = &first.literal {
-        write_literal(text, literal)?;
-    }
-    match &first.probes {
-        Some(probes) => write_probes(text, probes),
-        None => Ok(()),
+    match &first.otherwise {
+        OtherPrefilter::Literal(literal) => write_literal(text, literal),
+        OtherPrefilter::Probes(probes) => write_probes(text, probes),
+        OtherPrefilter::Units => Ok(()),
     }
 }
 

@@ -175,8 +175,8 @@ plan cat:2 byteset goal → few 0 [0, 0, 0]
 plan cat:3 a b goal → prefix 97 98 / 98 99 row 2 of [97, 98, 0, 0, 0, 0, 0, 0, 0, 0, 0, 0, 0, 0, 0] at 0 bits 98 of 255 at 1 bits 97 of 255 at 0 bits 97 of 255 at 0 bits 97 of 255 at 0
 plan cat:3 a k goal → prefix 97 98 / 107 108 row 2 of [97, 107, 0, 0, 0, 0, 0, 0, 0, 0, 0, 0, 0, 0, 0] at 0 rare 107 at 1 bits 107 of 255 at 1 bits 97 of 255 at 0 bits 97 of 255 at 0 bits 97 of 255 at 0
 plan cat:3 j set:61,65 goal → prefix 106 107 / 97 98 101 102 first 1 of [106, 0, 0] bits 106 of 255 at 0 bits 97 of 251 at 1 bits 106 of 255 at 0 bits 106 of 255 at 0
-unit_plan cat:3 j set:61,65 goal → prefix 106 107 / 97 98 101 102 bits 106 of 255 at 0 bits 97 of 251 at 1 bits 106 of 255 at 0 bits 106 of 255 at 0
-plan cat:3 J a goal → prefix 74 75 / 97 98 first 1 of [74, 0, 0] row 2 of [74, 97, 0, 0, 0, 0, 0, 0, 0, 0, 0, 0, 0, 0, 0] at 0 bits 74 of 255 at 0 bits 97 of 255 at 1 bits 74 of 255 at 0 bits 74 of 255 at 0
+unit_plan cat:3 j set:61,65 goal → prefix 106 107 / 97 98 101 102 first 1 of [106, 0, 0] bits 106 of 255 at 0 bits 97 of 251 at 1 bits 106 of 255 at 0 bits 106 of 255 at 0
+plan cat:3 J a goal → prefix 74 75 / 97 98 first 1 of [74, 0, 0] row 2 of [74, 97, 0, 0, 0, 0, 0, 0, 0, 0, 0, 0, 0, 0, 0] at 0
 plan cat:2 alt cat:2 a b cat:2 b b goal → prefix 97 99 / 98 99 bits 98 of 255 at 1 bits 96 of 252 at 0 bits 96 of 252 at 0 bits 96 of 252 at 0
 plan cat:2 alt cat:2 a b b goal → few 2 [97, 98, 0]
 plan cat:3 loop1:2,2 a b goal → prefix 97 98 / 97 98 / 98 99 row 3 of [97, 97, 98, 0, 0, 0, 0, 0, 0, 0, 0, 0, 0, 0, 0] at 0 bits 98 of 255 at 2 bits 97 of 255 at 0 bits 97 of 255 at 1 bits 97 of 255 at 0, apart 98 99

@@ -11,69 +11,97 @@ use std::alloc::Global;
 
 // Rows of six fields: a pattern, `bytes` or `units` for the texts to search, an ASCII text, a
 // start, the work budget, and the matches with the work that is left. `limit` follows the matches
-// if the budget is used up, and the answer is the reason if no bound is known. The costs of the
-// rows before `(a|b)*c` were calculated by hand, operation by operation: an instruction whose
-// failure is recorded costs one more where it fails.
+// if the budget is used up, and the answer is the reason if no bound is known. Up to `(a|b)*c`, the
+// first stage completes the search, and the costs were calculated by hand (as in `paid_work`). The
+// second stage completes those of texts of five or more units.
 pub const WORK_LIMITS: &str = r"a~bytes~ba~0~0~limit, 0 left
 a~bytes~ba~0~1~limit, 0 left
-a~bytes~ba~0~2~1..2; limit, 0 left
+a~bytes~ba~0~2~limit, 0 left
 a~bytes~ba~0~3~1..2, 0 left
 a~bytes~ba~0~4~1..2, 1 left
 a~bytes~ba~0~18446744073709551615~1..2, 18446744073709551612 left
+a~bytes~ba~1~1~limit, 0 left
 a~bytes~ba~1~2~1..2, 0 left
-a~bytes~ba~2~1~, 0 left
+a~bytes~ba~2~0~, 0 left
 a~bytes~ba~3~0~, 0 left
-a~units~ba~0~2~1..2; limit, 0 left
+a~units~ba~0~2~limit, 0 left
 a~units~ba~0~3~1..2, 0 left
 a~units~ba~0~18446744073709551615~1..2, 18446744073709551612 left
+a~units~ba~1~1~limit, 0 left
 a~units~ba~1~2~1..2, 0 left
-a~units~ba~2~1~, 0 left
+a~units~ba~2~0~, 0 left
 a~units~ba~3~0~, 0 left
 a*b~bytes~aab~0~0~limit, 0 left
-a*b~bytes~aab~0~4~limit, 0 left
-a*b~bytes~aab~0~5~0..3; limit, 0 left
-a*b~bytes~aab~0~9~0..3; limit, 0 left
-a*b~bytes~aab~0~10~0..3, 0 left
-a*b~bytes~aab~0~18446744073709551615~0..3, 18446744073709551605 left
-a*b~bytes~aa~0~18~limit, 0 left
-a*b~bytes~aa~0~19~, 0 left
-.*?x~bytes~ax~0~6~limit, 0 left
-.*?x~bytes~ax~0~7~0..2; limit, 0 left
-.*?x~bytes~ax~0~10~0..2; limit, 0 left
-.*?x~bytes~ax~0~11~0..2, 0 left
-a|b~units~cb~0~11~1..2; limit, 0 left
-a|b~units~cb~0~12~1..2, 0 left
-a|b~bytes~cb~0~7~limit, 0 left
-a|b~bytes~cb~0~8~1..2; limit, 0 left
-a|b~bytes~cb~0~12~1..2, 0 left
-a{2,3}~bytes~aaaa~0~3~limit, 0 left
-a{2,3}~bytes~aaaa~0~4~0..3; limit, 0 left
-a{2,3}~bytes~aaaa~0~8~0..3; limit, 0 left
-a{2,3}~bytes~aaaa~0~9~0..3, 0 left
+a*b~bytes~aab~0~5~limit, 0 left
+a*b~bytes~aab~0~6~0..3, 0 left
+a*b~bytes~aab~0~18446744073709551615~0..3, 18446744073709551609 left
+a*b~bytes~aa~0~4~limit, 0 left
+a*b~bytes~aa~0~5~, 0 left
+.*?x~bytes~ax~0~5~limit, 0 left
+.*?x~bytes~ax~0~6~0..2, 0 left
+a|b~units~cb~0~3~limit, 0 left
+a|b~units~cb~0~4~1..2, 0 left
+a|b~bytes~cb~0~3~limit, 0 left
+a|b~bytes~cb~0~4~1..2, 0 left
+a{2,3}~bytes~aaaa~0~5~0..3; limit, 0 left
+a{2,3}~bytes~aaaa~0~6~0..3, 0 left
 a??b~bytes~ab~0~5~limit, 0 left
-a??b~bytes~ab~0~6~0..2; limit, 0 left
-a??b~bytes~ab~0~10~0..2, 0 left
+a??b~bytes~ab~0~6~0..2, 0 left
 [b]c~bytes~aabbc~0~5~limit, 0 left
-[b]c~bytes~aabbc~0~6~3..5; limit, 0 left
-[b]c~bytes~aabbc~0~7~3..5, 0 left
-(a|b)*c~bytes~abc~0~35~0..3 1..2; limit, 0 left
-(a|b)*c~bytes~abc~0~36~0..3 1..2, 0 left
-(a|b)*c~units~abc~0~35~0..3 1..2; limit, 0 left
-(a|b)*c~units~abc~0~36~0..3 1..2, 0 left
-(a*)*b~bytes~aa~0~0~limit, 0 left
-(a*)*b~bytes~aa~0~58~limit, 0 left
-(a*)*b~bytes~aa~0~59~, 0 left
-(a*)*b~bytes~aa~0~18446744073709551615~, 18446744073709551556 left
-(a*)*b~units~aa~0~59~limit, 0 left
-(a*)*b~units~aa~0~60~, 0 left
-(?:a|a)*b~bytes~aa~0~40~limit, 0 left
-(?:a|a)*b~bytes~aa~0~41~, 0 left
-(?:a|a)*b~units~aa~0~40~limit, 0 left
-(?:a|a)*b~units~aa~0~41~, 0 left
-(?:a|a)*b~units~aa~0~18446744073709551615~, 18446744073709551574 left
-(?=a)b~bytes~b~0~9~no work bound is known: the pattern has a lookaround
-(?<!a)b~units~b~0~9~no work bound is known: the pattern has a lookaround
-(a)\1(?=b)~bytes~aab~0~9~no work bound is known: the pattern has a lookaround
+[b]c~bytes~aabbc~0~6~3..5, 0 left
+(a|b)*c~bytes~abc~0~15~limit, 0 left
+(a|b)*c~bytes~abc~0~16~0..3 1..2, 0 left
+(a|b)*c~units~abc~0~15~limit, 0 left
+(a|b)*c~units~abc~0~16~0..3 1..2, 0 left
+(a*)*b~bytes~aa~0~32~limit, 0 left
+(a*)*b~bytes~aa~0~33~, 0 left
+(a*)*b~bytes~aa~0~18446744073709551615~, 18446744073709551582 left
+(a*)*b~units~aa~0~32~limit, 0 left
+(a*)*b~units~aa~0~33~, 0 left
+(a*)*b~units~aa~0~18446744073709551615~, 18446744073709551582 left
+(?:a|a)*b~bytes~aa~0~43~limit, 0 left
+(?:a|a)*b~bytes~aa~0~44~, 0 left
+(?:a|a)*b~bytes~aa~0~18446744073709551615~, 18446744073709551571 left
+(?:a|a)*b~units~aa~0~43~limit, 0 left
+(?:a|a)*b~units~aa~0~44~, 0 left
+(?:a|a)*b~units~aa~0~18446744073709551615~, 18446744073709551571 left
+(?:a|a)*b~bytes~aaaaa~0~184~limit, 0 left
+(?:a|a)*b~bytes~aaaaa~0~185~, 0 left
+(?:a|a)*b~bytes~aaaaa~0~18446744073709551615~, 18446744073709551430 left
+(?:a|a)*b~units~aaaaa~0~184~limit, 0 left
+(?:a|a)*b~units~aaaaa~0~185~, 0 left
+(?:a|a)*b~units~aaaaa~0~18446744073709551615~, 18446744073709551430 left
+(a*)*b~bytes~aaaaaa~0~266~limit, 0 left
+(a*)*b~bytes~aaaaaa~0~267~, 0 left
+(a*)*b~bytes~aaaaaa~0~18446744073709551615~, 18446744073709551348 left
+(a*)*b~units~aaaaaa~0~263~limit, 0 left
+(a*)*b~units~aaaaaa~0~264~, 0 left
+(a*)*b~units~aaaaaa~0~18446744073709551615~, 18446744073709551351 left
+(?:a|a)*b|a~bytes~aaaaaaaa~0~307~0..1; 1..2; 2..3; 3..4; 4..5; 5..6; 6..7; 7..8; limit, 0 left
+(?:a|a)*b|a~bytes~aaaaaaaa~0~308~0..1; 1..2; 2..3; 3..4; 4..5; 5..6; 6..7; 7..8, 0 left
+(?:a|a)*b|a~units~aaaaaaaa~0~307~0..1; 1..2; 2..3; 3..4; 4..5; 5..6; 6..7; 7..8; limit, 0 left
+(?:a|a)*b|a~units~aaaaaaaa~0~308~0..1; 1..2; 2..3; 3..4; 4..5; 5..6; 6..7; 7..8, 0 left
+(?=a)b~bytes~b~0~0~limit, 0 left
+(?=a)b~bytes~b~0~1~, 0 left
+(?<!a)b~units~b~0~3~limit, 0 left
+(?<!a)b~units~b~0~4~0..1, 0 left
+(?=(a))a~bytes~a~0~6~limit, 0 left
+(?=(a))a~bytes~a~0~7~0..1 0..1, 0 left
+(?<=a)b~bytes~ab~0~5~limit, 0 left
+(?<=a)b~bytes~ab~0~6~1..2, 0 left
+(?<=a|bc)b~bytes~bcb~0~14~limit, 0 left
+(?<=a|bc)b~bytes~bcb~0~15~2..3, 0 left
+(?:a(?=a)|a(?!b))*b~bytes~aaaaaa~0~243~limit, 0 left
+(?:a(?=a)|a(?!b))*b~bytes~aaaaaa~0~244~, 0 left
+(?:a(?=a)|a(?!b))*b~units~aaaaaa~0~243~limit, 0 left
+(?:a(?=a)|a(?!b))*b~units~aaaaaa~0~244~, 0 left
+(?:a(?=(a))|a)*b~bytes~aaaaaa~0~249~limit, 0 left
+(?:a(?=(a))|a)*b~bytes~aaaaaa~0~250~, 0 left
+(?:a(?<=(a))|a)*b~units~aaaaaa~0~253~limit, 0 left
+(?:a(?<=(a))|a)*b~units~aaaaaa~0~254~, 0 left
+(?=a*)b~bytes~b~0~9~no work bound is known: the pattern has a lookaround
+(?<!(?:a|bc)d)b~units~b~0~9~no work bound is known: the pattern has a lookaround
+(a)\1(?=b)~bytes~aab~0~9~no work bound is known: the pattern has a backreference
 (\w)\1~bytes~aa~0~9~no work bound is known: the pattern has a backreference
 (?:(\w)\1){0,65}~units~aa~0~9~no work bound is known: the pattern has a backreference
 (?:(?:a{0,9}){0,9}b){0,9}~units~aa~0~9~no work bound is known: counts are too large, or loops are nested too deeply

@@ -7,7 +7,7 @@ use regress_match::{BoundedRegex, Regex};
 use std::alloc::{AllocError, Global};
 
 /// The patterns. Each has a piece that its texts repeat, and the end of its texts.
-pub const EXPLOSIONS: [[&str; 3]; 12] = [
+pub const EXPLOSIONS: [[&str; 3]; 11] = [
     ["(a*)*b", "a", ""],
     ["(?:a|a)*b", "a", ""],
     ["(.*)*x", "a", ""],
@@ -23,14 +23,13 @@ pub const EXPLOSIONS: [[&str; 3]; 12] = [
     ["((a|)+)+Z", "a", ""],
     ["((?:a?)*)*c", "a", ""],
     ["a+b|a*c", "a", ""],
-    ["(.*?)x", "a", ""],
 ];
 
 /// The numbers of characters of the texts, without the end.
 pub const SIZES: [usize; 3] = [1_000, 10_000, 100_000];
 
 /// The greatest allowed quotient of the bound and the work, rounded up.
-const MOST: u64 = 21;
+const MOST: u64 = 14;
 
 /// A pattern, and what its texts consist of.
 #[derive(Clone, Copy)]

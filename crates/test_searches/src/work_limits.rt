@@ -100,7 +100,7 @@ a??b~bytes~ab~0~6~0..2, 0 left
 (?:a(?<=(a))|a)*b~units~aaaaaa~0~253~limit, 0 left
 (?:a(?<=(a))|a)*b~units~aaaaaa~0~254~, 0 left
 (?=a*)b~bytes~b~0~9~no work bound is known: the pattern has a lookaround
-(?<!(?:a|bc)d)b~units~b~0~9~no work bound is known: the pattern has a lookaround
+(?<!d(?:a|bc))b~units~b~0~9~no work bound is known: the pattern has a lookaround
 (a)\1(?=b)~bytes~aab~0~9~no work bound is known: the pattern has a backreference
 (\w)\1~bytes~aa~0~9~no work bound is known: the pattern has a backreference
 (?:(\w)\1){0,65}~units~aa~0~9~no work bound is known: the pattern has a backreference

@@ -466,7 +466,7 @@ static inline const char *regress_c_message(uint32_t code)
     case REGRESS_C_NOT_COUNTED: return "steps are counted in UTF-8 only";
     case REGRESS_C_WORK_LIMIT: return "the work limit is reached";
     case REGRESS_C_UNKNOWN_SYNTAX: return "unknown syntax (syntaxes are 0 and 1)";
-    case REGRESS_C_UNBOUNDED_LOOKAROUND: return "no work bound is known: the pattern has a lookaround";
+    case REGRESS_C_UNBOUNDED_LOOKAROUND: return "no work bound is known: a lookaround has a loop, or alternatives before its end";
     case REGRESS_C_UNBOUNDED_BACKREFERENCE: return "no work bound is known: the pattern has a backreference";
     case REGRESS_C_UNBOUNDED_COUNT:
         return "no work bound is known: counts are too large, or loops are nested too deeply";

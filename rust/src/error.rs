@@ -171,7 +171,7 @@ impl fmt::Display for Unbounded {
     fn fmt(&self, f: &mut fmt::Formatter<'_>) -> fmt::Result {
         f.write_str("no work bound is known: ")?;
         f.write_str(match self {
-            Unbounded::Lookaround => "the pattern has a lookaround",
+            Unbounded::Lookaround => "a lookaround has a loop, or alternatives before its end",
             Unbounded::Backreference => "the pattern has a backreference",
             Unbounded::Count => "counts are too large, or loops are nested too deeply",
             Unbounded::BoundTooLarge => "the bound of the pattern is too large",

@@ -209,7 +209,7 @@ fn work_is_bounded() {
     assert!(std::panic::catch_unwind(|| bounded.find_from("é", 1, 9)).is_err());
     let lazy = ".+?".repeat(12);
     for (pattern, reason, text) in [
-        ("(?=a*)b", Unbounded::Lookaround, "the pattern has a lookaround"),
+        ("(?=a*)b", Unbounded::Lookaround, "a lookaround has a loop, or alternatives before its end"),
         (r"(a)\1", Unbounded::Backreference, "the pattern has a backreference"),
         (
             "(?:a|a){0,65}",

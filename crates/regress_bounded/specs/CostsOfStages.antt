@@ -15,7 +15,8 @@ module _ (e : Encoding) (tree : Tree) (text : Text) (before : Failures) (at : �
   FirstStageCosts = (work_costs e).of_attempt tree text before at
 
   -- The attempt costs this; or, if `after` is `None`, a first part of it does. If the first stage cannot
-  -- complete it, the attempt costs the work that was left there, and what it costs in the second stage.
+  -- complete it, the attempt costs some number that a first part of it exceeds there, and what it costs in
+  -- the second stage.
   pub data StagesCost : (cost : ℕ) → (after : Option Failures) → Type 0 where
     in_first : (cost : ℕ) (after : Option Failures) → FirstStageCosts cost after → StagesCost cost after
     in_second : (cost : ℕ) (after : Option Failures) → AttemptCosts tree text before at cost after

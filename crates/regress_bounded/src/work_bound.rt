@@ -38,9 +38,9 @@ pub enum Unbounded {
     /// An allocation failed. The pattern may have a bound.
     #[error("out of memory")]
     Memory,
-    /// The contents of a lookahead or a lookbehind have a loop other than a loop over one character
-    /// with a maximum, or an alternative that other contents follow (`docs/LINEAR.md`).
-    #[error("no work bound is known: the pattern has a lookaround")]
+    /// The contents of a lookahead or a lookbehind have a loop, or alternatives that more contents
+    /// follow (`docs/LINEAR.md`). In bytes, a loop over one character with a maximum is allowed.
+    #[error("no work bound is known: a lookaround has a loop, or alternatives before its end")]
     Lookaround,
     /// The pattern has a backreference.
     #[error("no work bound is known: the pattern has a backreference")]
@@ -269,8 +269,9 @@ fn is_backreference(insn: &Insn) -> bool
     matches!(insn, Insn::BackRef { .. })
 }
 
-// Checks whether counts or nesting may be the reason why a program without lookarounds and
-// backreferences has no memo analysis. If not, its costs are too large. This is not proved.
+// Checks whether counts or nested loops may be the reason why a program without backreferences, and
+// with simple lookarounds at most, has no memo analysis. If not, its costs are too large, or its
+// lookarounds are nested too deeply. This is not proved.
 fn counts_may_cause_no_bound(insns: &[Insn]) -> bool {
     let mut codes = 1usize;
     for insn in insns {

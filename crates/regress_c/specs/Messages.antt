@@ -23,7 +23,7 @@ message_of_code code =
     else if code == 16 then codes "no such group"
     else if code == 17 then codes "the search is not open"
     else if code == 18 then codes "steps are counted in UTF-8 only"
-    else if code == 19 then codes "no work bound is known: the pattern has a lookaround"
+    else if code == 19 then codes "no work bound is known: a lookaround has a loop, or alternatives before its end"
     else if code == 20 then codes "the work limit is reached"
     else if code == 21 then codes "unknown syntax (syntaxes are 0 and 1)"
     else if code == 22 then codes "no work bound is known: the pattern has a backreference"

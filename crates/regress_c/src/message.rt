@@ -27,7 +27,7 @@ pub(crate) fn message_of_code(code: u32) -> &'static str
         16 => "no such group",
         17 => "the search is not open",
         18 => "steps are counted in UTF-8 only",
-        19 => "no work bound is known: the pattern has a lookaround",
+        19 => "no work bound is known: a lookaround has a loop, or alternatives before its end",
         20 => "the work limit is reached",
         21 => "unknown syntax (syntaxes are 0 and 1)",
         22 => "no work bound is known: the pattern has a backreference",

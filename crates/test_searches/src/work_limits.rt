@@ -99,8 +99,8 @@ a??b~bytes~ab~0~6~0..2, 0 left
 (?:a(?=(a))|a)*b~bytes~aaaaaa~0~250~, 0 left
 (?:a(?<=(a))|a)*b~units~aaaaaa~0~253~limit, 0 left
 (?:a(?<=(a))|a)*b~units~aaaaaa~0~254~, 0 left
-(?=a*)b~bytes~b~0~9~no work bound is known: the pattern has a lookaround
-(?<!d(?:a|bc))b~units~b~0~9~no work bound is known: the pattern has a lookaround
+(?=a*)b~bytes~b~0~9~no work bound is known: a lookaround has a loop, or alternatives before its end
+(?<!d(?:a|bc))b~units~b~0~9~no work bound is known: a lookaround has a loop, or alternatives before its end
 (a)\1(?=b)~bytes~aab~0~9~no work bound is known: the pattern has a backreference
 (\w)\1~bytes~aa~0~9~no work bound is known: the pattern has a backreference
 (?:(\w)\1){0,65}~units~aa~0~9~no work bound is known: the pattern has a backreference

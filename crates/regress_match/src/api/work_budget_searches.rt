@@ -65,10 +65,10 @@ impl Regex {
     ///
     /// - `Backreference` exactly if the pattern has one.
     /// - Otherwise `Lookaround` exactly if in one of its two programs the contents of a lookaround
-    ///   have a loop, other than one over one character with a maximum, or alternatives that other
-    ///   contents follow.
+    ///   have a loop, or alternatives that more contents follow. (The program for bytes may have loops
+    ///   over one character with a maximum, but that for 16-bit units has no such loops.)
     /// - `Count` if the counts of its loops are too large, or its loops are nested too deeply.
-    /// - `BoundTooLarge` if the bound is too large.
+    /// - `BoundTooLarge` if the bound is too large, or lookarounds are nested too deeply.
     /// - `Memory` if an allocation for computing the bound fails.
     pub fn bounded(&self) -> Result<BoundedRegex<'_>, Unbounded>
         ensures pattern { IfOk result (λ bounded. bounded.re ≡ self.now) }

@@ -159,12 +159,12 @@ module _ (from past : ℕ) where
 -- ---- Char loops
 
 -- The threads that a char loop leaves.
-record LeavesExits (least most : ℕ) (s : State) (n : ℕ) (ts : List Thread) : Type 0 where
-  states : List State
-  are : ts ≡ first_running_and_others_waiting states
-  few : n ≤ most
-  as_many : length states ≤ most + 1 - least
-  there : Each (λ (u : State). u.ip ≡ s.ip + 2) states
+pub record LeavesExits (least most : ℕ) (s : State) (n : ℕ) (ts : List Thread) : Type 0 where
+  pub states : List State
+  pub are : ts ≡ first_running_and_others_waiting states
+  pub few : n ≤ most
+  pub as_many : length states ≤ most + 1 - least
+  pub there : Each (λ (u : State). u.ip ≡ s.ip + 2) states
 
 abbrev LeavesExitsIfScans : (least most : ℕ) → State → Next → Type 0
 LeavesExitsIfScans least most s (scans n ts) = LeavesExits least most s n ts
@@ -197,7 +197,7 @@ module _ (text : Text) (d : Direction) (s : State) (least most : ℕ) (greedy : 
         there = all-there place places;
       }
 
-  run-exits : (program : Program) (n : ℕ) (ts : List Thread) → slice_get program.insns s.ip ≡ Some (Loop1CharBody least most greedy) → act program text d s ≡ scans n ts
+  pub run-exits : (program : Program) (n : ℕ) (ts : List Thread) → slice_get program.insns s.ip ≡ Some (Loop1CharBody least most greedy) → act program text d s ≡ scans n ts
       → LeavesExits least most s n ts
   run-exits program n ts run turn =
       subst (LeavesExitsIfScans least most s) (sym (ap (λ o. act_on program text d o s) run) ∙ turn)

@@ -40,5 +40,6 @@ pub mod ReachableLoopStateLemmas
 pub mod UnreachedLoopBodyLemmas
 pub mod StepKindByInstruction
 pub mod ClosedLookaroundLemmas
+pub mod ContentsApartLemmas
 pub mod InsnsOutsideLoops
 pub mod WorkBoundLemmas

@@ -37,4 +37,5 @@ pub mod CheckedAnalysis
 pub mod ReachableThreadLoopStates
 pub mod UnreachedCharLoopBodies
 pub mod ClosedLookarounds
+pub mod ContentsApart
 pub mod WorkBound

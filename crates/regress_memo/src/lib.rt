@@ -8,6 +8,7 @@ pub mod analysis_laws;
 pub mod analysis_result;
 mod bit_set;
 mod closed_lookarounds;
+pub mod contents_laws;
 mod cost_check;
 mod flow_edges;
 pub mod laws;

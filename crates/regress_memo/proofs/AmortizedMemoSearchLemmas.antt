@@ -15,7 +15,6 @@ use Rattle.regress_memo.specs.SkippedLookarounds.{LookaroundInsn, lookaround_at}
 use Rattle.regress_memo.specs.LoopDataKeyCodes.{HasSlotsOfProgram, plan_code, key_of}
 use Rattle.regress_memo.specs.DistinctLists.{IsNew}
 use Rattle.regress_memo.specs.PreservedSlotCounts.{state_of_thread}
-use Rattle.regress_memo.specs.AmortizedStepCosts.{potential_by}
 use Rattle.regress_memo.specs.MemoPlanChecksAndGuarantees.{RecordsNewKey, plan_steps_below_record}
 use Rattle.regress_memo.specs.MemoSearch.{Key, Entry, one_thread, key_record, thread_entries, threads_in, at_first, gives, reaches}
 use Rattle.regress_memo.specs.ThreadPotentials.{is_one_of}
@@ -32,7 +31,7 @@ use Rattle.regress_memo.specs.declared.analysis_result.MemoAnalysis.{MemoAnalysi
 use Rattle.regress_memo.specs.UnreachedCharLoopBodies.{IsNotLoopBody, FlowsPastBodies}
 use Rattle.regress_memo.specs.Successors.{successors_of_insn_if_any}
 use Rattle.regress_memo.specs.AnalysisChecks.{IsConsistentAt}
-use Rattle.regress_memo.specs.WorkBound.{IsWorkBounded, initial_threads}
+use Rattle.regress_memo.specs.WorkBound.{IsWorkBounded}
 use Rattle.regress_memo.specs.AnalysisAsPotentials.{insn_analysis_of, analysis_as_liveness, key_code_questions_of, recorded, potentials_of, key_cost_of, insn_direction}
 use Rattle.regress_memo.specs.CheckedAnalysis.{IsAnalysisOf, ip_of, IsMemoPlanForText}
 use Rattle.regress_memo.proofs.UnreachedLoopBodyLemmas.{bodies-apart}
@@ -87,15 +86,16 @@ module _ (program : Program) (text : Text) (t : MemoAnalysis) (d : Direction) wh
       subst (AreKeyed program text t d) (sym (threads-joined entries rest))
       (Each-append (λ u. IsKeyed program text t d (state_of_thread u)) (threads_in entries) (threads_in rest) above below)
 
-  keyed-tries : (ts : List Thread) → AreKeyed program text t d ts → AreKeyed program text t d (threads_in (thread_entries ts))
+  pub keyed-tries : (ts : List Thread) → AreKeyed program text t d ts → AreKeyed program text t d (threads_in (thread_entries ts))
   keyed-tries ts h = subst (AreKeyed program text t d) (sym (threads-tries ts)) h
 
--- The instruction after a lookaround is searched in the same direction, and is not the body of a char loop.
-record LookFlows (program : Program) (t : MemoAnalysis) (ip : ℕ) (l : LookaroundInsn) : Type 0 where
-  way : insn_direction t l.continuation ≡ insn_direction t ip
-  no_body : IsNotLoopBody program l.continuation
+-- The instruction after a lookaround is searched in the same direction. Neither it nor the first instruction of the contents is the body of a char loop.
+pub record LookFlows (program : Program) (t : MemoAnalysis) (ip : ℕ) (l : LookaroundInsn) : Type 0 where
+  pub way : insn_direction t l.continuation ≡ insn_direction t ip
+  pub no_body : IsNotLoopBody program l.continuation
+  pub first_no_body : IsNotLoopBody program (ip + 1)
 
-look-flows : (program : Program) (t : MemoAnalysis) → IsAnalysisOf program t → ((ip : ℕ) → FlowsPastBodies program (successors_of_insn_if_any ip (slice_get program.insns ip)) ip)
+pub look-flows : (program : Program) (t : MemoAnalysis) → IsAnalysisOf program t → ((ip : ℕ) → FlowsPastBodies program (successors_of_insn_if_any ip (slice_get program.insns ip)) ip)
     → (ip : ℕ) (l : LookaroundInsn) → lookaround_at (slice_get program.insns ip) ≡ Some l → LookFlows program t ip l
 look-flows program t of past ip l is = by (slice_get program.insns ip) is (of.steps ip) (past ip)
   where
@@ -104,9 +104,60 @@ look-flows program t of past ip l is = by (slice_get program.insns ip) is (of.st
 
     by : (x : Option Insn) → lookaround_at x ≡ Some l → IsConsistentAt t program (successors_of_insn_if_any ip x) ip → FlowsPastBodies program (successors_of_insn_if_any ip x) ip
         → LookFlows program t ip l
-    by (Some (Lookahead negate start_group end_group continuation)) e h p = same _ e (record { way = h.on.way; no_body = p.1 })
-    by (Some (Lookbehind negate start_group end_group continuation)) e h p = same _ e (record { way = h.on.way; no_body = p.1 })
+    by (Some (Lookahead negate start_group end_group continuation)) e h p = same _ e (record { way = h.on.way; no_body = p.1; first_no_body = p.0 })
+    by (Some (Lookbehind negate start_group end_group continuation)) e h p = same _ e (record { way = h.on.way; no_body = p.1; first_no_body = p.0 })
     by _ e h p = cc
+
+-- ---- What continues after a lookaround
+
+module _ (program : Program) (t : MemoAnalysis) (of : IsAnalysisOf program t) (past : (ip : ℕ) → FlowsPastBodies program (successors_of_insn_if_any ip (slice_get program.insns ip)) ip)
+    (text : Text) (is_text : HasRisingPlaceOffsets text) (bytes : ReadsAsBytes program text) (less : units text < 2 ^ 63) (d : Direction)
+    (s : State) (l : LookaroundInsn) (is : lookaround_at (slice_get program.insns s.ip) ≡ Some l) (turns : ℕ) (f : Found)
+    (e : search program text turns l.inner (running (state_at_next_ip s) ∷ []) ≡ Some f) where
+  abbrev looking : IsMemoPlanForText program t text
+  looking = ledgers-serve program t of text is_text bytes less
+
+  abbrev pub behind : List Thread
+  behind = after_lookaround l.negate (state_with_ip l.continuation s) f.end
+
+  -- The thread that continues is sound, because the end of the contents is.
+  behind-sound : IsKeyed program text t d s → AlikeThreads (Agree (analysis_as_liveness t) (units text) outermost d) behind behind
+  behind-sound k =
+      let asked = (soundness-stays program text (analysis_as_liveness t) looking.plan.liveness d).asks outermost l.inner l.negate s (state_at_next_ip s) (state_with_ip l.continuation s) k.sound
+      (asks-there program text d s l (slice_get program.insns s.ip) is) in
+      let both = threads-alike program text (analysis_as_liveness t) looking.plan.liveness turns asked.world l.inner (running (state_at_next_ip s) ∷ []) (running (state_at_next_ip s) ∷ []) (asked.contents, tt) in
+      asked.behind f.end f.end (subst (λ o. AlikeAnswers (Agree (analysis_as_liveness t) (units text) asked.world l.inner) o o) e both).ends
+
+  abbrev Slotted : State → Type 0
+  Slotted = HasSlotsOfProgram program
+
+  behind-slotted : Slotted s → Each (λ u. Slotted (state_of_thread u)) behind
+  behind-slotted k = by l.negate f.end refl
+    where
+      its : Slotted (state_with_ip l.continuation s)
+      its = record { groups = k.groups; starts = k.starts; loops = k.loops }
+
+      by : (negate : Bool) (end : Option State) → f.end ≡ end → Each (λ u. Slotted (state_of_thread u)) (after_lookaround negate (state_with_ip l.continuation s) end)
+      by false None ended = tt
+      by true None ended = (its, tt)
+      by true (Some u) ended = tt
+      by false (Some u) ended =
+          let there = end-has-slots program text l.inner turns (state_at_next_ip s) u f (record { groups = k.groups; starts = k.starts; loops = k.loops }) e ended in
+          (record { groups = there.groups; starts = there.starts; loops = there.loops }, tt)
+
+  each-behind : (Good : ℕ → Type 0) → Good l.continuation → Each (λ u. Good (ip_of u)) behind
+  each-behind Good h = by l.negate f.end
+    where
+      by : (negate : Bool) (end : Option State) → Each (λ u. Good (ip_of u)) (after_lookaround negate (state_with_ip l.continuation s) end)
+      by false None = tt
+      by true None = (h, tt)
+      by true (Some u) = tt
+      by false (Some u) = (h, tt)
+
+  pub behind-keyed : IsKeyed program text t d s → AreKeyed program text t d behind
+  behind-keyed k =
+      let on = look-flows program t of past s.ip l is in
+      all-keyed program text t d behind (behind-slotted k.of) (behind-sound k) (each-behind (λ ip. insn_direction t ip ≡ d) (on.way ∙ k.way)) (each-behind (IsNotLoopBody program) on.no_body)
 
 -- ---- Steps of keyed threads
 
@@ -179,58 +230,19 @@ module _ (program : Program) (t : MemoAnalysis) (of : IsAnalysisOf program t) (b
 
   module _ (s : State) (l : LookaroundInsn) (is : lookaround_at (slice_get program.insns s.ip) ≡ Some l) (turns : ℕ) (f : Found)
       (e : search program text turns l.inner (running (state_at_next_ip s) ∷ []) ≡ Some f) where
-    abbrev behind : List Thread
-    behind = after_lookaround l.negate (state_with_ip l.continuation s) f.end
+    abbrev left-behind : List Thread
+    left-behind = after_lookaround l.negate (state_with_ip l.continuation s) f.end
 
-    -- The thread that continues is sound, because the end of the contents is.
-    behind-sound : IsKeyed program text t d s → AlikeThreads (Agree (analysis_as_liveness t) (units text) outermost d) behind behind
-    behind-sound k =
-        let asked = (soundness-stays program text (analysis_as_liveness t) served.plan.liveness d).asks outermost l.inner l.negate s (state_at_next_ip s) (state_with_ip l.continuation s) k.sound
-        (asks-there program text d s l (slice_get program.insns s.ip) is) in
-        let both = threads-alike program text (analysis_as_liveness t) served.plan.liveness turns asked.world l.inner (running (state_at_next_ip s) ∷ []) (running (state_at_next_ip s) ∷ []) (asked.contents, tt) in
-        asked.behind f.end f.end (subst (λ o. AlikeAnswers (Agree (analysis_as_liveness t) (units text) asked.world l.inner) o o) e both).ends
-
-    abbrev Slotted : State → Type 0
-    Slotted = HasSlotsOfProgram program
-
-    behind-slotted : Slotted s → Each (λ u. Slotted (state_of_thread u)) behind
-    behind-slotted k = by l.negate f.end refl
-      where
-        its : Slotted (state_with_ip l.continuation s)
-        its = record { groups = k.groups; starts = k.starts; loops = k.loops }
-
-        by : (negate : Bool) (end : Option State) → f.end ≡ end → Each (λ u. Slotted (state_of_thread u)) (after_lookaround negate (state_with_ip l.continuation s) end)
-        by false None ended = tt
-        by true None ended = (its, tt)
-        by true (Some u) ended = tt
-        by false (Some u) ended =
-            let there = end-has-slots program text l.inner turns (state_at_next_ip s) u f (record { groups = k.groups; starts = k.starts; loops = k.loops }) e ended in
-            (record { groups = there.groups; starts = there.starts; loops = there.loops }, tt)
-
-    each-behind : (Good : ℕ → Type 0) → Good l.continuation → Each (λ u. Good (ip_of u)) behind
-    each-behind Good h = by l.negate f.end
-      where
-        by : (negate : Bool) (end : Option State) → Each (λ u. Good (ip_of u)) (after_lookaround negate (state_with_ip l.continuation s) end)
-        by false None = tt
-        by true None = (h, tt)
-        by true (Some u) = tt
-        by false (Some u) = (h, tt)
-
-    behind-keyed : IsKeyed program text t d s → AreKeyed program text t d behind
-    behind-keyed k =
-        let on = look-flows program t of bounded.past s.ip l is in
-        all-keyed program text t d behind (behind-slotted k.of) (behind-sound k) (each-behind (λ ip. insn_direction t ip ≡ d) (on.way ∙ k.way)) (each-behind (IsNotLoopBody program) on.no_body)
-
-    looked : Come work now (one_thread (running s) ∷ rest) → Come (work + (f.steps + 1)) now (thread_entries behind ++ rest)
+    looked : Come work now (one_thread (running s) ∷ rest) → Come (work + (f.steps + 1)) now (thread_entries left-behind ++ rest)
     looked h = record {
-      comes = gives work (f.steps + 1) now (one_thread (running s) ∷ []) (thread_entries behind) rest tt h.comes ((served.serves.looks d now s l is).searched turns f e)
+      comes = gives work (f.steps + 1) now (one_thread (running s) ∷ []) (thread_entries left-behind) rest tt h.comes ((served.serves.looks d now s l is).searched turns f e)
           (let w = potentials_of t in
           let x = one-weighs program w (key_cost_of t) (recorded t) (one_thread (running s)) in
-          let y = tries-weigh program w (key_cost_of t) (recorded t) behind in
-          let none = ap (sum_by (λ (k : Key). key_cost_of t k.ip)) (keys-tries behind) in
+          let y = tries-weigh program w (key_cost_of t) (recorded t) left-behind in
+          let none = ap (sum_by (λ (k : Key). key_cost_of t k.ip)) (keys-tries left-behind) in
           let enough = look-weighs program t of bounded text s l is turns f e in
           omega (arith, x, y, none, enough));
-      keyed = keyed-joined program text t d (thread_entries behind) rest (keyed-tries program text t d behind (behind-keyed h.keyed.0)) h.keyed.1;
+      keyed = keyed-joined program text t d (thread_entries left-behind) rest (keyed-tries program text t d left-behind (behind-keyed program t of bounded.past text is_text bytes less d s l is turns f e h.keyed.0)) h.keyed.1;
     }
 
   pub comes-on : StepsReachEntries program text t d memory first work now rest

@@ -1,10 +1,10 @@
 -- Contents of lookarounds that are closed and record nothing are searched in few steps.
-use Rattle.std.proofs.Common.{◌≡◌, ◌≤◌, ◌<◌, ℕ, zero, suc, ◌+◌, ◌-◌, ◌*◌, Bool, true, false, ◌&&◌, Option, Some, None, List, [], ◌∷◌, ◌++◌}
+use Rattle.std.proofs.Common.{◌≡◌, ◌≤◌, ◌<◌, ℕ, zero, suc, ◌+◌, ◌-◌, Bool, true, false, ◌&&◌, Option, Some, None, List, [], ◌∷◌, ◌++◌}
 use Rattle.std.proofs.Common.{refl, sym, ap, subst, ◌∙◌, arith, length, map, reverse, min, slice_get, sum_by, if◌then◌else◌}
-use Rattle.std.specs.Prelude.{nat_lt, ◌==◌, ◌≢◌}
+use Rattle.std.specs.Prelude.{nat_lt, ◌≢◌}
 use mathlib.Core.Logic.{inl, inr}
 use Rattle.std.proofs.Math.Nat.{mul-le-mul_right}
-use Rattle.std.proofs.lemmas.Bool.{cases_lt, ltb-true, eqb-true}
+use Rattle.std.proofs.lemmas.Bool.{cases_lt, ltb-true}
 use Rattle.std.proofs.lemmas.List.{length-map, length-reverse}
 use Rattle.std.proofs.lemmas.List.Sums.{sum_by-cons, sum_by-append}
 use Rattle.std.proofs.lemmas.Option.{slice_get_past}
@@ -22,9 +22,9 @@ use Rattle.regress_program.specs.InsnsAsSpec.{insn_as_spec_insn}
 use Rattle.regress_program.specs.declared.instructions.Insn as declared
 use Rattle.regress_machine.specs.Machine.{State, Thread, running, waiting, Next, goes, scans, ends, asks, stuck, Found, found_at, result_without_threads}
 use Rattle.regress_machine.specs.Machine.{with_steps, after_lookaround, after_lookaround_search}
-use Rattle.regress_machine.specs.Machine.{search_after_effect, first_running_and_others_waiting, char_loop_states, with_some, scan, test_of, state_with_ip, state_at_next_ip, act, act_on, search}
+use Rattle.regress_machine.specs.Machine.{search_after_effect, first_running_and_others_waiting, with_some, scan, test_of, state_with_ip, state_at_next_ip, act, act_on, search}
 use Rattle.regress_memo.specs.SkippedLookarounds.{LookaroundInsn, lookaround_at}
-use Rattle.regress_memo.specs.ThreadPotentials.{Potentials, potential_of, CoversOne, CoversTwo, CoversRepeat, AreCovering, is_one_of}
+use Rattle.regress_memo.specs.ThreadPotentials.{Potentials, potential_of, CoversRepeat, AreCovering, is_one_of}
 use Rattle.regress_memo.specs.declared.analysis_result.MemoAnalysis.{MemoAnalysis}
 use Rattle.regress_memo.specs.declared.successors.Successors.{Successors}
 use Rattle.regress_memo.specs.declared.successors.Successors.TheVariants.{Ends, One, Two, Enter, Again, Run, LookaroundSuccessor, Same}
@@ -37,7 +37,7 @@ use Rattle.regress_memo.specs.ClosedLookarounds.{IsInContents, StaysInContents, 
 use Rattle.regress_memo.proofs.AnalysisCheckLemmas.{EnoughBy, has-enough}
 use Rattle.regress_memo.proofs.CappedCharLoopLemmas.{in-turn-weigh}
 use Rattle.regress_memo.proofs.CheckedAnalysisLemmas.{recorded-is}
-use Rattle.regress_memo.proofs.StepKindByInstruction.{IsAsked, asked-there, scans-run}
+use Rattle.regress_memo.proofs.StepKindByInstruction.{asked-there, scans-run}
 use Rattle.regress_memo.proofs.ThreadPotentialLemmas.{turns-weighed}
 
 -- If each instruction of the program has closed contents, so have all indices, even past the last one.
@@ -223,6 +223,13 @@ stepped : (n : ℕ) (o : Option Found) (f : Found) → with_steps n o ≡ Some f
 stepped n None f e = cc
 stepped n (Some g) f e = let is : record g { steps = n + g.steps } ≡ f = cc in record { found = g; is = refl; steps = sym (ap (λ (h : Found). h.steps) is) }
 
+-- What continues after a lookaround weighs no more than its instruction.
+pub weighs-no-more : (t : MemoAnalysis) (negate : Bool) (u : State) (end : Option State) → sum_by (potential_of (potentials_of t)) (after_lookaround negate u end) ≤ (insn_analysis_of t u.ip).ready
+weighs-no-more t false u None = omega arith
+weighs-no-more t false u (Some e) = let a = sum_by-cons (potential_of (potentials_of t)) (running (record e { ip = u.ip; pos = u.pos })) [] in omega (arith, a)
+weighs-no-more t true u None = let a = sum_by-cons (potential_of (potentials_of t)) (running u) [] in omega (arith, a)
+weighs-no-more t true u (Some e) = omega arith
+
 module _ (program : Program) (t : MemoAnalysis) (of : IsAnalysisOf program t) (bounded : IsWorkBounded t program) (text : Text) where
   abbrev weight : List Thread → ℕ
   weight ts = sum_by (potential_of (potentials_of t)) ts
@@ -281,12 +288,6 @@ module _ (program : Program) (t : MemoAnalysis) (of : IsAnalysisOf program t) (b
           stays = subst (AreInside from past) (sym exits.are) (exits-inside from past (s.ip + 2) exits.states behind exits.there);
         }
 
-  pub resumed-weigh : (negate : Bool) (u : State) (end : Option State) → weight (after_lookaround negate u end) ≤ (insn_analysis_of t u.ip).ready
-  resumed-weigh false u None = omega arith
-  resumed-weigh false u (Some e) = let a = sum_by-cons (potential_of (potentials_of t)) (running (record e { ip = u.ip; pos = u.pos })) [] in omega (arith, a)
-  resumed-weigh true u None = let a = sum_by-cons (potential_of (potentials_of t)) (running u) [] in omega (arith, a)
-  resumed-weigh true u (Some e) = omega arith
-
   resumed-inside : (from past : ℕ) (negate : Bool) (u : State) (end : Option State) → IsInContents from past u.ip → AreInside from past (after_lookaround negate u end)
   resumed-inside from past false u None h = tt
   resumed-inside from past false u (Some e) h = (h, tt)
@@ -335,7 +336,7 @@ module _ (program : Program) (t : MemoAnalysis) (of : IsAnalysisOf program t) (b
         let k = stepped (1 + g.steps) (search program text turns d (after_lookaround negate v g.end ++ ts)) f e in
         let few = fewer from past c d (after_lookaround negate v g.end ++ ts) (joined (after_lookaround negate v g.end) (resumed-inside from past negate v g.end behind)) k.found k.is in
         let sum = sum_by-append (potential_of (potentials_of t)) (after_lookaround negate v g.end) ts in
-        let resumed = resumed-weigh negate v g.end in
+        let resumed = weighs-no-more t negate v g.end in
         let both = ((bounded.insns s.ip).look a.look a.there).contents in
         let pays = passed c d s h.0 in
         let whole = all in
@@ -397,7 +398,7 @@ look-weighs program t of bounded text s l is turns f e =
     let look = (bounded.insns s.ip).look l is in
     let some = (contents-at program t of bounded text s.ip l is).closed.some in
     let few = contents-take-few program t of bounded text s l is turns f e in
-    let resumed = resumed-weigh program t of bounded text l.negate (state_with_ip l.continuation s) f.end in
+    let resumed = weighs-no-more t l.negate (state_with_ip l.continuation s) f.end in
     let both = look.contents in
     let pays = of.paid.passed s.ip (unrecorded program t of bounded text s.ip (look.silent s.ip (omega arith) (omega (arith, some)))) in
     omega (arith, few, resumed, both, pays)

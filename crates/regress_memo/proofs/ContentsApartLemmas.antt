@@ -1,15 +1,14 @@
 -- Steps stay inside the contents of a lookaround, or outside of them.
-use Rattle.std.proofs.Common.{◌≡◌, ◌≤◌, ◌<◌, ℕ, ◌+◌, Bool, true, false, not, ◌&&◌, Option, Some, None, List, [], ◌∷◌, ◌++◌, map, refl, sym, ap, subst, ◌∙◌, arith, sum_by, slice_get, if◌then◌else◌, append_assoc}
+use Rattle.std.proofs.Common.{◌≡◌, ◌≤◌, ◌<◌, ℕ, ◌+◌, Bool, true, false, not, Option, Some, None, List, [], ◌∷◌, ◌++◌, map, refl, sym, ap, subst, ◌∙◌, arith, sum_by, slice_get, if◌then◌else◌, append_assoc}
 use Rattle.std.specs.Prelude.{nat_lt}
-use mathlib.Core.Logic.{inl, inr}
-use Rattle.std.proofs.lemmas.Bool.{cases_lt, ltb-true}
+use Rattle.std.proofs.lemmas.Bool.{ltb-true}
 use Rattle.std.proofs.lemmas.List.Sums.{sum_by-cons}
 use Rattle.regex_meaning.specs.Laws.{Each}
 use Rattle.regex_meaning.proofs.BoolLemmas.{and-left, and-right}
 use Rattle.regex_meaning.proofs.EachElementLemmas.{Each-append, Each-left, Each-right, Each-map}
 use Rattle.regex_meaning.specs.Text.{Text, Direction}
 use Rattle.regex_meaning.specs.CompilationRelation.{Program, Insn, EnterLoop, Loop1CharBody, Lookahead, Lookbehind}
-use Rattle.regress_machine.specs.Machine.{State, Thread, running, waiting, goes, scans, first_running_and_others_waiting, after_lookaround, state_with_ip, act}
+use Rattle.regress_machine.specs.Machine.{State, Thread, running, waiting, first_running_and_others_waiting, after_lookaround, state_with_ip}
 use Rattle.regress_memo.specs.SkippedLookarounds.{LookaroundInsn, lookaround_at}
 use Rattle.regress_memo.specs.DistinctLists.{IsNew}
 use Rattle.regress_memo.specs.MemoSearch.{Key, Entry, one_thread, key_record, thread_entries, threads_in, keys_in}
@@ -19,7 +18,7 @@ use Rattle.regress_memo.specs.declared.successors.Successors.TheVariants.{Ends, 
 use Rattle.regress_memo.specs.Successors.{successors_of_insn_if_any}
 use Rattle.regress_memo.specs.CheckedAnalysis.{ip_of}
 use Rattle.regress_memo.specs.ContentsApart.{is_in_contents, is_outside_contents, RepeatsOnSide, FlowsOnSide, StaysOnSide, IsSide, IsArea, IsApart, ContentsAreApart, AreOnSide, IsSearchApart}
-use Rattle.regress_memo.specs.ContentsApart.{StepStaysOnSide, LoopStaysOnSide, StepsStayOnSide, SearchStaysApart, KeysOfContentsAreNotPending}
+use Rattle.regress_memo.specs.ContentsApart.{StepStaysOnSide, LoopStaysOnSide, StepsStayOnSide, KeysOfContentsAreNotPending}
 use Rattle.regress_memo.proofs.AnalysisCheckLemmas.{EnoughBy, has-enough}
 use Rattle.regress_memo.proofs.ClosedLookaroundLemmas.{run-exits}
 use Rattle.regress_memo.proofs.MemoSearchLemmas.{threads-tries, threads-joined, keys-tries, keys-joined}

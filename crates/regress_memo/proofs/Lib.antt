@@ -41,5 +41,6 @@ pub mod UnreachedLoopBodyLemmas
 pub mod StepKindByInstruction
 pub mod ClosedLookaroundLemmas
 pub mod ContentsApartLemmas
+pub mod ContentsWithMemoLemmas
 pub mod InsnsOutsideLoops
 pub mod WorkBoundLemmas

@@ -38,4 +38,5 @@ pub mod ReachableThreadLoopStates
 pub mod UnreachedCharLoopBodies
 pub mod ClosedLookarounds
 pub mod ContentsApart
+pub mod ContentsWithMemo
 pub mod WorkBound

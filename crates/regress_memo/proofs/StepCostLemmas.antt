@@ -6,15 +6,15 @@ use Rattle.regex_meaning.specs.Laws.{Each}
 use Rattle.regex_meaning.specs.NumberListHelpers.{numbers_from}
 use Rattle.regex_meaning.specs.Text.{Text, Direction, moved}
 use Rattle.regex_meaning.specs.CompilationRelation.{Program}
-use Rattle.regress_machine.specs.Machine.{State, Thread, running, waiting}
-use Rattle.regress_machine.specs.CharLoopExitStatesByPreference.{behind, fewest_first}
+use Rattle.regress_machine.specs.Machine.{State, Thread, running, waiting, first_running_and_others_waiting}
+use Rattle.regress_machine.specs.CharLoopExitStatesByPreference.{behind, fewest_first, most_first}
 use Rattle.regress_memo.specs.Liveness.{Liveness}
 use Rattle.regress_memo.specs.MemoSearch.{Key, Entry, one_thread, thread_group, key_record, thread_entries, entry_potential}
-use Rattle.regress_memo.specs.ThreadPotentials.{Potentials, potential_of}
+use Rattle.regress_memo.specs.ThreadPotentials.{Potentials, potential_of, each_noted}
 use Rattle.regress_memo.specs.LoopDataKeyCodes.{Question, key_of}
 use Rattle.regress_memo.specs.CharLoopExitThreadLists.{passing, greedy_loop_threads, pending_loop_threads}
 use Rattle.regress_memo.specs.UnboundedCharLoops.{key_behind}
-use Rattle.regress_memo.specs.AmortizedStepCosts.{potential_by, IsCostCovered, AreCostsCovered, GreedyLoopIsCovered, LazyLoopIsCovered, ThreadIsPaid, places_from, key_on, RunTurnsArePaid}
+use Rattle.regress_memo.specs.AmortizedStepCosts.{potential_by, IsCostCovered, AreCostsCovered, GreedyLoopIsCovered, GreedyLoopCoversGroup, LazyLoopIsCovered, ThreadIsPaid, places_from, key_on, RunTurnsArePaid, RunsAheadArePaid}
 use Rattle.regress_memo.specs.AmortizedStepCosts.{StepCostsAreCovered}
 use Rattle.regress_memo.proofs.MemoSearchLemmas.{keys-bare, keys-tries}
 use Rattle.regress_memo.proofs.MemoPlanLemmas.{bare-tries}
@@ -104,6 +104,31 @@ module _ (program : Program) (w : Potentials) (price : ℕ → ℕ) (ips : List 
     }
 
   module _ (text : Text) (a : Liveness) (questions : ℕ → List Question) (way : ℕ → Direction) (taken : Key → ℕ) (d : Direction) (test : ℕ → Bool) (s : State) (place least : ℕ)
+      (paid : GreedyLoopCoversGroup program w price ips least s.ip) where
+    exits-weigh : (first count : ℕ) → weight (first_running_and_others_waiting (most_first text d first s 0 count)) ≤ w.at (s.ip + 2)
+    exits-weigh first count = by (reverse (numbers_from 0 count))
+      where
+        by : (ns : List ℕ) → weight (first_running_and_others_waiting (map (behind text d first s) ns)) ≤ w.at (s.ip + 2)
+        by [] = omega arith
+        by (n ∷ ns) = omega arith
+
+    without-group : GreedyLoopIsCovered program w price ips least s.ip
+    without-group = let enough = paid.ready in record { ready = omega (arith, enough); places = paid.places }
+
+    ahead-paid : RunsAheadArePaid program w price ips text a questions way taken d test s place least
+    ahead-paid n le =
+        let group = greedy_loop_threads text test d 0 (moved text d n place) s in
+        let xs = places text a questions way taken d test s place least without-group (n - least) in
+        let many = so-many text a questions way taken d test s place least without-group (n - least) in
+        let x = one-weighs (one_thread (running s)) in
+        let y = sum_by-cons (entry_potential weight) (thread_group group) (each_noted group xs) in
+        let few = exits-weigh (moved text d n place) (passing text test d (moved text d n place) + 1 - 0) in
+        let enough = paid.ready in
+        let pay = runs-pay cost weight group xs (least + 2) (least + 2) (n + 2) (omega arith) (omega (arith, many, le))
+        (each-paid text a questions way taken d test s place least without-group (reverse (numbers_from least (n - least)))) in
+        omega (arith, pay, x, y, few, enough)
+
+  module _ (text : Text) (a : Liveness) (questions : ℕ → List Question) (way : ℕ → Direction) (taken : Key → ℕ) (d : Direction) (test : ℕ → Bool) (s : State) (place least : ℕ)
       (paid : LazyLoopIsCovered program w price ips least s.ip) where
     abbrev first-key : Key
     first-key = key_on program w price ips text a questions way taken d test s place least 0
@@ -142,6 +167,8 @@ turns-paid = record {
   threads = λ program w price ips paid text code d s. thread-paid program w price ips paid text code d s;
   runs = λ program w price ips text a questions way taken d test s place least paid.
       run-paid program w price ips text a questions way taken d test s place least paid;
+  runs_ahead = λ program w price ips text a questions way taken d test s place least paid.
+      ahead-paid program w price ips text a questions way taken d test s place least paid;
   lazy_runs = λ program w price ips text a questions way taken d test s place least paid. record {
     taken_up = lazy-up program w price ips text a questions way taken d test s place least paid;
     again = lazy-again program w price ips text a questions way taken d test s place least paid;

@@ -142,6 +142,29 @@ module _ (program : Program) (text : Text) (a : Liveness) (keys : Keys) (d : Dir
         onward = on;
       }
 
+  -- ---- A char loop that is known to find an end from some position on
+
+  each-noted : (above : List Thread) (xs : List (Thread × Key)) → AreOfEach program text a keys d memory above xs → AreRightKeyRecords program text a keys d above (each_noted above xs)
+  each-noted above [] h = tt
+  each-noted above (x ∷ xs) h =
+      let here = above ++ x.0 ∷ [] in (
+        record { is_of = h.0.0; simulates = subst (λ m. Simulates program text false d m here here) (sym h.0.1) (simulates-same program text false d here) },
+        each-noted here xs h.1,
+      )
+
+  -- Like `turn-run`, but the threads of the later positions come first, as one group.
+  pub turn-ahead : (n : ℕ) (ts ahead : List Thread) (xs : List (Thread × Key)) → Simulates program text false d n (ahead ++ map (λ x. x.0) xs) ts → 1 ≤ n
+      → AreOfEach program text a keys d memory ahead xs → AreDistinct (map (λ x. x.1) xs) → GoesOnward d ts (thread_group ahead ∷ each_noted ahead xs)
+      → IsMemoStep program text a keys d memory ts (thread_group ahead ∷ each_noted ahead xs)
+  turn-ahead n ts ahead xs s some are distinct on = record {
+    spent = n;
+    simulates = subst (λ vs. Simulates program text false d n (ahead ++ vs) ts) (sym (threads-noted ahead xs)) s;
+    noted = each-noted ahead xs are;
+    opened = run-opened n ts some ahead xs s are;
+    distinct = subst AreDistinct (sym (keys-noted ahead xs)) distinct;
+    onward = on;
+  }
+
 pub turns-give : StepsAreMemoSteps
 turns-give program text a keys d memory = record {
   passed = turn-passed program text a keys d memory;

@@ -30,7 +30,7 @@ use Rattle.regress_memo.proofs.LivenessLemmas.{Moves, moves-on}
 use Rattle.regress_memo.proofs.SharedMemoLookaroundLemmas.{soundness-stays}
 use Rattle.regress_memo.proofs.CharLoopExitLemmas.{passing-left, passing-on, runs-leave, runs-begin, lazy-runs-go-on}
 use Rattle.regress_memo.proofs.CharLoopKeyLemmas.{runs-have-keys}
-use Rattle.regress_memo.proofs.ThreadPotentialLemmas.{turns-give}
+use Rattle.regress_memo.proofs.ThreadPotentialLemmas.{turns-give, turn-ahead}
 
 -- ---- Lists of numbers
 
@@ -221,6 +221,46 @@ module _ (program : Program) (text : Text) (a : Liveness) (questions : ℕ → L
     onward-known rightwards least count above few = placed-onward least count above few
     onward-known leftwards least count above few = tt
 
+    -- The threads of the later places are not before the keys of the nearer ones.
+    exits-onward : (from M : ℕ) (ks : List Key) → Each (λ (k : Key). k.at ≤ offset text (moved text rightwards M p)) ks → from ≤ offset text (moved text rightwards M p) → M ≤ passing text test rightwards p
+        → (ns : List ℕ) → Each (λ n. M + n ≤ passing text test rightwards p) ns
+        → Each (λ t. (from ≤ offset_of_thread t) × Each (λ (k : Key). k.at ≤ offset_of_thread t) ks) (first_running_and_others_waiting (map (behind text rightwards (moved text rightwards M p) s) ns))
+    exits-onward from M ks near le few ns inside_all = in-turn ns inside_all
+      where
+        far : (n : ℕ) → M + n ≤ passing text test rightwards p → offset text (moved text rightwards M p) ≤ offset text (moved text rightwards n (moved text rightwards M p))
+        far n within =
+            subst (λ q. offset text (moved text rightwards M p) ≤ offset text q) (sym (moved-twice text rightwards M n p))
+            (run-onward text is test rightwards M (M + n) p inside (omega arith) within)
+
+        both : (n : ℕ) → M + n ≤ passing text test rightwards p
+            → (from ≤ offset text (moved text rightwards n (moved text rightwards M p))) × Each (λ (k : Key). k.at ≤ offset text (moved text rightwards n (moved text rightwards M p))) ks
+        both n within =
+            let on = far n within in
+            (omega (arith, le, on), Each-map (λ (k : Key). k.at ≤ offset text (moved text rightwards M p)) _ (λ k h. omega (arith, h, on)) ks near)
+
+        waits : (ns : List ℕ) → Each (λ n. M + n ≤ passing text test rightwards p) ns
+            → Each (λ t. (from ≤ offset_of_thread t) × Each (λ (k : Key). k.at ≤ offset_of_thread t) ks) (map waiting (map (behind text rightwards (moved text rightwards M p) s) ns))
+        waits [] h = tt
+        waits (n ∷ ns) h = (both n h.0, waits ns h.1)
+
+        in-turn : (ns : List ℕ) → Each (λ n. M + n ≤ passing text test rightwards p) ns
+            → Each (λ t. (from ≤ offset_of_thread t) × Each (λ (k : Key). k.at ≤ offset_of_thread t) ks) (first_running_and_others_waiting (map (behind text rightwards (moved text rightwards M p) s) ns))
+        in-turn [] h = tt
+        in-turn (n ∷ ns) h = (both n h.0, waits ns h.1)
+
+    onward-ahead : (d : Direction) (n least count : ℕ) → least + count ≡ n → n ≤ passing text test d p
+        → GoesOnward d (running s ∷ []) (thread_group (row d n) ∷ each_noted (row d n) (all-placed d least count))
+    onward-ahead rightwards n least count same few =
+        let sum = passing-on text test rightwards n p inside few in
+        let left = passing text test rightwards (moved text rightwards n p) + 1 - 0 in
+        let below = subst (λ m. Each (λ k. k < m) (reverse (numbers_from least count))) same (below-it rightwards least count) in (
+          exits-onward s.pos n (keys_in (each_noted (row rightwards n) (all-placed rightwards least count))) (keys-near n few (row rightwards n) (reverse (numbers_from least count)) below) (from-here n few) few
+              (reverse (numbers_from 0 left))
+              (Each-reverse (λ m. n + m ≤ passing text test rightwards p) (numbers_from 0 left) (Each-map _ _ (λ m h. let less = h.1 in omega (arith, less, sum)) _ (numbers_between 0 left))),
+          placed-onward least count (row rightwards n) (omega (arith, same, few)),
+        )
+    onward-ahead leftwards n least count same few = tt
+
     onward-all : (d : Direction) (n least count : ℕ) → least + count ≡ n → n ≤ passing text test d p
         → GoesOnward d (running s ∷ []) (each_noted [] ((running (behind text d p s n), key d n) ∷ all-placed d least count))
     onward-all rightwards n least count same few =
@@ -295,6 +335,14 @@ module _ (program : Program) (text : Text) (a : Liveness) (questions : ℕ → L
           (subst (λ ts. Simulates program text false d (1 + (passing text test d p + 1)) ts (running s ∷ [])) (parts n le few) whole)
           (omega arith) none (each-key n le few new) (placed-apart d least (n - least) (omega (arith, le, few)))
           (onward-known begins-here d least (n - least) (row d n) (omega (arith, le, few)))
+
+      greedy-ahead : (n : ℕ) → least ≤ n → n ≤ passing text test d p → ExitKeysAreNew program text a questions way ips taken d test s memory p least n
+          → GivesHere (running s ∷ []) (thread_group (row d n) ∷ each_noted (row d n) (all-placed d least (n - least)))
+      greedy-ahead n le few new =
+          turn-ahead program text a keys d memory (1 + (passing text test d p + 1)) (running s ∷ []) (row d n) (all-placed d least (n - least))
+          (subst (λ ts. Simulates program text false d (1 + (passing text test d p + 1)) ts (running s ∷ [])) (parts n le few) whole)
+          (omega arith) (each-key n le few new) (placed-apart d least (n - least) (omega (arith, le, few)))
+          (onward-ahead begins-here d n least (n - least) (omega (arith, le)) few)
 
       greedy-all : (n : ℕ) → n ≡ passing text test d p → least ≤ n → ExitKeysAreNew program text a questions way ips taken d test s memory p least (n + 1)
           → GivesHere (running s ∷ []) (each_noted [] ((running (behind text d p s n), key d n) ∷ all-placed d least (n - least)))
@@ -397,6 +445,7 @@ runs-give = record {
       let inside = (offset-place_at text s.pos place acc.is_text at.at).1 in
       record {
         known = greedy-known program text a questions way ips taken test s acc.is_text place inside acc d memory least most at none_below;
+        ahead = greedy-ahead program text a questions way ips taken test s acc.is_text place inside acc d memory least most at none_below;
         all = greedy-all program text a questions way ips taken test s acc.is_text place inside acc d memory least most at none_below;
         none = greedy-none program text a questions way ips taken test s acc.is_text place inside acc d memory least most at none_below;
       };

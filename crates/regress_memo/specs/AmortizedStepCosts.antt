@@ -40,6 +40,11 @@ module _ (program : Program) (w : Potentials) (price : ℕ → ℕ) (ips : List 
     pub ready : least + 2 ≤ w.at ip
     pub places : w.at (ip + 2) + 3 ≤ price (ip + 1)
 
+  -- The potential of a greedy char loop also covers a group of exits.
+  pub record GreedyLoopCoversGroup (least ip : ℕ) : Type 0 where
+    pub ready : least + 2 + w.at (ip + 2) ≤ w.at ip
+    pub places : w.at (ip + 2) + 3 ≤ price (ip + 1)
+
   -- The potential of a lazy char loop also covers its first position, and the group of the other
   -- positions.
   pub record LazyLoopIsCovered (least ip : ℕ) : Type 0 where
@@ -79,6 +84,12 @@ module _ (program : Program) (w : Potentials) (price : ℕ → ℕ) (ips : List 
           → IsCostCovered (n + 2) (one_thread (running s) ∷ [])
           (each_noted [] ((running (behind text d place s n), key_on n) ∷ places_from (n - least)))
 
+    -- The step of a greedy char loop that is known to find an end from some place on is covered.
+    abbrev pub RunsAheadArePaid : Type 0
+    RunsAheadArePaid = (n : ℕ) → least ≤ n → IsCostCovered (n + 2) (one_thread (running s) ∷ [])
+        (thread_group (greedy_loop_threads text test d 0 (moved text d n place) s)
+        ∷ each_noted (greedy_loop_threads text test d 0 (moved text d n place) s) (places_from (n - least)))
+
     -- The steps of a lazy char loop are covered. It reads the required characters at once, and then
     -- one character in each step.
     pub record LazyTurnsArePaid : Type 0 where
@@ -100,6 +111,10 @@ pub record StepCostsAreCovered : Type 0 where
       (questions : ℕ → List Question) (way : ℕ → Direction) (taken : Key → ℕ) (d : Direction) (test : ℕ → Bool)
       (s : State) (place least : ℕ) → GreedyLoopIsCovered program w price ips least s.ip
       → RunTurnsArePaid program w price ips text a questions way taken d test s place least
+  pub runs_ahead : (program : Program) (w : Potentials) (price : ℕ → ℕ) (ips : List ℕ) (text : Text) (a : Liveness)
+      (questions : ℕ → List Question) (way : ℕ → Direction) (taken : Key → ℕ) (d : Direction) (test : ℕ → Bool)
+      (s : State) (place least : ℕ) → GreedyLoopCoversGroup program w price ips least s.ip
+      → RunsAheadArePaid program w price ips text a questions way taken d test s place least
   pub lazy_runs : (program : Program) (w : Potentials) (price : ℕ → ℕ) (ips : List ℕ) (text : Text) (a : Liveness)
       (questions : ℕ → List Question) (way : ℕ → Direction) (taken : Key → ℕ) (d : Direction) (test : ℕ → Bool)
       (s : State) (place least : ℕ) → LazyLoopIsCovered program w price ips least s.ip

@@ -60,6 +60,12 @@ module _ (program : Program) (text : Text) (a : Liveness) (questions : ℕ → L
         pub all : (n : ℕ) → n ≡ passing text test d place → least ≤ n → ExitKeysAreNew memory place least (n + 1)
             → GivesRun (running s ∷ [])
             (each_noted [] ((running (behind text d place s n), key_behind place n) ∷ placed place least (n - least)))
+        -- The loop is known to find an end from some place on. The threads from there on come first,
+        -- as one group.
+        pub ahead : (n : ℕ) → least ≤ n → n ≤ passing text test d place → ExitKeysAreNew memory place least n
+            → GivesRun (running s ∷ [])
+            (thread_group (greedy_loop_threads text test d 0 (moved text d n place) s)
+            ∷ each_noted (greedy_loop_threads text test d 0 (moved text d n place) s) (placed place least (n - least)))
         -- There are too few characters, so no thread is left.
         pub none : passing text test d place < least → GivesRun (running s ∷ []) []
 

@@ -3,7 +3,7 @@ use Rattle.std.proofs.Common.{◌≡◌, ◌≤◌, ◌<◌, ◌^◌, ℕ, ◌+�
 use Rattle.std.proofs.Common.{refl, sym, ap, ◌∙◌, subst, arith, append_assoc, if◌then◌else◌, sum_by, slice_get}
 use Rattle.std.proofs.lemmas.List.{length-replicate}
 use Rattle.regex_meaning.specs.Laws.{Each}
-use Rattle.regex_meaning.proofs.EachElementLemmas.{Each-append}
+use Rattle.regex_meaning.proofs.EachElementLemmas.{Each-append, Each-right}
 use Rattle.regex_meaning.specs.Text.{Text, Direction, rightwards}
 use Rattle.regex_meaning.specs.CodeUnitOffsets.{HasRisingPlaceOffsets, units}
 use Rattle.regex_meaning.specs.CompilationRelation.{Program, Insn, Lookahead, Lookbehind}
@@ -86,6 +86,10 @@ module _ (program : Program) (text : Text) (t : MemoAnalysis) (d : Direction) wh
       subst (AreKeyed program text t d) (sym (threads-joined entries rest))
       (Each-append (λ u. IsKeyed program text t d (state_of_thread u)) (threads_in entries) (threads_in rest) above below)
 
+  pub keyed-rest : (entries rest : List Entry) → AreKeyed program text t d (threads_in (entries ++ rest)) → AreKeyed program text t d (threads_in rest)
+  keyed-rest entries rest h =
+      Each-right (λ u. IsKeyed program text t d (state_of_thread u)) (threads_in entries) (threads_in rest) (subst (AreKeyed program text t d) (threads-joined entries rest) h)
+
   pub keyed-tries : (ts : List Thread) → AreKeyed program text t d ts → AreKeyed program text t d (threads_in (thread_entries ts))
   keyed-tries ts h = subst (AreKeyed program text t d) (sym (threads-tries ts)) h
 
@@ -161,7 +165,8 @@ module _ (program : Program) (t : MemoAnalysis) (of : IsAnalysisOf program t) (p
 
 -- ---- Steps of keyed threads
 
-module _ (program : Program) (t : MemoAnalysis) (of : IsAnalysisOf program t) (bounded : IsWorkBounded t program) (text : Text) (is_text : HasRisingPlaceOffsets text) (bytes : ReadsAsBytes program text)
+module _ (program : Program) (t : MemoAnalysis) (of : IsAnalysisOf program t) (ready : (ip : ℕ) → 1 ≤ (insn_analysis_of t ip).ready)
+    (past : (ip : ℕ) → FlowsPastBodies program (successors_of_insn_if_any ip (slice_get program.insns ip)) ip) (text : Text) (is_text : HasRisingPlaceOffsets text) (bytes : ReadsAsBytes program text)
     (less : units text < 2 ^ 63) (d : Direction) (memory : List Key) (first : List Entry) (work : ℕ) (now : List Key) (rest : List Entry) where
   abbrev Come : (work : ℕ) → List Key → List Entry → Type 0
   Come work now row = ReachesEntries program text t d memory first work now row
@@ -174,9 +179,9 @@ module _ (program : Program) (t : MemoAnalysis) (of : IsAnalysisOf program t) (b
   left-keyed s ts k turn =
       all-keyed program text t d ts (states-stay program text d s ts k.of turn)
       ((soundness-stays program text (analysis_as_liveness t) served.plan.liveness d).goes outermost s ts k.sound turn)
-      (ways-stay program t of text d s ts k.way turn) (bodies-apart program t of bounded.past text d s ts turn)
+      (ways-stay program t of text d s ts k.way turn) (bodies-apart program t of past text d s ts turn)
 
-  turned : (s : State) (ts : List Thread) → act program text d s ≡ goes ts → memo_key_at t s ≡ None → Come work now (one_thread (running s) ∷ rest) → Come (work + 1) now (thread_entries ts ++ rest)
+  pub turned : (s : State) (ts : List Thread) → act program text d s ≡ goes ts → memo_key_at t s ≡ None → Come work now (one_thread (running s) ∷ rest) → Come (work + 1) now (thread_entries ts ++ rest)
   turned s ts turn none h = record {
     comes = gives work 1 now (one_thread (running s) ∷ []) (thread_entries ts) rest tt h.comes ((served.serves.gives d now s).turned ts turn)
         ((turns-paid.threads program (potentials_of t) (key_cost_of t) (recorded t) of.paid text (plan_code (key_code_questions_of t)) d s).turned ts turn (no-key t s none));
@@ -207,7 +212,7 @@ module _ (program : Program) (t : MemoAnalysis) (of : IsAnalysisOf program t) (b
             (keyed-joined program text t d (thread_entries ts) (key_record key (running s ∷ []) ∷ []) (keyed-tries program text t d ts (left-keyed s ts keyed turn)) tt) h.keyed.1;
       }
 
-  with-record : (s : State) (ts : List Thread) (k : Key) → act program text d s ≡ goes ts → memo_key_at t s ≡ Some k → IsNew k now → Come work now (one_thread (running s) ∷ rest)
+  pub with-record : (s : State) (ts : List Thread) (k : Key) → act program text d s ≡ goes ts → memo_key_at t s ≡ Some k → IsNew k now → Come work now (one_thread (running s) ∷ rest)
       → Come (work + 1) now (thread_entries ts ++ key_record k (running s ∷ []) ∷ rest)
   with-record s ts k turn is new h =
       let has = has-key t s k is in
@@ -215,27 +220,40 @@ module _ (program : Program) (t : MemoAnalysis) (of : IsAnalysisOf program t) (b
       (append_assoc (thread_entries ts) (key_record (key_of (plan_code (key_code_questions_of t)) s) (running s ∷ []) ∷ []) rest ∙ ap (λ k. thread_entries ts ++ key_record k (running s ∷ []) ∷ rest) has.is)
       (recorded-key s ts k has turn new h)
 
-  known-fails : (s : State) (k : Key) → memo_key_at t s ≡ Some k → KeyFails program text t k → Come work now (one_thread (running s) ∷ rest) → Come (work + 1) now rest
+  pub known-fails : (s : State) (k : Key) → memo_key_at t s ≡ Some k → KeyFails program text t k → Come work now (one_thread (running s) ∷ rest) → Come (work + 1) now rest
   known-fails s k is fails h =
       let keyed = h.keyed.0 in
       let of_key = thread-key program text t d s k is keyed.no_body keyed.way keyed.of keyed.sound in
       record {
         comes = gives work 1 now (one_thread (running s) ∷ []) [] rest tt h.comes
             ((turns-right program text (analysis_as_liveness t) (analysis_keys program text t) served.plan.liveness served.serves.keys d).dropped now k (running s ∷ []) fails of_key)
-            ((others-paid.ends program (potentials_of t) (key_cost_of t) (recorded t) s).known (bounded.ready s.ip));
+            ((others-paid.ends program (potentials_of t) (key_cost_of t) (recorded t) s).known (ready s.ip));
         keyed = h.keyed.1;
       }
 
-  -- ---- Lookarounds
+  pub taken-up : (s : State) → Come work now (one_thread (waiting s) ∷ rest) → Come (work + 1) now (one_thread (running s) ∷ rest)
+  taken-up s h = record {
+    comes = gives work 1 now (one_thread (waiting s) ∷ []) (one_thread (running s) ∷ []) rest tt h.comes (served.serves.gives d now s).taken_up
+        (turns-paid.threads program (potentials_of t) (key_cost_of t) (recorded t) of.paid text (plan_code (key_code_questions_of t)) d s).taken_up;
+    keyed = (h.keyed.0, h.keyed.1);
+  }
 
+  pub record-reached : (k : Key) (ts : List Thread) → Come work now (key_record k ts ∷ rest) → Come (work + 1) (k ∷ now) rest
+  record-reached k ts h = record { comes = reaches work now k ts rest h.comes; keyed = h.keyed }
+
+-- ---- Lookarounds
+
+module _ (program : Program) (t : MemoAnalysis) (of : IsAnalysisOf program t) (bounded : IsWorkBounded t program) (text : Text) (is_text : HasRisingPlaceOffsets text) (bytes : ReadsAsBytes program text)
+    (less : units text < 2 ^ 63) (d : Direction) (memory : List Key) (first : List Entry) (work : ℕ) (now : List Key) (rest : List Entry) where
   module _ (s : State) (l : LookaroundInsn) (is : lookaround_at (slice_get program.insns s.ip) ≡ Some l) (turns : ℕ) (f : Found)
       (e : search program text turns l.inner (running (state_at_next_ip s) ∷ []) ≡ Some f) where
     abbrev left-behind : List Thread
     left-behind = after_lookaround l.negate (state_with_ip l.continuation s) f.end
 
-    looked : Come work now (one_thread (running s) ∷ rest) → Come (work + (f.steps + 1)) now (thread_entries left-behind ++ rest)
+    looked : ReachesEntries program text t d memory first work now (one_thread (running s) ∷ rest)
+        → ReachesEntries program text t d memory first (work + (f.steps + 1)) now (thread_entries left-behind ++ rest)
     looked h = record {
-      comes = gives work (f.steps + 1) now (one_thread (running s) ∷ []) (thread_entries left-behind) rest tt h.comes ((served.serves.looks d now s l is).searched turns f e)
+      comes = gives work (f.steps + 1) now (one_thread (running s) ∷ []) (thread_entries left-behind) rest tt h.comes (((ledgers-serve program t of text is_text bytes less).serves.looks d now s l is).searched turns f e)
           (let w = potentials_of t in
           let x = one-weighs program w (key_cost_of t) (recorded t) (one_thread (running s)) in
           let y = tries-weigh program w (key_cost_of t) (recorded t) left-behind in
@@ -247,16 +265,12 @@ module _ (program : Program) (t : MemoAnalysis) (of : IsAnalysisOf program t) (b
 
   pub comes-on : StepsReachEntries program text t d memory first work now rest
   comes-on = record {
-    turned = turned;
-    recorded = with-record;
-    known = known-fails;
+    turned = turned program t of bounded.ready bounded.past text is_text bytes less d memory first work now rest;
+    recorded = with-record program t of bounded.ready bounded.past text is_text bytes less d memory first work now rest;
+    known = known-fails program t of bounded.ready bounded.past text is_text bytes less d memory first work now rest;
     looked = λ s l turns f is e h. looked s l is turns f e h;
-    taken_up = λ s h. record {
-      comes = gives work 1 now (one_thread (waiting s) ∷ []) (one_thread (running s) ∷ []) rest tt h.comes (served.serves.gives d now s).taken_up
-          (turns-paid.threads program (potentials_of t) (key_cost_of t) (recorded t) of.paid text (plan_code (key_code_questions_of t)) d s).taken_up;
-      keyed = (h.keyed.0, h.keyed.1);
-    };
-    reached = λ k ts h. record { comes = reaches work now k ts rest h.comes; keyed = h.keyed };
+    taken_up = taken-up program t of bounded.ready bounded.past text is_text bytes less d memory first work now rest;
+    reached = record-reached program t of bounded.ready bounded.past text is_text bytes less d memory first work now rest;
   }
 
 -- ---- The beginning of a search

@@ -1,5 +1,5 @@
 -- Steps stay inside the contents of a lookaround, or outside of them.
-use Rattle.std.proofs.Common.{◌≡◌, ◌≤◌, ◌<◌, ℕ, ◌+◌, Bool, true, false, not, Option, Some, None, List, [], ◌∷◌, ◌++◌, map, refl, sym, ap, subst, ◌∙◌, arith, sum_by, slice_get, if◌then◌else◌, append_assoc}
+use Rattle.std.proofs.Common.{◌≡◌, ◌≤◌, ◌<◌, ℕ, ◌+◌, Bool, true, false, not, Option, Some, None, List, [], ◌∷◌, ◌++◌, map, refl, sym, ap, subst, ◌∙◌, arith, sum_by, slice_get, if◌then◌else◌, append_assoc, suc, ◌-◌, reverse}
 use Rattle.std.specs.Prelude.{nat_lt}
 use Rattle.std.proofs.lemmas.Bool.{ltb-true}
 use Rattle.std.proofs.lemmas.List.Sums.{sum_by-cons}
@@ -9,16 +9,22 @@ use Rattle.regex_meaning.proofs.EachElementLemmas.{Each-append, Each-left, Each-
 use Rattle.regex_meaning.specs.Text.{Text, Direction}
 use Rattle.regex_meaning.specs.CompilationRelation.{Program, Insn, EnterLoop, Loop1CharBody, Lookahead, Lookbehind}
 use Rattle.regress_machine.specs.Machine.{State, Thread, running, waiting, first_running_and_others_waiting, after_lookaround, state_with_ip}
+use Rattle.regress_machine.specs.CharLoopExitStatesByPreference.{behind, fewest_first, most_first}
+use Rattle.regress_memo.specs.Liveness.{Liveness}
+use Rattle.regress_memo.specs.LoopDataKeyCodes.{Question}
+use Rattle.regress_memo.specs.CharLoopExitThreadLists.{passing, pending_loop_threads}
+use Rattle.regress_memo.specs.UnboundedCharLoops.{key_behind}
+use Rattle.regex_meaning.specs.NumberListHelpers.{numbers_from}
 use Rattle.regress_memo.specs.SkippedLookarounds.{LookaroundInsn, lookaround_at}
 use Rattle.regress_memo.specs.DistinctLists.{IsNew}
 use Rattle.regress_memo.specs.MemoSearch.{Key, Entry, one_thread, key_record, thread_entries, threads_in, keys_in}
-use Rattle.regress_memo.specs.ThreadPotentials.{Potentials, potential_of, CoversRepeat, AreCovering}
+use Rattle.regress_memo.specs.ThreadPotentials.{each_noted, Potentials, potential_of, CoversRepeat, AreCovering}
 use Rattle.regress_memo.specs.declared.successors.Successors.{Successors}
 use Rattle.regress_memo.specs.declared.successors.Successors.TheVariants.{Ends, One, Two, Enter, Again, Run, LookaroundSuccessor, Same}
 use Rattle.regress_memo.specs.Successors.{successors_of_insn_if_any}
 use Rattle.regress_memo.specs.CheckedAnalysis.{ip_of}
 use Rattle.regress_memo.specs.ContentsApart.{is_in_contents, is_outside_contents, RepeatsOnSide, FlowsOnSide, StaysOnSide, IsSide, IsArea, IsApart, ContentsAreApart, AreOnSide, IsSearchApart}
-use Rattle.regress_memo.specs.ContentsApart.{StepStaysOnSide, LoopStaysOnSide, StepsStayOnSide, KeysOfContentsAreNotPending}
+use Rattle.regress_memo.specs.ContentsApart.{StepStaysOnSide, LoopStaysOnSide, LoopThreadsStayOnSide, StepsStayOnSide, KeysOfContentsAreNotPending}
 use Rattle.regress_memo.proofs.AnalysisCheckLemmas.{EnoughBy, has-enough}
 use Rattle.regress_memo.proofs.ClosedLookaroundLemmas.{run-exits}
 use Rattle.regress_memo.proofs.MemoSearchLemmas.{threads-tries, threads-joined, keys-tries, keys-joined}
@@ -148,6 +154,33 @@ module _ (side : ℕ → Bool) where
           behind-here l.negate (state_with_ip l.continuation s) end (look-flows program (slice_get program.insns s.ip) s.ip l is (closed.stays s.ip here));
     }
 
+-- ---- Threads of char loops
+
+module _ (side : ℕ → Bool) (text : Text) (d : Direction) (test : ℕ → Bool) (place : ℕ) (s : State) (h : LoopStaysOnSide side s.ip) where
+  all-behind : (ns : List ℕ) → Each (λ (u : State). u.ip ≡ s.ip + 2) (map (behind text d place s) ns)
+  all-behind [] = tt
+  all-behind (n ∷ ns) = (refl, all-behind ns)
+
+  exits-noted : (program : Program) (a : Liveness) (questions : ℕ → List Question) (way : ℕ → Direction) (ips : List ℕ) (taken : Key → ℕ) (known : List Thread) (ns : List ℕ)
+      → AreOnSide side (each_noted known (map (λ n. (waiting (behind text d place s n), key_behind program text a questions way ips taken d test s place n)) ns))
+  exits-noted program a questions way ips taken known [] = record { threads = tt; records = tt }
+  exits-noted program a questions way ips taken known (n ∷ ns) =
+      let below = exits-noted program a questions way ips taken (known ++ waiting (behind text d place s n) ∷ []) ns in
+      record { threads = (h.on, below.threads); records = (h.body, below.records) }
+
+  loop-threads : LoopThreadsStayOnSide side text d test place s
+  loop-threads = record {
+    greedy = λ least. exits-here side (s.ip + 2) (most_first text d place s least (passing text test d place + 1 - least)) h.on (all-behind (reverse (numbers_from least (passing text test d place + 1 - least))));
+    waits = λ least. waits-here side (s.ip + 2) (fewest_first text d place s least (passing text test d place + 1 - least)) h.on (all-behind (numbers_from least (passing text test d place + 1 - least)));
+    exits = λ program a questions way ips taken known least count. exits-noted program a questions way ips taken known (reverse (numbers_from least count));
+  }
+
+loop-waits : (side : ℕ → Bool) (text : Text) (d : Direction) (test : ℕ → Bool) (place : ℕ) (s : State)
+    → Each (λ u. side (ip_of u) ≡ true) (pending_loop_threads text test d 0 place s) → side (s.ip + 2) ≡ true
+loop-waits side text d test place s h =
+    let some : passing text test d place + 1 - 0 ≡ suc (passing text test d place) = omega arith in
+    (subst (λ m. Each (λ u. side (ip_of u) ≡ true) (map waiting (fewest_first text d place s 0 m))) some h).0
+
 -- ---- Sides
 
 not-both : (b : Bool) → b ≡ true → not b ≡ true → ⊥
@@ -236,6 +269,8 @@ steps-stay = record {
   steps = λ side program closed text d s here. step-stays side program closed text d s here;
   loops = λ side program is_side ip least most greedy is on.
       loop-begins side program is_side.closed ip least most greedy is (is_side.loops ip least most greedy is on);
+  loop_threads = λ side text d test place s h. loop-threads side text d test place s h;
+  loop_waits = loop-waits;
   loop_begins = λ side program closed ip least most greedy is here. loop-begins side program closed ip least most greedy is here;
 }
 
@@ -260,7 +295,7 @@ module _ (side : ℕ → Bool) where
     records = Each-right (λ (k : Key). side k.ip ≡ true) (keys_in entries) (keys_in rest) (subst (Each (λ (k : Key). side k.ip ≡ true)) (keys-joined entries rest) h.records);
   }
 
-  entries-of : (ts : List Thread) → AllOnSide side ts → AreOnSide side (thread_entries ts)
+  pub entries-of : (ts : List Thread) → AllOnSide side ts → AreOnSide side (thread_entries ts)
   entries-of ts h = record {
     threads = subst (Each (λ u. side (ip_of u) ≡ true)) (sym (threads-tries ts)) h;
     records = subst (Each (λ (k : Key). side k.ip ≡ true)) (sym (keys-tries ts)) tt;

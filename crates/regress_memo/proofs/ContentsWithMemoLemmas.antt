@@ -7,7 +7,7 @@ use Rattle.regex_meaning.proofs.EachElementLemmas.{Each-append, Each-right}
 use Rattle.regex_meaning.specs.Text.{Text, Direction}
 use Rattle.regex_meaning.specs.CodeUnitOffsets.{HasRisingPlaceOffsets, units}
 use Rattle.regex_meaning.specs.CompilationRelation.{Program}
-use Rattle.regress_machine.specs.Machine.{State, Thread, running, waiting, Found, result_without_threads, after_lookaround, state_with_ip, state_at_next_ip, search}
+use Rattle.regress_machine.specs.Machine.{State, Thread, running, waiting, goes, Found, result_without_threads, after_lookaround, state_with_ip, state_at_next_ip, act, search}
 use Rattle.regress_machine.proofs.MachineSearchLemmas.{asked-inner}
 use Rattle.regress_machine.proofs.ExecutorLoopLemmas.{left-ends, left-none}
 use Rattle.regress_memo.specs.Liveness.{Liveness, ReadsAsBytes, outermost}
@@ -22,13 +22,13 @@ use Rattle.regress_memo.specs.AnalysisAsPotentials.{analysis_as_liveness, record
 use Rattle.regress_memo.specs.CheckedAnalysis.{IsAnalysisOf, IsMemoPlanForText}
 use Rattle.regress_memo.specs.Laws.{analysis_keys, KeySucceeds}
 use Rattle.regress_memo.specs.AmortizedMemoSearchSteps.{IsKeyed, ReachesEntries}
-use Rattle.regress_memo.specs.ContentsApart.{is_in_contents, IsArea, IsSearchApart}
-use Rattle.regress_memo.specs.ContentsWithMemo.{AllowsMemoInContents, CoversContents, contents_of, HasComeTo, SearchComesOn, IsAtLookaround, ContentsHaveComeTo, LookaroundIsCovered}
+use Rattle.regress_memo.specs.ContentsApart.{is_in_contents, AreOnSide, IsSide, IsArea, IsSearchApart, SearchStaysApart}
+use Rattle.regress_memo.specs.ContentsWithMemo.{ThreadsComeOn, AllowsMemoInContents, CoversContents, contents_of, HasComeTo, SearchComesOn, IsAtLookaround, ContentsHaveComeTo, LookaroundIsCovered}
 use Rattle.regress_memo.specs.ContentsWithMemo.{PartsOfSearchesAreCovered, SearchesOfContentsComeOn, LookaroundsThatRecordAreCovered}
-use Rattle.regress_memo.proofs.AmortizedMemoSearchLemmas.{look-flows, behind-keyed, keyed-joined, keyed-tries}
+use Rattle.regress_memo.proofs.AmortizedMemoSearchLemmas.{has-key, turned, with-record, known-fails, taken-up, record-reached, keyed-rest, look-flows, behind-keyed, keyed-joined, keyed-tries}
 use Rattle.regress_memo.proofs.CappedCharLoopLemmas.{looks-pay}
 use Rattle.regress_memo.proofs.CheckedAnalysisLemmas.{recorded-is, ledgers-serve}
-use Rattle.regress_memo.proofs.ContentsApartLemmas.{keys-apart}
+use Rattle.regress_memo.proofs.ContentsApartLemmas.{keys-apart, steps-stay, entries-of, entries-joined}
 use Rattle.regress_memo.proofs.DistinctListLemmas.{distinct-right, sum-moved}
 use Rattle.regress_memo.proofs.MemoSearchLemmas.{keys-bare, keys-joined, work-is-bounded}
 use Rattle.regress_memo.proofs.SharedMemoLookaroundLemmas.{looks-learn, soundness-stays, success-shared}
@@ -142,12 +142,78 @@ module _ (program : Program) (t : MemoAnalysis) (of : IsAnalysisOf program t) (t
           apart = keys-apart.contents_begin program allows.apart now s.ip l is (state_at_next_ip s) refl;
         }
 
+-- ---- Steps
+
+module _ (program : Program) (t : MemoAnalysis) (of : IsAnalysisOf program t) (allows : AllowsMemoInContents t program) (text : Text) (is_text : HasRisingPlaceOffsets text) (bytes : ReadsAsBytes program text) (less : units text < 2 ^ 63)
+    (side : ℕ → Bool) (area : IsArea side program) (d : Direction) (memory : List Key) (first : List Thread) (work : ℕ) (now : List Key) (rest : List Entry) where
+  abbrev Has : (work : ℕ) → List Key → List Entry → Type 0
+  Has work now row = HasComeTo program text t side d memory first work now row
+
+  stays : SearchStaysApart side program memory now rest
+  stays = keys-apart.stays side program area allows.apart memory now rest
+
+  -- A step of a thread, whose entries are on each side of its instruction.
+  of-thread : (more : ℕ) (s : State) (entries : List Entry) → ((other : ℕ → Bool) → IsSide other program → other s.ip ≡ true → AreOnSide other entries)
+      → (ReachesEntries program text t d memory (thread_entries first) work now (one_thread (running s) ∷ rest) → ReachesEntries program text t d memory (thread_entries first) (work + more) now (entries ++ rest))
+      → Has work now (one_thread (running s) ∷ rest) → Has (work + more) now (entries ++ rest)
+  of-thread more s entries on step h = record {
+    is_memory = h.is_memory;
+    answers = h.answers;
+    comes = step h.comes;
+    apart = stays.gives (one_thread (running s) ∷ []) entries (λ other is_side here. on other is_side here.threads.0) h.apart;
+  }
+
+  left-on : (s : State) (ts : List Thread) → act program text d s ≡ goes ts → (other : ℕ → Bool) → IsSide other program → other s.ip ≡ true → AreOnSide other (thread_entries ts)
+  left-on s ts turn other is_side here = entries-of other ts ((steps-stay.steps other program is_side.closed text d s here).goes ts turn)
+
+  threads-come-on : ThreadsComeOn program text t side d memory first work now rest
+  threads-come-on = record {
+    turned = λ s ts turn none h.
+        of-thread 1 s (thread_entries ts) (left-on s ts turn)
+        (turned program t of allows.ready allows.past text is_text bytes less d memory (thread_entries first) work now rest s ts turn none) h;
+    recorded = λ s ts k turn is new h.
+        let record-here = key_record k (running s ∷ []) ∷ [] in
+        let at : k.ip ≡ s.ip = sym (ap (λ (k : Key). k.ip) (has-key t s k is).is) in
+        let same : (thread_entries ts ++ record-here) ++ rest ≡ thread_entries ts ++ key_record k (running s ∷ []) ∷ rest = append_assoc (thread_entries ts) record-here rest in
+        subst (Has (work + 1) now) same
+        (of-thread 1 s (thread_entries ts ++ record-here)
+        (λ other is_side here. entries-joined other (thread_entries ts) record-here (left-on s ts turn other is_side here) (record { threads = tt; records = (ap other at ∙ here, tt) }))
+        (λ c. subst (ReachesEntries program text t d memory (thread_entries first) (work + 1) now) (sym same)
+        (with-record program t of allows.ready allows.past text is_text bytes less d memory (thread_entries first) work now rest s ts k turn is new c)) h);
+    known = λ s k is fails h.
+        of-thread 1 s [] (λ other is_side here. record { threads = tt; records = tt })
+        (known-fails program t of allows.ready allows.past text is_text bytes less d memory (thread_entries first) work now rest s k is fails) h;
+    taken_up = λ s h. record {
+      is_memory = h.is_memory;
+      answers = h.answers;
+      comes = taken-up program t of allows.ready allows.past text is_text bytes less d memory (thread_entries first) work now rest s h.comes;
+      apart = stays.gives (one_thread (waiting s) ∷ []) (one_thread (running s) ∷ []) (λ other is_side here. record { threads = (here.threads.0, tt); records = tt }) h.apart;
+    };
+    reached = λ k ts h. record {
+      is_memory = h.is_memory;
+      answers = h.answers;
+      comes = record-reached program t of allows.ready allows.past text is_text bytes less d memory (thread_entries first) work now rest k ts h.comes;
+      apart = stays.reaches k ts h.apart;
+    };
+    gives = λ more front entries bare step paid keyed on h. record {
+      is_memory = h.is_memory;
+      answers = h.answers;
+      comes = record {
+        comes = gives work more now front entries rest bare h.comes.comes step paid;
+        keyed = keyed-joined program text t d entries rest keyed (keyed-rest program text t d front rest h.comes.keyed);
+      };
+      apart = stays.gives front entries on h.apart;
+    };
+  }
+
 pub contents-come-on : SearchesOfContentsComeOn
 contents-come-on = record {
   begins = λ program t of allows text is_text bytes less side d memory first work now rest s l is h.
       contents-begin program t of text is_text bytes less allows side d memory first work now rest s l is h;
   comes_on = λ program t of text is_text bytes less side d memory first work now row h turns f e.
       search-comes-on program t of text is_text bytes less side d memory first work now row h turns f e;
+  steps = λ program t of allows text is_text bytes less side area d memory first work now rest.
+      threads-come-on program t of allows text is_text bytes less side area d memory first work now rest;
 }
 
 -- ---- Lookarounds

@@ -6,9 +6,14 @@ use Rattle.regex_meaning.specs.Laws.{Each}
 use Rattle.regex_meaning.specs.Text.{Text, Direction}
 use Rattle.regex_meaning.specs.CompilationRelation.{Program, Insn, EnterLoop, Loop1CharBody}
 use Rattle.regress_machine.specs.Machine.{State, Thread, running, goes, scans, after_lookaround, state_with_ip, act}
+use Rattle.regress_memo.specs.Liveness.{Liveness}
 use Rattle.regress_memo.specs.SkippedLookarounds.{LookaroundInsn, lookaround_at}
 use Rattle.regress_memo.specs.DistinctLists.{IsNew}
 use Rattle.regress_memo.specs.MemoSearch.{Key, Entry, one_thread, key_record, thread_entries, threads_in, keys_in}
+use Rattle.regress_memo.specs.ThreadPotentials.{each_noted}
+use Rattle.regress_memo.specs.LoopDataKeyCodes.{Question}
+use Rattle.regress_memo.specs.CharLoopExitThreadLists.{greedy_loop_threads, pending_loop_threads}
+use Rattle.regress_memo.specs.UnboundedCharLoops.{placed}
 use Rattle.regress_memo.specs.declared.successors.Successors.{Successors}
 use Rattle.regress_memo.specs.declared.successors.Successors.TheVariants.{Ends, One, Two, Enter, Again, Run, LookaroundSuccessor, Same}
 use Rattle.regress_memo.specs.Successors.{successors_of_insn_if_any}
@@ -99,6 +104,15 @@ pub record LoopStaysOnSide (side : ℕ → Bool) (ip : ℕ) : Type 0 where
   pub body : side (ip + 1) ≡ true
   pub on : side (ip + 2) ≡ true
 
+module _ (side : ℕ → Bool) (text : Text) (d : Direction) (test : ℕ → Bool) (place : ℕ) (s : State) where
+  -- The threads and keys of a char loop are on the side of its body and of what follows it.
+  pub record LoopThreadsStayOnSide : Type 0 where
+    pub greedy : (least : ℕ) → Each (λ u. side (ip_of u) ≡ true) (greedy_loop_threads text test d least place s)
+    pub waits : (least : ℕ) → Each (λ u. side (ip_of u) ≡ true) (pending_loop_threads text test d least place s)
+    pub exits : (program : Program) (a : Liveness) (questions : ℕ → List Question) (way : ℕ → Direction) (ips : List ℕ)
+        (taken : Key → ℕ) (known : List Thread) (least count : ℕ)
+        → AreOnSide side (each_noted known (placed program text a questions way ips taken d test s place least count))
+
 -- ---- Laws
 
 -- Steps stay inside contents, or outside of them.
@@ -118,6 +132,10 @@ pub record StepsStayOnSide : Type 0 where
   pub loop_begins : (side : ℕ → Bool) (program : Program) → StaysOnSide side program
       → (ip least most : ℕ) (greedy : Bool) → slice_get program.insns ip ≡ Some (Loop1CharBody least most greedy)
       → side ip ≡ true → LoopStaysOnSide side ip
+  pub loop_threads : (side : ℕ → Bool) (text : Text) (d : Direction) (test : ℕ → Bool) (place : ℕ) (s : State)
+      → LoopStaysOnSide side s.ip → LoopThreadsStayOnSide side text d test place s
+  pub loop_waits : (side : ℕ → Bool) (text : Text) (d : Direction) (test : ℕ → Bool) (place : ℕ) (s : State)
+      → Each (λ u. side (ip_of u) ≡ true) (pending_loop_threads text test d 0 place s) → side (s.ip + 2) ≡ true
 
 module _ (side : ℕ → Bool) (program : Program) (memory now : List Key) (rest : List Entry) where
   -- The steps of a search on a side keep it apart.

@@ -7,18 +7,22 @@ use Rattle.regex_meaning.specs.Laws.{Each}
 use Rattle.regex_meaning.specs.Text.{Text, Direction}
 use Rattle.regex_meaning.specs.CodeUnitOffsets.{HasRisingPlaceOffsets, units}
 use Rattle.regex_meaning.specs.CompilationRelation.{Program}
-use Rattle.regress_machine.specs.Machine.{State, Thread, running, ends, Found, after_lookaround, state_with_ip, state_at_next_ip, act, search}
+use Rattle.regress_machine.specs.Machine.{State, Thread, running, waiting, goes, ends, Found, after_lookaround, state_with_ip, state_at_next_ip, act, search}
 use Rattle.regress_memo.specs.Liveness.{Liveness, ReadsAsBytes}
 use Rattle.regress_memo.specs.SkippedLookarounds.{LookaroundInsn, lookaround_at}
-use Rattle.regress_memo.specs.MemoSearch.{Key, Keys, Entry, one_thread, thread_entries, threads_in, keys_in, IsBare, entry_potential, FindEnd, Answers, IsMemory, HoldsInvariant, ReachesBySteps}
+use Rattle.regress_memo.specs.MemoSearch.{Key, Keys, Entry, one_thread, key_record, thread_entries, threads_in, keys_in, IsBare, entry_potential, FindEnd, Answers, IsMemory, IsMemoStep}
+use Rattle.regress_memo.specs.MemoSearch.{HoldsInvariant, ReachesBySteps}
+use Rattle.regress_memo.specs.AmortizedStepCosts.{IsCostCovered}
+use Rattle.regress_memo.specs.DistinctLists.{IsNew}
 use Rattle.regress_memo.specs.declared.analysis_result.MemoAnalysis.{MemoAnalysis}
 use Rattle.regress_memo.specs.UnreachedCharLoopBodies.{FlowsPastBodies}
-use Rattle.regress_memo.specs.AnalysisAsPotentials.{insn_analysis_of, analysis_as_liveness}
+use Rattle.regress_memo.specs.AnalysisAsPotentials.{insn_analysis_of, analysis_as_liveness, recorded as recording_insns, potentials_of, key_cost_of}
 use Rattle.regress_memo.specs.Successors.{successors_of_insn_if_any}
 use Rattle.regress_memo.specs.CheckedAnalysis.{IsAnalysisOf}
-use Rattle.regress_memo.specs.Laws.{analysis_keys, KeySucceeds}
-use Rattle.regress_memo.specs.AmortizedMemoSearchSteps.{ReachesEntries}
-use Rattle.regress_memo.specs.ContentsApart.{is_in_contents, IsArea, ContentsAreApart, IsSearchApart}
+use Rattle.regress_memo.specs.Laws.{analysis_keys, KeyFails, KeySucceeds}
+use Rattle.regress_memo.specs.MemoContents.{memo_key_at}
+use Rattle.regress_memo.specs.AmortizedMemoSearchSteps.{AreKeyed, ReachesEntries}
+use Rattle.regress_memo.specs.ContentsApart.{is_in_contents, AreOnSide, IsSide, IsArea, ContentsAreApart, IsSearchApart}
 
 -- What a work bound requires if contents are searched with the memo table: each thread has some
 -- potential, no thread reaches the body of a char loop, and contents are apart.
@@ -64,6 +68,39 @@ module _ (program : Program) (text : Text) (t : MemoAnalysis) where
         pub found : (front rest : List Entry) → row ≡ front ++ rest → IsBare front
             → FindEnd program text d (threads_in front) → IsSome f.end × Each (KeySucceeds program text t) (keys_in rest)
 
+  module _ (side : ℕ → Bool) (d : Direction) (memory : List Key) (first : List Thread) (work : ℕ) (now : List Key)
+      (rest : List Entry) where
+    -- The search has come to these entries in so much work.
+    abbrev pub IsAfter : (work : ℕ) → List Key → List Entry → Type 0
+    IsAfter work now row = HasComeTo side d memory first work now row
+
+    -- The steps of such a search, each of which does one more unit of work.
+    pub record ThreadsComeOn : Type 0 where
+      -- A thread executes a step without a record, because it has no key.
+      pub turned : (s : State) (ts : List Thread) → act program text d s ≡ goes ts → memo_key_at t s ≡ None
+          → IsAfter work now (one_thread (running s) ∷ rest) → IsAfter (work + 1) now (thread_entries ts ++ rest)
+      -- A thread with a new key executes a step and leaves a record of it.
+      pub recorded : (s : State) (ts : List Thread) (k : Key) → act program text d s ≡ goes ts
+          → memo_key_at t s ≡ Some k → IsNew k now → IsAfter work now (one_thread (running s) ∷ rest)
+          → IsAfter (work + 1) now (thread_entries ts ++ key_record k (running s ∷ []) ∷ rest)
+      -- A thread is dropped because its key is known to fail.
+      pub known : (s : State) (k : Key) → memo_key_at t s ≡ Some k → KeyFails program text t k
+          → IsAfter work now (one_thread (running s) ∷ rest) → IsAfter (work + 1) now rest
+      -- A waiting thread is resumed.
+      pub taken_up : (s : State) → IsAfter work now (one_thread (waiting s) ∷ rest)
+          → IsAfter (work + 1) now (one_thread (running s) ∷ rest)
+      -- A record is reached, so its key becomes known.
+      pub reached : (k : Key) (ts : List Thread) → IsAfter work now (key_record k ts ∷ rest)
+          → IsAfter (work + 1) (k ∷ now) rest
+      -- Any other step, as that of a char loop, if it is covered and keeps sides.
+      pub gives : (more : ℕ) (front entries : List Entry) → IsBare front
+          → IsMemoStep program text (analysis_as_liveness t) (analysis_keys program text t) d now (threads_in front)
+          entries → IsCostCovered program (potentials_of t) (key_cost_of t) (recording_insns t) more
+          front entries
+          → AreKeyed program text t d (threads_in entries)
+          → ((other : ℕ → Bool) → IsSide other program → AreOnSide other front → AreOnSide other entries)
+          → IsAfter work now (front ++ rest) → IsAfter (work + more) now (entries ++ rest)
+
   -- ---- Lookarounds
 
   module _ (side : ℕ → Bool) (d : Direction) (memory : List Key) (first : List Thread) (work : ℕ) (now : List Key)
@@ -102,7 +139,8 @@ PartsOfSearchesAreCovered = (program : Program) (text : Text) (a : Liveness) (ke
     → work + sum_by (entry_potential weight) to + sum_by price (keys_in row ++ memory)
     ≤ sum_by (entry_potential weight) row + sum_by price (keys_in to ++ now)
 
--- The search of a lookaround's contents begins with the known keys, and comes on.
+-- The search of a lookaround's contents begins with the known keys, and comes on, as the one around
+-- it does.
 pub record SearchesOfContentsComeOn : Type 0 where
   pub begins : (program : Program) (t : MemoAnalysis) → IsAnalysisOf program t → AllowsMemoInContents t program
       → (text : Text) → HasRisingPlaceOffsets text → ReadsAsBytes program text → units text < 2 ^ 63
@@ -116,6 +154,11 @@ pub record SearchesOfContentsComeOn : Type 0 where
       (row : List Entry) → HasComeTo program text t side d memory first work now row
       → (turns : ℕ) (f : Found) → search program text turns d first ≡ Some f
       → SearchComesOn program text t side d memory first work now row turns f
+  pub steps : (program : Program) (t : MemoAnalysis) → IsAnalysisOf program t → AllowsMemoInContents t program
+      → (text : Text) → HasRisingPlaceOffsets text → ReadsAsBytes program text → units text < 2 ^ 63
+      → (side : ℕ → Bool) → IsArea side program
+      → (d : Direction) (memory : List Key) (first : List Thread) (work : ℕ) (now : List Key) (rest : List Entry)
+      → ThreadsComeOn program text t side d memory first work now rest
 
 -- A lookaround whose contents record is covered: its potential covers the first instruction of the
 -- contents and the instruction after it, and the keys of the contents pay for themselves.

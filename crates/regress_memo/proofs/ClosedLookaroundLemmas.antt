@@ -31,7 +31,7 @@ use Rattle.regress_memo.specs.declared.successors.Successors.TheVariants.{Ends, 
 use Rattle.regress_memo.specs.AnalysisAsPotentials.{insn_analysis_of, recorded, potentials_of}
 use Rattle.regress_memo.specs.AnalysisChecks.{unlimited}
 use Rattle.regress_memo.specs.CheckedAnalysis.{IsAnalysisOf, ip_of}
-use Rattle.regress_memo.specs.WorkBound.{IsWorkBounded, ContentsTakeFewSteps}
+use Rattle.regress_memo.specs.WorkBound.{IsWorkBounded, RecordsNothing, BoundsSilentContents, ContentsTakeFewSteps, SilentContentsTakeFewSteps}
 use Rattle.regress_memo.specs.Successors.{DeclaredInsnsEqualProgramInsns, successors_of_insn_if_any}
 use Rattle.regress_memo.specs.ClosedLookarounds.{IsInContents, StaysInContents, HasClosedContents, HasClosedContentsIfLookaround}
 use Rattle.regress_memo.proofs.AnalysisCheckLemmas.{EnoughBy, has-enough}
@@ -230,7 +230,7 @@ weighs-no-more t false u (Some e) = let a = sum_by-cons (potential_of (potential
 weighs-no-more t true u None = let a = sum_by-cons (potential_of (potentials_of t)) (running u) [] in omega (arith, a)
 weighs-no-more t true u (Some e) = omega arith
 
-module _ (program : Program) (t : MemoAnalysis) (of : IsAnalysisOf program t) (bounded : IsWorkBounded t program) (text : Text) where
+module _ (program : Program) (t : MemoAnalysis) (of : IsAnalysisOf program t) (allows : BoundsSilentContents t program) (text : Text) where
   abbrev weight : List Thread → ℕ
   weight ts = sum_by (potential_of (potentials_of t)) ts
 
@@ -239,10 +239,10 @@ module _ (program : Program) (t : MemoAnalysis) (of : IsAnalysisOf program t) (b
     closed : HasClosedContents from past program
     silent : (ip : ℕ) → IsInContents from past ip → (insn_analysis_of t ip).records ≡ false
 
-  contents-at : (ip : ℕ) (l : LookaroundInsn) → lookaround_at (slice_get program.insns ip) ≡ Some l → AreContents ip l.continuation
-  contents-at ip l is = record {
-    closed = closed-look program (slice_get program.insns ip) ip l is (bounded.closed ip);
-    silent = λ inner inside. ((bounded.insns ip).look l is).silent inner (let a = inside.0 in omega (arith, a)) inside.1;
+  contents-at : (ip : ℕ) (l : LookaroundInsn) → lookaround_at (slice_get program.insns ip) ≡ Some l → RecordsNothing t l.continuation ip → AreContents ip l.continuation
+  contents-at ip l is quiet = record {
+    closed = allows.closed ip l is quiet;
+    silent = λ inner inside. quiet inner (let a = inside.0 in omega (arith, a)) inside.1;
   }
 
   unrecorded : (ip : ℕ) → (insn_analysis_of t ip).records ≡ false → is_one_of (recorded t) ip ≡ false
@@ -324,7 +324,9 @@ module _ (program : Program) (t : MemoAnalysis) (of : IsAnalysisOf program t) (b
     asked inner negate u v is None q e = cc
     asked inner negate u v is (Some g) q e =
         let a = asked-there program text d s inner negate u v is in
-        let its = contents-at s.ip a.look a.there in
+        let on : IsInContents from past a.look.continuation = look-behind from past (slice_get program.insns s.ip) s.ip a.look a.there (c.closed.stays s.ip h.0) in
+        let its = contents-at s.ip a.look a.there
+        (λ inner le less. c.silent inner (let first = h.0.0 in let last = on.1 in (omega (arith, first, le), omega (arith, less, last)))) in
         let first_ip : u.ip ≡ s.ip + 1 = ap (λ (x : State). x.ip) a.first in
         let past_ip : v.ip ≡ a.look.continuation = ap (λ (x : State). x.ip) a.behind in
         let first : IsInContents s.ip a.look.continuation u.ip = let some = its.closed.some in (omega (arith, first_ip), omega (arith, first_ip, some)) in
@@ -332,12 +334,12 @@ module _ (program : Program) (t : MemoAnalysis) (of : IsAnalysisOf program t) (b
         let first_weighs = sum_by-cons (potential_of (potentials_of t)) (running u) [] in
         let first_ready : (insn_analysis_of t u.ip).ready ≡ (insn_analysis_of t (s.ip + 1)).ready = ap (λ ip. (insn_analysis_of t ip).ready) first_ip in
         let past_ready : (insn_analysis_of t v.ip).ready ≡ (insn_analysis_of t a.look.continuation).ready = ap (λ ip. (insn_analysis_of t ip).ready) past_ip in
-        let behind : IsInContents from past v.ip = subst (IsInContents from past) (sym past_ip) (look-behind from past (slice_get program.insns s.ip) s.ip a.look a.there (c.closed.stays s.ip h.0)) in
+        let behind : IsInContents from past v.ip = subst (IsInContents from past) (sym past_ip) on in
         let k = stepped (1 + g.steps) (search program text turns d (after_lookaround negate v g.end ++ ts)) f e in
         let few = fewer from past c d (after_lookaround negate v g.end ++ ts) (joined (after_lookaround negate v g.end) (resumed-inside from past negate v g.end behind)) k.found k.is in
         let sum = sum_by-append (potential_of (potentials_of t)) (after_lookaround negate v g.end) ts in
         let resumed = weighs-no-more t negate v g.end in
-        let both = ((bounded.insns s.ip).look a.look a.there).contents in
+        let both = allows.contents s.ip a.look a.there in
         let pays = passed c d s h.0 in
         let whole = all in
         let n = k.steps in
@@ -362,7 +364,7 @@ module _ (program : Program) (t : MemoAnalysis) (of : IsAnalysisOf program t) (b
         let n = g.steps in
         omega (arith, few, sum, pays, whole, n)
     stepped-few (ends u) is e =
-        let same : found_at u ≡ f = cc in let n = ap (λ (g : Found). g.steps) same in let some = bounded.ready s.ip in let whole = all in omega (arith, n, some, whole)
+        let same : found_at u ≡ f = cc in let n = ap (λ (g : Found). g.steps) same in let some = allows.ready s.ip in let whole = all in omega (arith, n, some, whole)
     stepped-few (asks inner negate u v) is e = asked inner negate u v is (search program text turns inner (running u ∷ [])) refl e
     stepped-few stuck is e = cc
 
@@ -382,23 +384,40 @@ module _ (program : Program) (t : MemoAnalysis) (of : IsAnalysisOf program t) (b
   contents-few (suc turns) from past c d (running s ∷ ts) h f e =
       stepped-few turns (λ from past c d ts h f e. contents-few turns from past c d ts h f e) from past c d s ts h f (act program text d s) refl e
 
-pub contents-take-few : ContentsTakeFewSteps
-contents-take-few program t of bounded text s l is turns f e =
-    let its = contents-at program t of bounded text s.ip l is in
+pub silent-take-few : SilentContentsTakeFewSteps
+silent-take-few program t of allows text s l is quiet turns f e =
+    let its = contents-at program t of allows text s.ip l is quiet in
     let first : IsInContents s.ip l.continuation (s.ip + 1) = let some = its.closed.some in (omega arith, omega (arith, some)) in
-    let few = contents-few program t of bounded text turns s.ip l.continuation its l.inner (running (state_at_next_ip s) ∷ []) (first, tt) f e in
+    let few = contents-few program t of allows text turns s.ip l.continuation its l.inner (running (state_at_next_ip s) ∷ []) (first, tt) f e in
     let weighs = sum_by-cons (potential_of (potentials_of t)) (running (state_at_next_ip s)) [] in
     omega (arith, few, weighs)
 
+-- A bounded analysis bounds all contents, because none record.
+bounded-allows : (program : Program) (t : MemoAnalysis) → IsWorkBounded t program → BoundsSilentContents t program
+bounded-allows program t bounded = record {
+  ready = bounded.ready;
+  contents = λ ip l is. ((bounded.insns ip).look l is).contents;
+  closed = λ ip l is quiet. closed-look program (slice_get program.insns ip) ip l is (bounded.closed ip);
+}
+
+pub contents-take-few : ContentsTakeFewSteps
+contents-take-few program t of bounded text s l is turns f e =
+    silent-take-few program t of (bounded-allows program t bounded) text s l is ((bounded.insns s.ip).look l is).silent turns f e
+
 -- A lookaround's potential pays for its step, for the steps of its contents, and for the thread that continues.
+pub silent-weighs : (program : Program) (t : MemoAnalysis) → IsAnalysisOf program t → BoundsSilentContents t program → (text : Text) (s : State) (l : LookaroundInsn) → lookaround_at (slice_get program.insns s.ip) ≡ Some l
+    → RecordsNothing t l.continuation s.ip → (turns : ℕ) (f : Found) → search program text turns l.inner (running (state_at_next_ip s) ∷ []) ≡ Some f
+    → f.steps + 1 + sum_by (potential_of (potentials_of t)) (after_lookaround l.negate (state_with_ip l.continuation s) f.end) ≤ (insn_analysis_of t s.ip).ready
+silent-weighs program t of allows text s l is quiet turns f e =
+    let some = (allows.closed s.ip l is quiet).some in
+    let few = silent-take-few program t of allows text s l is quiet turns f e in
+    let resumed = weighs-no-more t l.negate (state_with_ip l.continuation s) f.end in
+    let both = allows.contents s.ip l is in
+    let pays = of.paid.passed s.ip (unrecorded program t of allows text s.ip (quiet s.ip (omega arith) (omega (arith, some)))) in
+    omega (arith, few, resumed, both, pays)
+
 pub look-weighs : (program : Program) (t : MemoAnalysis) → IsAnalysisOf program t → IsWorkBounded t program → (text : Text) (s : State) (l : LookaroundInsn) → lookaround_at (slice_get program.insns s.ip) ≡ Some l
     → (turns : ℕ) (f : Found) → search program text turns l.inner (running (state_at_next_ip s) ∷ []) ≡ Some f
     → f.steps + 1 + sum_by (potential_of (potentials_of t)) (after_lookaround l.negate (state_with_ip l.continuation s) f.end) ≤ (insn_analysis_of t s.ip).ready
 look-weighs program t of bounded text s l is turns f e =
-    let look = (bounded.insns s.ip).look l is in
-    let some = (contents-at program t of bounded text s.ip l is).closed.some in
-    let few = contents-take-few program t of bounded text s l is turns f e in
-    let resumed = weighs-no-more t l.negate (state_with_ip l.continuation s) f.end in
-    let both = look.contents in
-    let pays = of.paid.passed s.ip (unrecorded program t of bounded text s.ip (look.silent s.ip (omega arith) (omega (arith, some)))) in
-    omega (arith, few, resumed, both, pays)
+    silent-weighs program t of (bounded-allows program t bounded) text s l is ((bounded.insns s.ip).look l is).silent turns f e

@@ -24,17 +24,17 @@ use Rattle.regress_memo.specs.Laws.{analysis_keys, KeySucceeds}
 use Rattle.regress_memo.specs.AmortizedMemoSearchSteps.{IsKeyed, ReachesEntries}
 use Rattle.regress_memo.specs.ContentsApart.{is_in_contents, AreOnSide, IsSide, IsArea, IsSearchApart, SearchStaysApart}
 use Rattle.regress_memo.specs.ContentsWithMemo.{ThreadsComeOn, AllowsMemoInContents, CoversContents, contents_of, HasComeTo, SearchComesOn, IsAtLookaround, ContentsHaveComeTo, LookaroundIsCovered}
-use Rattle.regress_memo.specs.ContentsWithMemo.{PartsOfSearchesAreCovered, SearchesOfContentsComeOn, LookaroundsThatRecordAreCovered}
+use Rattle.regress_memo.specs.ContentsWithMemo.{SilentLookaroundsAreCovered, PartsOfSearchesAreCovered, SearchesOfContentsComeOn, LookaroundsThatRecordAreCovered}
 use Rattle.regress_memo.proofs.AmortizedMemoSearchLemmas.{has-key, turned, with-record, known-fails, taken-up, record-reached, keyed-rest, look-flows, behind-keyed, keyed-joined, keyed-tries}
 use Rattle.regress_memo.proofs.CappedCharLoopLemmas.{looks-pay}
 use Rattle.regress_memo.proofs.CheckedAnalysisLemmas.{recorded-is, ledgers-serve}
 use Rattle.regress_memo.proofs.ContentsApartLemmas.{keys-apart, steps-stay, entries-of, entries-joined}
 use Rattle.regress_memo.proofs.DistinctListLemmas.{distinct-right, sum-moved}
-use Rattle.regress_memo.proofs.MemoSearchLemmas.{keys-bare, keys-joined, work-is-bounded}
+use Rattle.regress_memo.proofs.MemoSearchLemmas.{keys-bare, keys-joined, keys-tries, work-is-bounded}
 use Rattle.regress_memo.proofs.SharedMemoLookaroundLemmas.{looks-learn, soundness-stays, success-shared}
 use Rattle.regress_memo.proofs.SkippedLookaroundLemmas.{asks-there}
 use Rattle.regress_memo.proofs.StepCostLemmas.{tries-weigh, one-weighs}
-use Rattle.regress_memo.proofs.ClosedLookaroundLemmas.{weighs-no-more}
+use Rattle.regress_memo.proofs.ClosedLookaroundLemmas.{weighs-no-more, silent-weighs}
 use Rattle.regress_memo.specs.ThreadPotentials.{is_one_of}
 
 -- ---- Parts of searches
@@ -357,3 +357,19 @@ module _ (program : Program) (t : MemoAnalysis) (of : IsAnalysisOf program t) (a
 pub looks-covered : LookaroundsThatRecordAreCovered
 looks-covered program t of allows text is_text bytes less side area d memory first work now rest s l is covers h turns f e =
     covered program t of allows text is_text bytes less side area d memory first work now rest s l is covers h turns f e
+
+-- ---- Contents that record nothing
+
+pub silent-covered : SilentLookaroundsAreCovered
+silent-covered program t of allows bounds text is_text bytes less side area d memory first work now rest s l is quiet h turns f e =
+    let w = potentials_of t in
+    let served_by = ledgers-serve program t of text is_text bytes less in
+    let left = after_lookaround l.negate (state_with_ip l.continuation s) f.end in
+    let x = one-weighs program w (key_cost_of t) (recorded t) (one_thread (running s)) in
+    let y = tries-weigh program w (key_cost_of t) (recorded t) left in
+    let none = ap (sum_by (λ (k : Key). key_cost_of t k.ip)) (keys-tries left) in
+    let enough = silent-weighs program t of bounds text s l is quiet turns f e in
+    (threads-come-on program t of allows text is_text bytes less side area d memory first work now rest).gives (f.steps + 1) (one_thread (running s) ∷ []) (thread_entries left) tt
+    ((served_by.serves.looks d now s l is).searched turns f e) (omega (arith, x, y, none, enough))
+    (keyed-tries program text t d left (behind-keyed program t of allows.past text is_text bytes less d s l is turns f e h.comes.keyed.0))
+    (λ other is_side here. entries-of other left ((steps-stay.steps other program is_side.closed text d s here.threads.0).looks l f.end is)) h

@@ -16,6 +16,7 @@ use Rattle.regress_memo.specs.AmortizedStepCosts.{IsCostCovered}
 use Rattle.regress_memo.specs.DistinctLists.{IsNew}
 use Rattle.regress_memo.specs.declared.analysis_result.MemoAnalysis.{MemoAnalysis}
 use Rattle.regress_memo.specs.UnreachedCharLoopBodies.{FlowsPastBodies}
+use Rattle.regress_memo.specs.WorkBound.{RecordsNothing, BoundsSilentContents}
 use Rattle.regress_memo.specs.AnalysisAsPotentials.{insn_analysis_of, analysis_as_liveness, recorded as recording_insns, potentials_of, key_cost_of}
 use Rattle.regress_memo.specs.Successors.{successors_of_insn_if_any}
 use Rattle.regress_memo.specs.CheckedAnalysis.{IsAnalysisOf}
@@ -159,6 +160,20 @@ pub record SearchesOfContentsComeOn : Type 0 where
       → (side : ℕ → Bool) → IsArea side program
       → (d : Direction) (memory : List Key) (first : List Thread) (work : ℕ) (now : List Key) (rest : List Entry)
       → ThreadsComeOn program text t side d memory first work now rest
+
+-- A lookaround whose contents record nothing is covered if they are searched without the memo table,
+-- for which each step is a unit of work.
+abbrev pub SilentLookaroundsAreCovered : Type 0
+SilentLookaroundsAreCovered =
+    (program : Program) (t : MemoAnalysis) → IsAnalysisOf program t → AllowsMemoInContents t program
+    → BoundsSilentContents t program
+    → (text : Text) → HasRisingPlaceOffsets text → ReadsAsBytes program text → units text < 2 ^ 63
+    → (side : ℕ → Bool) → IsArea side program
+    → (d : Direction) (memory : List Key) (first : List Thread) (work : ℕ) (now : List Key)
+    (rest : List Entry) (s : State) (l : LookaroundInsn) → lookaround_at (slice_get program.insns s.ip) ≡ Some l
+    → RecordsNothing t l.continuation s.ip → IsAtLookaround program text t side d memory first work now rest s l
+    → (turns : ℕ) (f : Found) → search program text turns l.inner (contents_of s) ≡ Some f
+    → GoesOnAfterLookaround program text t side d memory first work now rest s l (f.steps + 1) now f
 
 -- A lookaround whose contents record is covered: its potential covers the first instruction of the
 -- contents and the instruction after it, and the keys of the contents pay for themselves.

@@ -16,7 +16,7 @@ use Rattle.regress_memo.specs.declared.analysis_result.InsnAnalysis.{InsnAnalysi
 use Rattle.regress_memo.specs.declared.successors.Successors.{Successors}
 use Rattle.regress_memo.specs.declared.successors.Successors.TheVariants.{Run as AsRun, LookaroundSuccessor as AsLook}
 use Rattle.regress_memo.specs.UnreachedCharLoopBodies.{FlowsPastBodies}
-use Rattle.regress_memo.specs.ClosedLookarounds.{HasClosedContentsIfLookaround}
+use Rattle.regress_memo.specs.ClosedLookarounds.{HasClosedContents, HasClosedContentsIfLookaround}
 use Rattle.regress_memo.specs.AnalysisChecks.{unlimited}
 use Rattle.regress_memo.specs.AnalysisAsPotentials.{insn_analysis_of, analysis_as_liveness, key_code_questions_of, recorded, potentials_of, key_cost_of, insn_direction}
 use Rattle.regress_memo.specs.Successors.{successors_of_insn_if_any}
@@ -66,7 +66,32 @@ module _ (t : MemoAnalysis) where
         → HasClosedContentsIfLookaround program (successors_of_insn_if_any ip (slice_get program.insns ip)) ip
     pub insns : (ip : ℕ) → InsnIsBounded (slice_get program.insns ip) ip
 
+-- ---- Contents that record nothing
+
+-- Nothing records in a lookaround at `ip` that continues at `past`.
+abbrev pub RecordsNothing : MemoAnalysis → (past ip : ℕ) → Type 0
+RecordsNothing t past ip = (inner : ℕ) → ip ≤ inner → inner < past → (insn_analysis_of t inner).records ≡ false
+
+module _ (t : MemoAnalysis) (program : Program) where
+  -- What lookarounds require whose contents record nothing, in whatever program they are.
+  pub record BoundsSilentContents : Type 0 where
+    pub ready : (ip : ℕ) → 1 ≤ (insn_analysis_of t ip).ready
+    pub contents : (ip : ℕ) (l : LookaroundInsn) → lookaround_at (slice_get program.insns ip) ≡ Some l
+        → (insn_analysis_of t (ip + 1)).ready + (insn_analysis_of t l.continuation).ready ≤ (insn_analysis_of t ip).left
+    pub closed : (ip : ℕ) (l : LookaroundInsn) → lookaround_at (slice_get program.insns ip) ≡ Some l
+        → RecordsNothing t l.continuation ip → HasClosedContents ip l.continuation program
+
 -- ---- Laws
+
+-- The search of a lookaround's contents that record nothing takes few steps, also if contents of
+-- other lookarounds record.
+abbrev pub SilentContentsTakeFewSteps : Type 0
+SilentContentsTakeFewSteps = (program : Program) (t : MemoAnalysis) → IsAnalysisOf program t
+    → BoundsSilentContents t program
+    → (text : Text) (s : State) (l : LookaroundInsn) → lookaround_at (slice_get program.insns s.ip) ≡ Some l
+    → RecordsNothing t l.continuation s.ip
+    → (turns : ℕ) (f : Found) → search program text turns l.inner (running (state_at_next_ip s) ∷ []) ≡ Some f
+    → f.steps ≤ (insn_analysis_of t (s.ip + 1)).ready
 
 -- The search of a lookaround's contents takes at most as many steps as the potential of their first
 -- instruction.

@@ -1,6 +1,6 @@
 //! Laws of memo analyses.
 
-ghost use Rattle.regress_memo.specs.{UnreachedCharLoopBodies.{CharLoopBodiesAreUnreached}, WorkBound.{AnalysesBoundTotalWork, ContentsTakeFewSteps}};
+ghost use Rattle.regress_memo.specs.{UnreachedCharLoopBodies.{CharLoopBodiesAreUnreached}, WorkBound.{AnalysesBoundTotalWork, ContentsTakeFewSteps, SilentContentsTakeFewSteps}};
 ghost use Rattle.regress_memo.specs.CheckedAnalysis.{AnalysesAreMemoPlans, DirectionsAreKept, KeysHaveDistinctBits};
 
 /// An analysis of a program is a memo plan in each text: its keys decide failure, its steps are
@@ -40,4 +40,11 @@ pub fn analyses_bound_total_work()
 /// Statement: `specs/WorkBound`.
 pub fn contents_take_few_steps()
     ensures { ContentsTakeFewSteps }
+{}
+
+/// The search of contents that record nothing takes at most as many steps as the potential of their
+/// first instruction, even if the contents of other lookarounds record.
+/// Statement: `specs/WorkBound`.
+pub fn silent_contents_take_few_steps()
+    ensures { SilentContentsTakeFewSteps }
 {}

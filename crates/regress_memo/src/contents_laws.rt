@@ -1,6 +1,6 @@
 //! Laws of searches of lookarounds' contents with the memo table.
 
-ghost use Rattle.regress_memo.specs.{ContentsApart.{StepsStayOnSide, KeysOfContentsAreNotPending}, ContentsWithMemo.{PartsOfSearchesAreCovered, SearchesOfContentsComeOn, LookaroundsThatRecordAreCovered}};
+ghost use Rattle.regress_memo.specs.{ContentsApart.{StepsStayOnSide, KeysOfContentsAreNotPending}, ContentsWithMemo.{PartsOfSearchesAreCovered, SearchesOfContentsComeOn, LookaroundsThatRecordAreCovered, SilentLookaroundsAreCovered}};
 
 /// If the contents of a lookaround are apart, steps stay inside them, or outside of them.
 /// Statement: `specs/ContentsApart`.
@@ -34,4 +34,11 @@ pub fn searches_of_contents_come_on()
 /// Statement: `specs/ContentsWithMemo`.
 pub fn lookarounds_that_record_are_covered()
     ensures { LookaroundsThatRecordAreCovered }
+{}
+
+/// If contents record nothing, they may be searched without the memo table. The potential of the
+/// lookaround covers each step of this search.
+/// Statement: `specs/ContentsWithMemo`.
+pub fn silent_lookarounds_are_covered()
+    ensures { SilentLookaroundsAreCovered }
 {}

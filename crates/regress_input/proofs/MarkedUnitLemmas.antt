@@ -1,12 +1,12 @@
 -- A comparison of 32 masked units marks exactly those that have the given bits.
-use Rattle.std.proofs.Common.{◌≡◌, ℕ, ◌+◌, ◌-◌, ◌%◌, ◌^◌, ◌<◌, ◌≤◌, ◌==◌, List, Bool, true, false, cond, eqb, length, get_or, map, replicate, refl, sym, ap, ◌∙◌, arith, bit_and}
+use Rattle.std.proofs.Common.{◌≡◌, ℕ, ◌+◌, ◌-◌, ◌%◌, ◌^◌, ◌<◌, ◌≤◌, ◌==◌, List, [], ◌∷◌, zero, suc, Fits, w8, Bool, true, false, cond, eqb, length, get_or, map, replicate, refl, sym, ap, subst, ◌∙◌, arith, bit_and}
 use Rattle.std.specs.Prelude.{slice_index}
 use Rattle.std.specs.Int.{bit_at}
-use Rattle.std.specs.Simd.Lanes.{chunk, zip2, mask_l, top}
+use Rattle.std.specs.Simd.Lanes.{chunk, zip2, mask_l, top, Each1}
 use Rattle.std.proofs.lemmas.Simd.{length-chunk, get_or-chunk, length-zip2, get_or-zip2, length-replicate, get_or-replicate, bitmask_splat, bit_mask_l}
-use Rattle.std.proofs.lemmas.List.{length-map, get_or-map, get_or_past}
+use Rattle.std.proofs.lemmas.List.{length-map, get_or-map, get_or_past, map-id}
 use Rattle.std.proofs.lemmas.Bool.{cases_lt, ne_eqb}
-use Rattle.std.proofs.lemmas.Nat.{and_assoc, and_le_l}
+use Rattle.std.proofs.lemmas.Nat.{and_assoc, and_le_l, and_le_r}
 use Rattle.std.proofs.lemmas.Nat.Bits.{bit_at-zero}
 use Rattle.std.proofs.lemmas.Grind.{numeral_and, and_numeral}
 use Rattle.std.proofs.Math.Nat.{mod-eq_of_lt}
@@ -83,3 +83,24 @@ module _ (us : List ℕ) (bytes : (k : ℕ) → k < length us → slice_index us
     each = λ i less. ap (λ n. n == bits) (sym (narrow (slice_index us (at + i)) (bytes (at + i) (omega (arith, less, room))))) ∙ are.each i less;
     within = are.within;
   }
+
+-- ---- 16-bit units that a mask makes bytes
+
+masked-fit : (us : List ℕ) (n mask : ℕ) → mask ≤ 255 → Each1 (Fits w8) (zip2 bit_and us (replicate n mask))
+masked-fit [] n mask byte = tt
+masked-fit (u ∷ us) zero mask byte = tt
+masked-fit (u ∷ us) (suc n) mask byte = (record { fits = let part = and_le_r u mask in omega (arith, part, byte) }, masked-fit us n mask byte)
+
+module _ (us : List ℕ) (at mask bits : ℕ) where
+  -- This is what the packed units yield.
+  abbrev pub packed : ℕ
+  packed = mask_l (map (top (val.hbits w8)) (zip2 (λ a b. cond (eqb a b) (2 ^ val.bits w8 - 1) 0) (map (λ a. a) (zip2 bit_and (chunk at 32 us) (replicate 32 mask))) (replicate 32 bits))) % 2 ^ 64
+
+  pub packed-fit : mask ≤ 255 → Each1 (Fits w8) (zip2 bit_and (chunk at 32 us) (replicate 32 mask))
+  packed-fit = masked-fit (chunk at 32 us) 32 mask
+
+  pub packed-marks : at + 32 ≤ length us → MarksUnitsWithBits us at mask bits packed
+  packed-marks room =
+      let v = zip2 bit_and (chunk at 32 us) (replicate 32 mask) in
+      let same = ap (λ v. mask_l (map (top (val.hbits w8)) (zip2 (λ a b. cond (eqb a b) (2 ^ val.bits w8 - 1) 0) v (replicate 32 bits))) % 2 ^ 64) (map-id v) in
+      subst (MarksUnitsWithBits us at mask bits) (sym same) (compared-marks w8 us at mask bits room)

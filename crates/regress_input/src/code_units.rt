@@ -32,6 +32,16 @@ pub trait CodeUnit: Copy + PartialEq {
         requires { at + 32 ≤ length all.now }
         ensures { MarksUnitsWithBits (map number all.now) at mask bits result };
 
+    /// Does what `units_with_bits` does, for a mask that fits in a byte. 16-bit units are packed to
+    /// bytes, so that fewer vectors are compared.
+    #[inline(always)]
+    fn units_with_byte_bits(all: &[Self], at: usize, mask: u8, bits: u8) -> u64
+        requires { at + 32 ≤ length all.now }
+        ensures { MarksUnitsWithBits (map number all.now) at mask bits result }
+    {
+        Self::units_with_bits(all, at, mask as u16, bits as u16)
+    }
+
     ghost equal: { (a b : Self) → Self.eq a b ≡ (number a == number b) };
 }
 
@@ -86,6 +96,15 @@ impl CodeUnit for u16 {
         let units = u16x32::from_slice(&all[at..]);
         (units & u16x32::splat(mask))
             .simd_eq(u16x32::splat(bits))
+            .to_bitmask()
+    }
+
+    #[inline(always)]
+    fn units_with_byte_bits(all: &[u16], at: usize, mask: u8, bits: u8) -> u64 {
+        let units = u16x32::from_slice(&all[at..]);
+        (units & u16x32::splat(mask as u16))
+            .cast::<u8>()
+            .simd_eq(u8x32::splat(bits))
             .to_bitmask()
     }
 }

@@ -63,6 +63,24 @@ pub(crate) fn units_with_bits<W: SearchContext>(context: &W, at: usize, mask: u1
     )
 }
 
+/// Does what `units_with_bits` does, for a mask that fits in a byte.
+#[inline(always)]
+pub(crate) fn units_with_byte_bits<W: SearchContext>(
+    context: &W,
+    at: usize,
+    mask: u8,
+    bits: u8,
+) -> u64
+    requires { at + 32 ≤ units (W.searching context.now).text }
+    ensures { let w = W.searching context.now in
+        MarksUnitsWithBits (text_units_in_encoding w.encoding w.text) at mask bits result }
+{
+    let text = context.input().code_units();
+    <<<W::Input as HasUnitType>::Units as CodeUnitEncoding>::Unit as CodeUnit>::units_with_byte_bits(
+        text, at, mask, bits,
+    )
+}
+
 /// Returns the first offset in `from..to` at which the test passes. It tests the first block at
 /// once, because that offset is often near.
 #[inline(always)]

@@ -9,7 +9,7 @@ ghost use Rattle.regress_search.specs.MarkedOffsets.{MarksAllPassing};
 ghost use Rattle.regress_search.specs.StartSearch.{prefix_fits_at, IsFirstPrefixFit};
 
 use crate::class_char_and_table_lookups::unit_key_at_offset;
-use crate::search_by_marks::{OffsetTest, first_by_marks, units_with_bits};
+use crate::search_by_marks::{OffsetTest, first_by_marks, units_with_byte_bits};
 use crate::search_context::{SearchContext, text_end};
 use regress_program::required_prefix_prefilters::MaskedUnitProbe;
 use regress_program::required_prefix_types::Prefix;
@@ -65,12 +65,7 @@ fn marks_of_probe<W: SearchContext>(context: &W, at: usize, probe: MaskedUnitPro
     ensures { (f : prefix.Prefix) → ProbePassesPrefix f probe
         → MarksAllPassing (prefix_fits_at (W.searching context.now) f) at result }
 {
-    units_with_bits(
-        context,
-        at + probe.ahead,
-        u16::from(probe.mask),
-        u16::from(probe.bits),
-    )
+    units_with_byte_bits(context, at + probe.ahead, probe.mask, probe.bits)
 }
 
 impl<W: SearchContext> OffsetTest<W> for PrefixAndBitProbes<'_> {

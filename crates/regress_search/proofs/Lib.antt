@@ -23,6 +23,7 @@ pub mod ArmTableLemmas
 pub mod VerdictLemmas
 pub mod StopByteScanLemmas
 pub mod DeadLazyExits
+mod LowUnitScans
 pub mod OtherKeyExits
 pub mod LookbehindStartLemmas
 pub mod RemainingLazyExits

@@ -14,7 +14,9 @@ ghost use Rattle.regress_search.specs.StartSearch.{IsFirstAllowedBoundary, IsFir
 ghost use Rattle.regress_search.specs.StartSearch.{IsFirstUnitsSearch, IsPastFirstAllowedChar, table_of_listed_units, may_start_at};
 ghost use Rattle.regress_search.specs.TreePlanAndText.{PlanFitsProgram};
 
-use crate::class_char_and_table_lookups::{set_allows_next_unit, unit_key_at_offset};
+use crate::class_char_and_table_lookups::{
+    set_allows_next_unit, unit_at_offset, unit_key_at_offset,
+};
 use crate::few_units_finder::FewUnitsFinder;
 use crate::few_wide_units::{do_bits_identify_units, first_unit_with_listed_key};
 use crate::literal_finder::LONG;
@@ -124,6 +126,15 @@ fn first_allowed_offset<W: SearchContext, Set: StartSet>(
     let end = text_end(context);
     let mut at = from;
     'units: while at < end {
+        let unit = unit_at_offset(context, at);
+        // A 16-bit unit below 128 is its own key, and a branch takes less than computing the key.
+        if !<<W::Input as HasUnitType>::Units as CodeUnitEncoding>::ARE_BYTES && unit < 128 {
+            if set.has_key(unit as usize) {
+                return Some(at);
+            }
+            at += 1;
+            continue 'units;
+        }
         if set.has_key(unit_key_at_offset(context, at)) {
             return Some(at);
         }

@@ -2,13 +2,13 @@
 //!
 //! Functions that return a set are inlined, because each call would clear and copy the whole set.
 
-ghost use Rattle.std.specs.Prelude.{◌≡◌, ◌<◌, ◌↔◌, ◌&&◌, ◌||◌, ◌==◌, ℕ, Bool, Option, None, true, false, not, slice_index_or};
+ghost use Rattle.std.specs.Prelude.{◌≡◌, ◌≢◌, ◌<◌, ◌↔◌, ◌&&◌, ◌||◌, ◌==◌, ℕ, Bool, Option, None, true, false, not, slice_index_or};
 ghost use Rattle.regex_meaning.specs.CodeUnits.{Encoding};
 ghost use Rattle.regress_machine.specs.FirstSetTables.{TableAllowsAll, IsSubtable, table_allows_key_or_end};
 ghost use Rattle.regress_program.specs.AlternationDispatch.{key_or_end_of_table_index};
 ghost use Rattle.regress_program.specs.TableKeysOfUnits.{is_16_bit_width, is_16_bit_encoding, begins_utf8_character, unit_table_of_set, KeyCharsLieInRangeOrPairs};
 ghost use Rattle.regress_program.specs.Plans.{IsCharOrEnd, allows_next, HasOnlyLeadBytes};
-ghost use Rattle.regress_program.specs.{ClosedFirstSets.{AllowsLineEnd}, KeyClassBoundaries.{AreDistinguishedBy}};
+ghost use Rattle.regress_program.specs.{ClosedFirstSets.{AllowsLineEnd, AllowsReadLengths}, KeyClassBoundaries.{AreDistinguishedBy}};
 
 use crate::char_class_tables::Class;
 use crate::equal_tables::ComparedTable;
@@ -120,6 +120,34 @@ impl FirstSet {
             set.keys[key] = class.steps[key] != 0;
         }
         set
+    }
+
+    /// Adds the keys of characters that a class may accept.
+    pub(crate) fn add_keys_of_class(&mut self, class: &Class) {
+        for key in 0..KEYS {
+            self.keys[key] |= class.steps[key] != 0;
+        }
+    }
+
+    /// Checks whether the set contains the key of each character that a class may accept.
+    pub(crate) fn contains_keys_of_class(&self, class: &Class) -> bool
+        ensures { result ≡ true → AllowsReadLengths class.now.steps (unit_table_of_set self.now) }
+    {
+        // Without an early exit, the loop can process many keys at a time.
+        let mut contains = true;
+        for key in 0..KEYS {
+            contains = contains & self.contains_key_of_class(class, key);
+        }
+        contains
+    }
+
+    // Checks whether the set contains a key, or the class accepts no character with this key.
+    #[inline(always)]
+    fn contains_key_of_class(&self, class: &Class, key: usize) -> bool
+        requires { key < 256 }
+        ensures { result ≡ true → slice_index_or class.now.steps key 0 ≢ 0 → (unit_table_of_set self.now).keys key ≡ true }
+    {
+        (class.steps[key] == 0) | self.keys[key]
     }
 
     /// Returns the union of both sets.

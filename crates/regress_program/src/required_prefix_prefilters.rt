@@ -1,6 +1,6 @@
 //! Prefilters: what is searched for before the units of a required prefix are checked.
 
-ghost use Rattle.std.specs.Prelude.{◌≡◌, ◌<◌, ◌≤◌, ◌↔◌, ℕ, true, false, IsTrue, IfSome};
+ghost use Rattle.std.specs.Prelude.{◌≡◌, ◌<◌, ◌≤◌, ◌+◌, ◌↔◌, ℕ, true, false, IsTrue, IfSome};
 ghost use Rattle.regress_program.specs.PrefixesAndPrefilters.{units_allowed_by_prefix, unit_passes_probe, IsOnlyUnitAllowedAtPosition, IsLiteralForcedByPrefix, ProbePassesPrefix, ProbesPassPrefix};
 ghost use Rattle.regress_program.specs.PrefixesAndPrefilters.{IsPrefilterOfPrefix, ListsFirstUnits};
 ghost use Rattle.regress_program.specs.TableKeysOfUnits.{is_16_bit_width};
@@ -374,8 +374,26 @@ impl Prefix {
         ensures { result ≡ true → (k : ℕ) → k < 128
             → units_allowed_by_prefix self.now probe.ahead k ≡ true → unit_passes_probe probe k ≡ true }
     {
+        for block in 0..8 {
+            if !self.block_passes(probe, block * 16) {
+                return false;
+            }
+        }
+        true
+    }
+
+    // Checks the same for 16 keys from `from` on. In most blocks, none may occur.
+    fn block_passes(&self, probe: MaskedUnitProbe, from: usize) -> bool
+        requires ahead { probe.ahead < 16 }
+        requires inside { from + 16 ≤ 256 }
+        ensures { result ≡ true → (k : ℕ) → from ≤ k → k < from + 16
+            → units_allowed_by_prefix self.now probe.ahead k ≡ true → unit_passes_probe probe k ≡ true }
+    {
+        if self.excludes_key_range_at(from, from + 16, probe.ahead) {
+            return true;
+        }
         let mut others = false;
-        for key in 0..128 {
+        for key in from..from + 16 {
             others |= self.is_key_allowed(key, probe.ahead) & !probe.passes_bit_probe(key as u32);
         }
         !others

@@ -1,13 +1,18 @@
 -- Steps stay inside the contents of a lookaround, or outside of them.
-use Rattle.std.proofs.Common.{◌≡◌, ◌≤◌, ◌<◌, ℕ, ◌+◌, Bool, true, false, not, Option, Some, None, List, [], ◌∷◌, ◌++◌, map, refl, sym, ap, subst, ◌∙◌, arith, sum_by, slice_get, if◌then◌else◌, append_assoc, suc, ◌-◌, reverse}
+use Rattle.std.proofs.Common.{◌≡◌, ◌≤◌, ◌<◌, ℕ, ◌+◌, Bool, true, false, not, Option, Some, None, List, [], ◌∷◌, ◌++◌, map, refl, sym, ap, subst, ◌∙◌, arith, sum_by, slice_get, if◌then◌else◌, append_assoc, suc, ◌-◌, reverse, length}
 use Rattle.std.specs.Prelude.{nat_lt}
-use Rattle.std.proofs.lemmas.Bool.{ltb-true}
+use mathlib.Core.Logic.{inl, inr}
+use Rattle.std.proofs.lemmas.Bool.{cases_lt, ltb-true}
 use Rattle.std.proofs.lemmas.List.Sums.{sum_by-cons}
 use Rattle.regex_meaning.specs.Laws.{Each}
 use Rattle.regex_meaning.proofs.BoolLemmas.{and-left, and-right}
 use Rattle.regex_meaning.proofs.EachElementLemmas.{Each-append, Each-left, Each-right, Each-map}
 use Rattle.regex_meaning.specs.Text.{Text, Direction}
 use Rattle.regex_meaning.specs.CompilationRelation.{Program, Insn, EnterLoop, Loop1CharBody, Lookahead, Lookbehind}
+use Rattle.regress_program.specs.InsnsAsSpec.{insn_as_spec_insn}
+use Rattle.regress_program.specs.declared.instructions.Insn as declared
+use Rattle.std.proofs.lemmas.List.{length-map}
+use Rattle.std.proofs.lemmas.Option.{slice_get_past}
 use Rattle.regress_machine.specs.Machine.{State, Thread, running, waiting, first_running_and_others_waiting, after_lookaround, state_with_ip}
 use Rattle.regress_machine.specs.CharLoopExitStatesByPreference.{behind, fewest_first, most_first}
 use Rattle.regress_memo.specs.Liveness.{Liveness}
@@ -21,9 +26,9 @@ use Rattle.regress_memo.specs.MemoSearch.{Key, Entry, one_thread, key_record, th
 use Rattle.regress_memo.specs.ThreadPotentials.{each_noted, Potentials, potential_of, CoversRepeat, AreCovering}
 use Rattle.regress_memo.specs.declared.successors.Successors.{Successors}
 use Rattle.regress_memo.specs.declared.successors.Successors.TheVariants.{Ends, One, Two, Enter, Again, Run, LookaroundSuccessor, Same}
-use Rattle.regress_memo.specs.Successors.{successors_of_insn_if_any}
+use Rattle.regress_memo.specs.Successors.{DeclaredInsnsEqualProgramInsns, successors_of_insn_if_any}
 use Rattle.regress_memo.specs.CheckedAnalysis.{ip_of}
-use Rattle.regress_memo.specs.ContentsApart.{is_in_contents, is_outside_contents, RepeatsOnSide, FlowsOnSide, StaysOnSide, IsSide, IsArea, IsApart, ContentsAreApart, AreOnSide, IsSearchApart}
+use Rattle.regress_memo.specs.ContentsApart.{is_in_contents, is_outside_contents, is_on_side_of, IsApartIfLookaround, RepeatsOnSide, FlowsOnSide, StaysOnSide, IsSide, IsArea, IsApart, ContentsAreApart, AreOnSide, IsSearchApart}
 use Rattle.regress_memo.specs.ContentsApart.{StepStaysOnSide, LoopStaysOnSide, LoopThreadsStayOnSide, StepsStayOnSide, KeysOfContentsAreNotPending}
 use Rattle.regress_memo.proofs.AnalysisCheckLemmas.{EnoughBy, has-enough}
 use Rattle.regress_memo.proofs.ClosedLookaroundLemmas.{run-exits}
@@ -389,3 +394,57 @@ keys-apart = record {
       Each-map (λ (k : Key). is_in_contents s.ip l.continuation k.ip ≡ true) (λ k. IsNew k (keys_in rest))
       (λ k there. differs s.ip l.continuation k there (keys_in rest) apart) keys inside;
 }
+
+-- ---- Checks
+
+-- If each instruction of the program keeps its side, so do all indices, even past the last one.
+flows-all : (from past : ℕ) (program : Program) (insns : List declared.Insn) → DeclaredInsnsEqualProgramInsns program insns
+    → ((k : ℕ) → k < length insns → FlowsOnSide (is_on_side_of from past k) program (successors_of_insn_if_any k (slice_get program.insns k)) k)
+    → (ip : ℕ) → FlowsOnSide (is_on_side_of from past ip) program (successors_of_insn_if_any ip (slice_get program.insns ip)) ip
+flows-all from past program insns has each ip = elim (cases_lt ip (length insns)) [
+  | inl less ↦ each ip less
+  | inr beyond ↦
+      let long = length-map insns insn_as_spec_insn in
+      let none : slice_get (map insn_as_spec_insn insns) ip ≡ None = slice_get_past (map insn_as_spec_insn insns) ip (omega (arith, beyond, long)) in
+      subst (λ o. FlowsOnSide (is_on_side_of from past ip) program (successors_of_insn_if_any ip o) ip) (sym (ap (λ xs. slice_get xs ip) has ∙ none)) tt
+]
+
+pub apart-by : (from past : ℕ) (program : Program) (insns : List declared.Insn) → DeclaredInsnsEqualProgramInsns program insns → from + 1 < past
+    → ((k : ℕ) → k < length insns → FlowsOnSide (is_on_side_of from past k) program (successors_of_insn_if_any k (slice_get program.insns k)) k)
+    → IsApart from past program
+apart-by from past program insns has some each = record {
+  some = some;
+  inside = record { stays = λ ip e. by true ip e };
+  outside = record { stays = λ ip e. by false ip (is-false (is_in_contents from past ip) e) };
+}
+  where
+    is-false : (b : Bool) → not b ≡ true → b ≡ false
+    is-false true e = cc
+    is-false false e = refl
+
+    by : (b : Bool) (ip : ℕ) → is_in_contents from past ip ≡ b
+        → FlowsOnSide (λ other. if b then is_in_contents from past other else is_outside_contents from past other) program (successors_of_insn_if_any ip (slice_get program.insns ip)) ip
+    by b ip e =
+        subst (λ b. FlowsOnSide (λ other. if b then is_in_contents from past other else is_outside_contents from past other) program (successors_of_insn_if_any ip (slice_get program.insns ip)) ip) e
+        (flows-all from past program insns has each ip)
+
+pub all-apart : (program : Program) (insns : List declared.Insn) → DeclaredInsnsEqualProgramInsns program insns
+    → ((k : ℕ) → k < length insns → IsApartIfLookaround program (successors_of_insn_if_any k (slice_get program.insns k)) k) → ContentsAreApart program
+all-apart program insns has each = record { apart = λ ip l is. by (slice_get program.insns ip) ip l is (all ip) }
+  where
+    all : (ip : ℕ) → IsApartIfLookaround program (successors_of_insn_if_any ip (slice_get program.insns ip)) ip
+    all ip = elim (cases_lt ip (length insns)) [
+      | inl less ↦ each ip less
+      | inr beyond ↦
+          let long = length-map insns insn_as_spec_insn in
+          let none : slice_get (map insn_as_spec_insn insns) ip ≡ None = slice_get_past (map insn_as_spec_insn insns) ip (omega (arith, beyond, long)) in
+          subst (λ o. IsApartIfLookaround program (successors_of_insn_if_any ip o) ip) (sym (ap (λ xs. slice_get xs ip) has ∙ none)) tt
+    ]
+
+    same : (a b : LookaroundInsn) → Some a ≡ Some b → a ≡ b
+    same a b e = cc
+
+    by : (x : Option Insn) (ip : ℕ) (l : LookaroundInsn) → lookaround_at x ≡ Some l → IsApartIfLookaround program (successors_of_insn_if_any ip x) ip → IsApart ip l.continuation program
+    by (Some (Lookahead negate start_group end_group continuation)) ip l e h = subst (λ (l : LookaroundInsn). IsApart ip l.continuation program) (same _ l e) h
+    by (Some (Lookbehind negate start_group end_group continuation)) ip l e h = subst (λ (l : LookaroundInsn). IsApart ip l.continuation program) (same _ l e) h
+    by _ ip l e h = cc

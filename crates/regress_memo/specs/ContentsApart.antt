@@ -1,7 +1,7 @@
 -- The contents of lookarounds are apart from the instructions around them: control enters them only
 -- by the lookaround, and leaves them only at their end. So the keys of contents are not pending in
 -- the search around them.
-use Rattle.std.specs.Prelude.{◌≡◌, ◌<◌, ℕ, ◌+◌, Bool, true, not, nat_lt, ◌&&◌, List, [], ◌∷◌, ◌++◌, Option, Some, slice_get}
+use Rattle.std.specs.Prelude.{◌≡◌, ◌<◌, ℕ, ◌+◌, Bool, true, not, nat_lt, ◌&&◌, List, [], ◌∷◌, ◌++◌, Option, Some, slice_get, if◌then◌else◌}
 use Rattle.regex_meaning.specs.Laws.{Each}
 use Rattle.regex_meaning.specs.Text.{Text, Direction}
 use Rattle.regex_meaning.specs.CompilationRelation.{Program, Insn, EnterLoop, Loop1CharBody}
@@ -26,6 +26,11 @@ is_in_contents from past ip = nat_lt from ip && nat_lt ip past
 -- Whether the instruction is outside these contents.
 abbrev pub is_outside_contents : (from past ip : ℕ) → Bool
 is_outside_contents from past ip = not (is_in_contents from past ip)
+
+-- Whether an instruction is on the same side of these contents as `ip`.
+abbrev pub is_on_side_of : (from past ip other : ℕ) → Bool
+is_on_side_of from past ip other = if is_in_contents from past ip then is_in_contents from past other
+    else is_outside_contents from past other
 
 -- ---- Sides: sets of instructions that control does not leave
 
@@ -68,6 +73,11 @@ pub record IsApart (from past : ℕ) (program : Program) : Type 0 where
   pub some : from + 1 < past
   pub inside : StaysOnSide (is_in_contents from past) program
   pub outside : StaysOnSide (is_outside_contents from past) program
+
+-- The contents of a lookaround are apart. Other instructions satisfy this.
+abbrev pub IsApartIfLookaround : Program → Successors → (ip : ℕ) → Type 0
+IsApartIfLookaround program (LookaroundSuccessor l) ip = IsApart ip l.past program
+IsApartIfLookaround program _ ip = Unit {0}
 
 -- The contents of each lookaround are apart.
 pub record ContentsAreApart (program : Program) : Type 0 where

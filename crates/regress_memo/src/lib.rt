@@ -6,6 +6,7 @@ pub mod analysis_builder;
 mod analysis_check;
 pub mod analysis_laws;
 pub mod analysis_result;
+pub mod apart_contents;
 mod bit_set;
 mod closed_lookarounds;
 pub mod contents_laws;

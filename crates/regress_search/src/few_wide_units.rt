@@ -1,6 +1,6 @@
 //! Searches for one of a few 16-bit code units.
 
-ghost use Rattle.std.specs.Prelude.{◌≡◌, ◌≢◌, ◌≤◌, ◌||◌, max, true, false};
+ghost use Rattle.std.specs.Prelude.{◌≡◌, ◌≢◌, ◌≤◌, ◌==◌, ◌||◌, max, true, false};
 ghost use Rattle.std.specs.List.{list_all};
 ghost use Rattle.regex_meaning.specs.Outcomes.{is_some_and};
 ghost use Rattle.regex_meaning.specs.CodeUnitOffsets.{units};
@@ -83,11 +83,25 @@ impl<W: SearchContext, A: OffsetTest<W>, B: OffsetTest<W>> OffsetTest<W> for Eit
     }
 }
 
-/// The units that may begin a surrogate pair: those from 0xD800 to 0xDBFF.
-const LEAD_SURROGATE_BITS: UnitBits = UnitBits {
-    mask: 0xFC00,
-    bits: 0xD800,
-};
+/// The test for units that may begin a surrogate pair: those from 0xD800 to 0xDBFF.
+#[derive(Clone, Copy)]
+struct LeadSurrogateTest;
+
+impl<W: SearchContext> OffsetTest<W> for LeadSurrogateTest {
+    ghost passes_at = { λ _ w at. is_some_and (input_unit_at w at) (has_bits 0xFC00 0xD800) };
+
+    ghost reach = { λ _. 1 };
+
+    #[inline(always)]
+    fn marks(&self, context: &W, at: usize) -> u64 {
+        units_with_bits(context, at, 0xFC00, 0xD800)
+    }
+
+    #[inline(always)]
+    fn passes(&self, context: &W, at: usize) -> bool {
+        unit_at_offset(context, at) & 0xFC00 == 0xD800
+    }
+}
 
 // Returns the bits of the 16-bit units with a key other than 128. No bits identify the units with
 // key 128, from 128 to 511.
@@ -106,6 +120,14 @@ fn units_of_key(key: u8) -> UnitBits
             bits: u16::from(key - 128) << 9,
         }
     }
+}
+
+// Checks whether only one unit has these bits.
+#[inline(always)]
+fn is_one_unit(kind: UnitBits) -> bool
+    ensures { result ≡ (kind.mask == 0xFFFF) }
+{
+    kind.mask == 0xFFFF
 }
 
 /// Checks whether bits identify the 16-bit units with each of these keys, and none of these units
@@ -227,8 +249,9 @@ pub(crate) fn first_unit_with_listed_key<W: SearchContext>(
 }
 
 /// Returns the offset of the first 16-bit unit at `from` or later that has one of these keys or may
-/// begin a surrogate pair.
-#[inline(always)]
+/// begin a surrogate pair. It is not inlined: a loop around it would first compute the bits of each
+/// kind of unit, needed or not.
+#[inline(never)]
 pub(crate) fn next_16_bit_unit_or_pair_with_key<W: SearchContext>(
     context: &W,
     few: UpToThreeUnits,
@@ -242,19 +265,95 @@ pub(crate) fn next_16_bit_unit_or_pair_with_key<W: SearchContext>(
 {
     let end = text_end(context);
     let [a, b, c] = few.units;
-    let a = Either {
-        a: LEAD_SURROGATE_BITS,
-        b: units_of_key(a),
-    };
-    let b = units_of_key(b);
-    let c = units_of_key(c);
     match few.len {
-        0 => first_by_marks(context, &LEAD_SURROGATE_BITS, from, end),
-        1 => first_by_marks(context, &a, from, end),
-        2 => first_by_marks(context, &Either { a, b }, from, end),
+        0 => first_by_marks(context, &LeadSurrogateTest, from, end),
+        1 => next_pair_or_unit_of_kind(context, units_of_key(a), from),
+        2 => next_pair_or_unit_of_two_kinds(context, units_of_key(a), units_of_key(b), from),
         _ => {
-            let a = Either { a, b };
-            first_by_marks(context, &Either { a, b: c }, from, end)
+            let a = units_of_key(a);
+            let b = units_of_key(b);
+            next_pair_or_unit_of_three_kinds(context, a, b, units_of_key(c), from)
         }
+    }
+}
+
+// Returns the offset of the first unit at `from` or later that may begin a surrogate pair or has
+// these bits.
+#[inline(always)]
+fn next_pair_or_unit_of_kind<W: SearchContext>(
+    context: &W,
+    a: UnitBits,
+    from: usize,
+) -> Option<usize>
+    requires { from ≤ units (W.searching context.now).text }
+    ensures { let w = W.searching context.now in
+        IsFirstPassingOffset (λ at. is_some_and (input_unit_at w at) (has_bits 0xFC00 0xD800)
+        || is_some_and (input_unit_at w at) (has_bits a.mask a.bits)) from (units w.text) result }
+{
+    let end = text_end(context);
+    let pair = LeadSurrogateTest;
+    if is_one_unit(a) {
+        let b = SingleUnitTest { unit: a.bits };
+        first_by_marks(context, &Either { a: pair, b }, from, end)
+    } else {
+        first_by_marks(context, &Either { a: pair, b: a }, from, end)
+    }
+}
+
+// Does what `next_pair_or_unit_of_kind` does, for units of two kinds.
+#[inline(always)]
+fn next_pair_or_unit_of_two_kinds<W: SearchContext>(
+    context: &W,
+    a: UnitBits,
+    b: UnitBits,
+    from: usize,
+) -> Option<usize>
+    requires { from ≤ units (W.searching context.now).text }
+    ensures { let w = W.searching context.now in
+        IsFirstPassingOffset (λ at. (is_some_and (input_unit_at w at) (has_bits 0xFC00 0xD800)
+        || is_some_and (input_unit_at w at) (has_bits a.mask a.bits))
+        || is_some_and (input_unit_at w at) (has_bits b.mask b.bits)) from (units w.text) result }
+{
+    let end = text_end(context);
+    let pair = LeadSurrogateTest;
+    if is_one_unit(a) && is_one_unit(b) {
+        let a = SingleUnitTest { unit: a.bits };
+        let b = SingleUnitTest { unit: b.bits };
+        let a = Either { a: pair, b: a };
+        first_by_marks(context, &Either { a, b }, from, end)
+    } else {
+        let a = Either { a: pair, b: a };
+        first_by_marks(context, &Either { a, b }, from, end)
+    }
+}
+
+// Does what `next_pair_or_unit_of_kind` does, for units of three kinds.
+#[inline(always)]
+fn next_pair_or_unit_of_three_kinds<W: SearchContext>(
+    context: &W,
+    a: UnitBits,
+    b: UnitBits,
+    c: UnitBits,
+    from: usize,
+) -> Option<usize>
+    requires { from ≤ units (W.searching context.now).text }
+    ensures { let w = W.searching context.now in
+        IsFirstPassingOffset (λ at. ((is_some_and (input_unit_at w at) (has_bits 0xFC00 0xD800)
+        || is_some_and (input_unit_at w at) (has_bits a.mask a.bits))
+        || is_some_and (input_unit_at w at) (has_bits b.mask b.bits))
+        || is_some_and (input_unit_at w at) (has_bits c.mask c.bits)) from (units w.text) result }
+{
+    let end = text_end(context);
+    let pair = LeadSurrogateTest;
+    if is_one_unit(a) && is_one_unit(b) {
+        let a = SingleUnitTest { unit: a.bits };
+        let b = SingleUnitTest { unit: b.bits };
+        let a = Either { a: pair, b: a };
+        let a = Either { a, b };
+        first_by_marks(context, &Either { a, b: c }, from, end)
+    } else {
+        let a = Either { a: pair, b: a };
+        let a = Either { a, b };
+        first_by_marks(context, &Either { a, b: c }, from, end)
     }
 }

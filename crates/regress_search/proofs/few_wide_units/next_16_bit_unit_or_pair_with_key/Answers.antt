@@ -1,4 +1,4 @@
-use Rattle.std.proofs.Common.{◌≡◌, ◌≤◌, length, rules, sym, subst, arith, true, false, take}
+use Rattle.std.proofs.Common.{◌≡◌, ◌≤◌, length, rules, refl, sym, subst, arith, true, false, take}
 use Rattle.regex_meaning.specs.NumberListHelpers.{contains}
 use Rattle.regex_meaning.specs.CodeUnitOffsets.{units}
 use Rattle.regress_search.specs.MarkedOffsets.{IsFirstPassingOffset}
@@ -22,8 +22,8 @@ returns-in-1 g c =
     let three : length keys ≡ 3 = search rules in
     let all = g.met.W.SearchContext.has_units c.args.context.now in
     let told = subst (λ len. contains (take len keys) 128 ≡ false) c.in-1.is c.requires.told in
-    subst (λ len. IsFirstPassingOffset (unit_has_listed_key true (listing keys len) w) c.args.from (units w.text) c.first_by_marks-in-1.result) (sym c.in-1.is)
-    (pair-one w all keys three c.args.from c.text_end-end.result c.first_by_marks-in-1.result c.text_end-end.ensures c.units_of_key.result told c.units_of_key.ensures c.first_by_marks-in-1.ensures)
+    subst (λ len. IsFirstPassingOffset (unit_has_listed_key true (listing keys len) w) c.args.from (units w.text) c.next_pair_or_unit_of_kind.result) (sym c.in-1.is)
+    (pair-one w all keys three c.args.from (units w.text) c.next_pair_or_unit_of_kind.result refl c.units_of_key.result told c.units_of_key.ensures c.next_pair_or_unit_of_kind.ensures)
 
 pub returns-in-2 : goal.returns-in-2
 returns-in-2 g c =
@@ -32,8 +32,8 @@ returns-in-2 g c =
     let three : length keys ≡ 3 = search rules in
     let all = g.met.W.SearchContext.has_units c.args.context.now in
     let told = subst (λ len. contains (take len keys) 128 ≡ false) c.in-2.is c.requires.told in
-    subst (λ len. IsFirstPassingOffset (unit_has_listed_key true (listing keys len) w) c.args.from (units w.text) c.first_by_marks-in-2.result) (sym c.in-2.is)
-    (pair-two w all keys three c.args.from c.text_end-end.result c.first_by_marks-in-2.result c.text_end-end.ensures c.units_of_key.result c.units_of_key-b.result told c.units_of_key.ensures c.units_of_key-b.ensures c.first_by_marks-in-2.ensures)
+    subst (λ len. IsFirstPassingOffset (unit_has_listed_key true (listing keys len) w) c.args.from (units w.text) c.next_pair_or_unit_of_two_kinds.result) (sym c.in-2.is)
+    (pair-two w all keys three c.args.from (units w.text) c.next_pair_or_unit_of_two_kinds.result refl c.units_of_key-in-2.result c.units_of_key-in-2-2.result told c.units_of_key-in-2.ensures c.units_of_key-in-2-2.ensures c.next_pair_or_unit_of_two_kinds.ensures)
 
 pub returns-in_default : goal.returns-in_default
 returns-in_default g c =
@@ -42,5 +42,5 @@ returns-in_default g c =
     let three : length keys ≡ 3 = search rules in
     let all = g.met.W.SearchContext.has_units c.args.context.now in
     let most : 3 ≤ c.args.few.len = omega arith in
-    pair-three w all keys three c.args.from c.text_end-end.result c.first_by_marks-in_default.result c.text_end-end.ensures c.args.few.len most
-    c.units_of_key.result c.units_of_key-b.result c.units_of_key-c.result c.requires.told c.units_of_key.ensures c.units_of_key-b.ensures c.units_of_key-c.ensures c.first_by_marks-in_default.ensures
+    pair-three w all keys three c.args.from (units w.text) c.next_pair_or_unit_of_three_kinds.result refl c.args.few.len most
+    c.units_of_key-a.result c.units_of_key-b.result c.units_of_key-in_default.result c.requires.told c.units_of_key-a.ensures c.units_of_key-b.ensures c.units_of_key-in_default.ensures c.next_pair_or_unit_of_three_kinds.ensures

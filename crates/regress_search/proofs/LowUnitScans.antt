@@ -12,10 +12,16 @@ use Rattle.regress_search.proofs.AsciiUnitLemmas.{key-of-low}
 use Rattle.regress_search.proofs.StartSearchLemmas.{Scans, scan-goes, scan-finds}
 use Rattle.regress_search.proofs.WordLemmas.{low-behind}
 
+-- A unit below 128 is its own key.
+pub low-unit-key : (w : SearchInput) (at u : ℕ) → slice_get (text_units_in_encoding w.encoding w.text) at ≡ Some u → u < 128
+    → unit_key_at w.encoding (key (is_16_bit_encoding w.encoding)) w.text at ≡ Some u
+low-unit-key w at u there low =
+    ap (option_map (key (is_16_bit_encoding w.encoding))) there ∙ ap Some (key-of-low (is_16_bit_encoding w.encoding) u low)
+
 module _ (w : SearchInput) (has : HasUnitsForTables w.encoding w.text) (table : AllowedNextKeys) (from at u : ℕ)
     (there : slice_get (text_units_in_encoding w.encoding w.text) at ≡ Some u) (low : u < 128) where
   low-key : unit_key_at w.encoding (key (is_16_bit_encoding w.encoding)) w.text at ≡ Some u
-  low-key = ap (option_map (key (is_16_bit_encoding w.encoding))) there ∙ ap Some (key-of-low (is_16_bit_encoding w.encoding) u low)
+  low-key = low-unit-key w at u there low
 
   -- If the table excludes the unit, the search goes on behind it.
   pub low-goes : (is : Bool) → Scans w table from at → is ≡ table.keys u → is ≡ false → Scans w table from (at + 1)

@@ -1,11 +1,11 @@
 -- A probe passes at each offset where the required prefix fits, so the offsets it rejects are no
 -- candidates.
-use Rattle.std.proofs.Common.{◌≡◌, ℕ, suc, ◌+◌, ◌-◌, ◌%◌, ◌<◌, ◌≤◌, Bool, true, false, List, length, take, Option, Some, None, ap, sym, ◌∙◌, subst, arith, slice_get}
+use Rattle.std.proofs.Common.{◌≡◌, ℕ, suc, ◌+◌, ◌-◌, ◌%◌, ◌<◌, ◌≤◌, Bool, true, false, List, length, Option, Some, None, ap, sym, ◌∙◌, arith, slice_get}
 use Rattle.std.specs.Prelude.{slice_index}
 use Rattle.std.specs.Int.{bit_at}
 use Rattle.std.proofs.lemmas.Bool.{cases_lt, eqb-true}
-use Rattle.std.proofs.lemmas.Option.{slice_get-map, slice_get_within, slice_get-get_or, get_or_from_slice_get}
-use Rattle.std.proofs.lemmas.List.{length-map, length-take, get_or-take}
+use Rattle.std.proofs.lemmas.Option.{slice_get-map, get_or_from_slice_get}
+use Rattle.std.proofs.lemmas.List.{length-map}
 use mathlib.Core.Logic.{inl, inr}
 use Rattle.regex_meaning.specs.CodeUnitOffsets.{units}
 use Rattle.regex_meaning.specs.CodeUnits.{text_units_in_encoding}
@@ -28,22 +28,24 @@ use Rattle.regress_search.proofs.AsciiUnitLemmas.{fit-unit, fit-boundary}
 -- ---- Keys of units
 
 module _ (w : SearchInput) where
-  pub key-got : (at k : ℕ) → unit_key_at w.encoding (key (is_16_bit_encoding w.encoding)) w.text at ≡ Some k → slice_get (unit_keys_of_text w) at ≡ Some k
-  key-got at k there = slice_get-map (key (is_16_bit_encoding w.encoding)) (text_units_in_encoding w.encoding w.text) at ∙ there
+  -- A prefix allows the unit at an offset if it allows its key.
+  same-allowed : (prefix : Prefix) (at ahead : ℕ) → unit_is_allowed (units_allowed_by_prefix prefix) ahead (slice_get (unit_keys_of_text w) at)
+      ≡ unit_is_allowed (units_allowed_by_prefix prefix) ahead (unit_key_at w.encoding (key (is_16_bit_encoding w.encoding)) w.text at)
+  same-allowed prefix at ahead = ap (unit_is_allowed (units_allowed_by_prefix prefix) ahead) (slice_get-map (key (is_16_bit_encoding w.encoding)) (text_units_in_encoding w.encoding w.text) at)
 
-  -- If the next unit's key is allowed, one more unit of the prefix fits.
-  pub fits-goes : (prefix : Prefix) (at ahead k : ℕ) (may : Bool) → unit_key_at w.encoding (key (is_16_bit_encoding w.encoding)) w.text (at + ahead) ≡ Some k
-      → may ≡ units_allowed_by_prefix prefix ahead k → may ≡ true → prefix_allows_units_at (units_allowed_by_prefix prefix) (unit_keys_of_text w) at ahead ≡ true → prefix_allows_units_at (units_allowed_by_prefix prefix) (unit_keys_of_text w) at (ahead + 1) ≡ true
-  fits-goes prefix at ahead k may there asked holds all =
+  -- If the next unit is allowed, one more unit of the prefix fits.
+  pub fits-goes : (prefix : Prefix) (at ahead : ℕ) (may : Bool) → may ≡ unit_is_allowed (units_allowed_by_prefix prefix) ahead (unit_key_at w.encoding (key (is_16_bit_encoding w.encoding)) w.text (at + ahead))
+      → may ≡ true → prefix_allows_units_at (units_allowed_by_prefix prefix) (unit_keys_of_text w) at ahead ≡ true → prefix_allows_units_at (units_allowed_by_prefix prefix) (unit_keys_of_text w) at (ahead + 1) ≡ true
+  fits-goes prefix at ahead may asked holds all =
       ap (prefix_allows_units_at (units_allowed_by_prefix prefix) (unit_keys_of_text w) at) (let z : ahead + 1 ≡ suc ahead = omega arith in z)
-      ∙ fits-more (units_allowed_by_prefix prefix) (unit_keys_of_text w) at ahead all (ap (unit_is_allowed (units_allowed_by_prefix prefix) ahead) (key-got (at + ahead) k there) ∙ sym asked ∙ holds)
+      ∙ fits-more (units_allowed_by_prefix prefix) (unit_keys_of_text w) at ahead all (same-allowed prefix (at + ahead) ahead ∙ sym asked ∙ holds)
 
-  -- If a unit's key is not allowed, the prefix does not fit.
-  pub fits-stops : (prefix : Prefix) (at ahead k : ℕ) (may : Bool) → ahead < prefix.len → unit_key_at w.encoding (key (is_16_bit_encoding w.encoding)) w.text (at + ahead) ≡ Some k
-      → may ≡ units_allowed_by_prefix prefix ahead k → may ≡ false → prefix_fits_at w prefix at ≡ false
-  fits-stops prefix at ahead k may less there asked fails =
+  -- If a unit is not allowed, the prefix does not fit.
+  pub fits-stops : (prefix : Prefix) (at ahead : ℕ) (may : Bool) → ahead < prefix.len → may ≡ unit_is_allowed (units_allowed_by_prefix prefix) ahead (unit_key_at w.encoding (key (is_16_bit_encoding w.encoding)) w.text (at + ahead))
+      → may ≡ false → prefix_fits_at w prefix at ≡ false
+  fits-stops prefix at ahead may less asked fails =
       fits-fails (units_allowed_by_prefix prefix) (unit_keys_of_text w) at prefix.len ahead less
-      (ap (unit_is_allowed (units_allowed_by_prefix prefix) ahead) (key-got (at + ahead) k there) ∙ sym asked ∙ fails)
+      (same-allowed prefix (at + ahead) ahead ∙ sym asked ∙ fails)
 
 -- ---- Bits of a probe
 

@@ -172,8 +172,11 @@ fn may_read_unit_on_way_to_goal<W: SearchContext>(context: &W, leap: &Leap, at: 
     ensures { result ≡ may_read_unit_before_goal (W.searching context.now) leap.now at }
 {
     if <<W::Input as HasUnitType>::Units as CodeUnitEncoding>::ARE_BYTES {
-        leap.over[unit_key_at_offset(context, at)]
-    } else {
-        leap.over[unit_at_offset(context, at).min(128) as usize]
+        return leap.over[unit_key_at_offset(context, at)];
     }
+    let unit = unit_at_offset(context, at);
+    if unit < 128 {
+        return leap.over[unit as usize];
+    }
+    leap.over[128]
 }

@@ -3,12 +3,14 @@
 ghost use Rattle.std.specs.Prelude.{◌≡◌, ◌≤◌, ◌<◌, ◌+◌, ◌-◌, ◌^◌};
 ghost use Rattle.std.proofs.Props.{props};
 ghost use Rattle.regex_meaning.specs.CodeUnitOffsets.{IsBoundary, units};
-ghost use Rattle.regress_program.specs.PrefixesAndPrefilters.{ProbePassesPrefix, ProbesPassPrefix, PrefixAllowsOnlyAsciiFirst};
+ghost use Rattle.regress_program.specs.PrefixesAndPrefilters.{ProbePassesPrefix, ProbesPassPrefix, PrefixAllowsOnlyAsciiFirst, units_allowed_by_prefix};
+ghost use Rattle.regress_machine.specs.RequiredPrefixes.{unit_is_allowed};
 ghost use Rattle.regress_program.specs.declared.required_prefix_types.Prefix as prefix;
 ghost use Rattle.regress_search.specs.MarkedOffsets.{MarksAllPassing};
+ghost use Rattle.regress_search.specs.ReadsAtOffset.{unit_key_in_search};
 ghost use Rattle.regress_search.specs.StartSearch.{prefix_fits_at, IsFirstPrefixFit};
 
-use crate::class_char_and_table_lookups::unit_key_at_offset;
+use crate::class_char_and_table_lookups::{low_16_bit_unit_at_offset, unit_key_at_offset};
 use crate::search_by_marks::{OffsetTest, first_by_marks, units_with_byte_bits};
 use crate::search_context::{SearchContext, text_end};
 use regress_program::required_prefix_prefilters::MaskedUnitProbe;
@@ -31,13 +33,31 @@ fn prefix_fits_at_offset<W: SearchContext>(context: &W, prefix: &Prefix, at: usi
 {
     let mut ahead = 0;
     'units: while ahead < prefix.len {
-        let key = unit_key_at_offset(context, at + ahead);
-        if !prefix.is_key_allowed(key, ahead) {
+        if !prefix_allows_unit(context, prefix, at + ahead, ahead) {
             return false;
         }
         ahead += 1;
     }
     true
+}
+
+// Checks whether the prefix allows the unit at an offset, as the one `ahead` units after the start.
+#[inline(always)]
+fn prefix_allows_unit<W: SearchContext>(
+    context: &W,
+    prefix: &Prefix,
+    at: usize,
+    ahead: usize,
+) -> bool
+    requires inside { at < units (W.searching context.now).text }
+    requires ahead { ahead < prefix.now.len }
+    ensures { result ≡ unit_is_allowed (units_allowed_by_prefix prefix.now) ahead
+        (unit_key_in_search (W.searching context.now) at) }
+{
+    if let Some(key) = low_16_bit_unit_at_offset(context, at) {
+        return prefix.is_key_allowed(key, ahead);
+    }
+    prefix.is_key_allowed(unit_key_at_offset(context, at), ahead)
 }
 
 /// Checks whether the prefix may occur at an offset.

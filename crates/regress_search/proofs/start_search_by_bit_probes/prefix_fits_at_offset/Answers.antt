@@ -4,19 +4,16 @@ use Rattle.regress_search.specs.StartSearch.{unit_keys_of_text}
 use Rattle.regress_search.proofs.ProbeLemmas.{fits-goes, fits-stops}
 use Rattle.regress_search.proofs.start_search_by_bit_probes.prefix_fits_at_offset.Goals as goal
 
-pub returns-then-not-is_key_allowed : goal.returns-then-not-is_key_allowed
-returns-then-not-is_key_allowed g c =
+pub returns-then-not-prefix_allows_unit : goal.returns-then-not-prefix_allows_unit
+returns-then-not-prefix_allows_unit g c =
     let w = g.W.SearchContext.searching c.args.context.now in
-    let there = c.unit_key_at_offset-key.ensures.is in
-    sym (fits-stops w c.args.prefix.now c.args.at c.units.ahead c.unit_key_at_offset-key.result c.is_key_allowed.result c.units-test.true there c.is_key_allowed.ensures
-    c.if-not-is_key_allowed.true)
+    sym (fits-stops w c.args.prefix.now c.args.at c.units.ahead c.prefix_allows_unit.result c.units-test.true c.prefix_allows_unit.ensures c.if-not-prefix_allows_unit.true)
 
 pub units-preserved : goal.units-preserved
 units-preserved g c =
-    let w = g.W.SearchContext.searching c.args.context.now in
-    let there = c.unit_key_at_offset-key.ensures.is in (
+    let w = g.W.SearchContext.searching c.args.context.now in (
       omega (arith, c.units-test.true),
-      fits-goes w c.args.prefix.now c.args.at c.units.ahead c.unit_key_at_offset-key.result c.is_key_allowed.result there c.is_key_allowed.ensures c.if-not-is_key_allowed.false c.units.invariant.1,
+      fits-goes w c.args.prefix.now c.args.at c.units.ahead c.prefix_allows_unit.result c.prefix_allows_unit.ensures c.if-not-prefix_allows_unit.false c.units.invariant.1,
     )
 
 pub returns : goal.returns

@@ -1,8 +1,11 @@
 -- A probe passes at each offset where the required prefix fits, so the offsets it rejects are no
 -- candidates.
-use Rattle.std.proofs.Common.{◌≡◌, ℕ, suc, ◌+◌, ◌-◌, ◌%◌, ◌<◌, ◌≤◌, Bool, true, false, List, length, Option, Some, None, ap, sym, ◌∙◌, arith, slice_get}
+use Rattle.std.proofs.Common.{◌≡◌, ℕ, zero, suc, ◌+◌, ◌-◌, ◌%◌, ◌<◌, ◌≤◌, ◌==◌, Bool, true, false, List, [], ◌∷◌, length, Option, Some, None, refl, ap, sym, ◌∙◌, arith, slice_get, bit_and}
 use Rattle.std.specs.Prelude.{slice_index}
 use Rattle.std.specs.Int.{bit_at}
+use Rattle.std.specs.List.{list_all}
+use Rattle.std.proofs.lemmas.Grind.{and_numeral}
+use Rattle.regex_meaning.proofs.BoolLemmas.{and-left, and-right}
 use Rattle.std.proofs.lemmas.Bool.{cases_lt, eqb-true}
 use Rattle.std.proofs.lemmas.Option.{slice_get-map, get_or_from_slice_get}
 use Rattle.std.proofs.lemmas.List.{length-map}
@@ -74,6 +77,32 @@ probe-marks w has prefix probe is at marks room are = record {
       eqb-true (bit_at marks i) 1 (sym (are.each i less) ∙ ap (has_bits probe.mask probe.bits) same ∙ passes);
   within = are.within;
 }
+
+-- The same for a probe that tests all bits of a unit: its bits are the unit itself.
+pub exact-probe-marks : (w : SearchInput) → HasUnitsForTables w.encoding w.text → (prefix : Prefix) (probe : MaskedUnitProbe) → ProbePassesPrefix prefix probe → probe.mask ≡ 255 → (at marks : ℕ)
+    → at + probe.ahead + 32 ≤ units w.text → MarksUnitsWithBits (text_units_in_encoding w.encoding w.text) (at + probe.ahead) 0xFFFF probe.bits marks
+    → MarksAllPassing (prefix_fits_at w prefix) at marks
+exact-probe-marks w has prefix probe is whole at marks room are = record {
+  each = λ i less fit.
+      let us = text_units_in_encoding w.encoding w.text in
+      let one = fit-unit w has prefix (at + i) fit probe.ahead is.inside is.low in
+      let small = one.2 in
+      let place : at + i + probe.ahead ≡ at + probe.ahead + i = omega arith in
+      let same : slice_index us (at + probe.ahead + i) ≡ one.0 = get_or_from_slice_get us (at + probe.ahead + i) one.0 0 (sym (ap (slice_get us) place) ∙ one.1) in
+      let narrow : bit_and (one.0 % 256) 255 ≡ one.0 % 256 % 256 = and_numeral (one.0 % 256) 254 refl in
+      let wide : bit_and one.0 0xFFFF ≡ one.0 % 0x1_0000 = and_numeral one.0 0xFFFE refl in
+      let alike : bit_and one.0 0xFFFF ≡ bit_and (one.0 % 256) probe.mask = omega (arith, small, narrow, wide) ∙ ap (bit_and (one.0 % 256)) (sym whole) in
+      let passes : has_bits 0xFFFF probe.bits one.0 ≡ true = ap (λ n. n == probe.bits) alike ∙ is.only one.0 (omega (arith, small)) one.3 in
+      eqb-true (bit_at marks i) 1 (sym (are.each i less) ∙ ap (has_bits 0xFFFF probe.bits) same ∙ passes);
+  within = are.within;
+}
+
+-- Each probe in a list of probes that test all bits of a unit does so.
+pub exact-at : (probes : List MaskedUnitProbe) → list_all (λ probe. probe.mask == 255) probes ≡ true → (i : ℕ) (probe : MaskedUnitProbe) → slice_get probes i ≡ Some probe → probe.mask ≡ 255
+exact-at [] all i probe there = cc
+exact-at (p ∷ ps) all zero probe there =
+    ap (λ probe. probe.mask) (sym (some-same p probe there)) ∙ eqb-true p.mask 255 (and-left (p.mask == 255) (list_all (λ probe. probe.mask == 255) ps) all)
+exact-at (p ∷ ps) all (suc i) probe there = exact-at ps (and-right (p.mask == 255) (list_all (λ probe. probe.mask == 255) ps) all) i probe there
 
 -- ---- First fits in a range
 

@@ -1,6 +1,7 @@
 //! Searches for offsets where a prefix may occur, by testing some bits of some of its units.
 
-ghost use Rattle.std.specs.Prelude.{◌≡◌, ◌≤◌, ◌<◌, ◌+◌, ◌-◌, ◌^◌};
+ghost use Rattle.std.specs.Prelude.{◌≡◌, ◌≤◌, ◌<◌, ◌+◌, ◌-◌, ◌^◌, ◌==◌, true};
+ghost use Rattle.std.specs.List.{list_all};
 ghost use Rattle.std.proofs.Props.{props};
 ghost use Rattle.regex_meaning.specs.CodeUnitOffsets.{IsBoundary, units};
 ghost use Rattle.regress_program.specs.PrefixesAndPrefilters.{ProbePassesPrefix, ProbesPassPrefix, PrefixAllowsOnlyAsciiFirst, units_allowed_by_prefix};
@@ -11,8 +12,9 @@ ghost use Rattle.regress_search.specs.ReadsAtOffset.{unit_key_in_search};
 ghost use Rattle.regress_search.specs.StartSearch.{prefix_fits_at, IsFirstPrefixFit};
 
 use crate::class_char_and_table_lookups::{low_16_bit_unit_at_offset, unit_key_at_offset};
-use crate::search_by_marks::{OffsetTest, first_by_marks, units_with_byte_bits};
+use crate::search_by_marks::{OffsetTest, first_by_marks, units_with_bits, units_with_byte_bits};
 use crate::search_context::{SearchContext, text_end};
+use regress_input::indexing::{CodeUnitEncoding, HasUnitType};
 use regress_program::required_prefix_prefilters::MaskedUnitProbe;
 use regress_program::required_prefix_types::Prefix;
 
@@ -153,6 +155,71 @@ impl<W: SearchContext> OffsetTest<W> for TwoStageProbes<'_> {
     }
 }
 
+/// A test with the same probes, each of which tests all bits of a unit. Then 16-bit units are
+/// compared without a mask.
+#[derive(Clone, Copy)]
+struct ExactProbes<'p> {
+    probed: PrefixAndBitProbes<'p>,
+    // Whether the other probes test a block before the search leaves its loop.
+    staged: bool,
+    ghost exact: { list_all (λ probe. probe.mask == 255) probed.probes.now ≡ true },
+}
+
+impl<W: SearchContext> OffsetTest<W> for ExactProbes<'_> {
+    ghost passes_at = { λ exact w at. prefix_fits_at w exact.probed.prefix.now at };
+
+    ghost reach = { λ exact. exact.probed.prefix.now.len };
+
+    #[inline(always)]
+    fn marks(&self, context: &W, at: usize) -> u64 {
+        let [a, b, _, _] = *self.probed.probes;
+        marks_of_exact_probe(context, at, a) & marks_of_exact_probe(context, at, b)
+    }
+
+    #[inline(always)]
+    fn strict_marks(&self, context: &W, at: usize) -> u64 {
+        let [_, _, c, d] = *self.probed.probes;
+        let seldom = self.marks(context, at);
+        seldom & marks_of_exact_probe(context, at, c) & marks_of_exact_probe(context, at, d)
+    }
+
+    #[inline(always)]
+    fn rejects(&self, context: &W, at: usize) -> bool {
+        if !self.staged {
+            return false;
+        }
+        let [_, b, c, d] = *self.probed.probes;
+        let second = marks_of_exact_probe(context, at, b);
+        second & marks_of_exact_probe(context, at, c) & marks_of_exact_probe(context, at, d) == 0
+    }
+
+    #[inline(always)]
+    fn passes(&self, context: &W, at: usize) -> bool {
+        prefix_fits_at_offset(context, self.probed.prefix, at)
+    }
+}
+
+// Returns the marks of the 32 offsets from `at` on at which a probe passes that tests all bits of a
+// unit.
+#[inline(always)]
+fn marks_of_exact_probe<W: SearchContext>(context: &W, at: usize, probe: MaskedUnitProbe) -> u64
+    requires inside { at + probe.ahead + 32 ≤ units (W.searching context.now).text }
+    requires exact { probe.mask ≡ 255 }
+    ensures { (f : prefix.Prefix) → ProbePassesPrefix f probe
+        → MarksAllPassing (prefix_fits_at (W.searching context.now) f) at result }
+{
+    units_with_bits(context, at + probe.ahead, 0xFFFF, u16::from(probe.bits))
+}
+
+// Checks whether each probe tests all bits of a unit.
+#[inline(always)]
+fn are_exact(probes: &[MaskedUnitProbe; 4]) -> bool
+    ensures { result ≡ list_all (λ probe. probe.mask == 255) probes.now }
+{
+    let [a, b, c, d] = *probes;
+    a.mask == 0xFF && b.mask == 0xFF && c.mask == 0xFF && d.mask == 0xFF
+}
+
 // Checks whether a probe passes only for a rare letter: a capital letter, or a letter in both cases
 // that is rare in words. Few blocks have one. Most blocks that it and a second letter mark contain
 // no match, because letters occur together in words. Other rare units are frequent in logs and in
@@ -187,7 +254,12 @@ pub(crate) fn next_by_bit_probes<W: SearchContext>(
     ensures { IsFirstPrefixFit (W.searching context.now) probed.entry.prefix.now from result }
 {
     let to = from + number_of_offsets_with_room(text_end(context), from, probed.prefix.len);
-    if is_of_rare_letter(probed.probes[0]) {
+    let staged = is_of_rare_letter(probed.probes[0]);
+    if !<<W::Input as HasUnitType>::Units as CodeUnitEncoding>::ARE_BYTES
+        && are_exact(probed.probes)
+    {
+        first_by_marks(context, &ExactProbes { probed, staged }, from, to)
+    } else if staged {
         first_by_marks(context, &TwoStageProbes { probed }, from, to)
     } else {
         first_by_marks(context, &probed, from, to)

@@ -3,11 +3,13 @@ use Rattle.std.specs.Prelude.{◌≡◌, ℕ, List, IsUtf8, codes, take}
 use Rattle.regex_meaning.specs.Tree.{Tree, Flags}
 use Rattle.regex_meaning.specs.Text.{Text, utf8_text, ascii_text, utf16_text, ucs2_text}
 use Rattle.regex_meaning.specs.MatchGroupsByNumberAndName.{answers_from}
+use Rattle.regex_meaning.specs.SearchAnswers.{answer_at}
 use Rattle.regex_meaning.specs.Replace.{replaced}
 use Rattle.regex_meaning.specs.Grammar.{PatternDialect, ParsesBy, profile}
 use Rattle.regress_search.specs.RemainingAnswers.{RemainingView}
 use Rattle.regress_match.specs.ProgramTreesAndAnswers.{IsCompiledWithSyntax, utf8_answers, ascii_answers, utf16_answers, ucs2_answers, tree_for_byte_units, tree_for_16_bit_units, bytes_as_utf8_text}
 use Rattle.regress_match.specs.ProgramTreesAndAnswers.{bytes_as_ascii_text, units_as_utf16_text, units_as_ucs2_text}
+use Rattle.regress_match.specs.ProgramTreesAndAnswers.{utf8_answer_beginning_at, ascii_answer_beginning_at, utf16_answer_beginning_at, ucs2_answer_beginning_at}
 use Rattle.regress_match.specs.SearchResults.{YieldsMatches, NextCallsYield, NextResult, ResultsAreMatchesInOrder}
 use Rattle.regress_match.specs.ExpansionsAndMatchRanges.{MatchesFitTextInOrderFrom, matches_with_expansions}
 use Rattle.regress_match.specs.declared.api.regex.Regex.{Regex}
@@ -33,6 +35,16 @@ SearchesFollowGrammar s = (flags : Flags) (pattern : List ℕ) (re : Regex) (tre
 abbrev pub SearchesFollowThePattern : Type 0
 SearchesFollowThePattern = SearchesFollowGrammar profile
 
+-- The match of a compiled pattern that begins at an offset of a text, in each encoding, is that of
+-- the tree that the grammar of this syntax gives to the pattern.
+abbrev pub MatchesAtOffsetsFollowGrammar : PatternDialect → Type 0
+MatchesAtOffsetsFollowGrammar s = (flags : Flags) (pattern : List ℕ) (re : Regex) (tree : Tree)
+    → IsCompiledWithSyntax s flags pattern re → ParsesBy s flags pattern tree → (text : List ℕ) (at : ℕ)
+    → (utf8_answer_beginning_at re text at ≡ answer_at tree.root (utf8_text text flags.unicode) at)
+    × (ascii_answer_beginning_at re text at ≡ answer_at tree.root (ascii_text text flags.unicode) at)
+    × (utf16_answer_beginning_at re text at ≡ answer_at tree.root (utf16_text text flags.unicode) at)
+    × (ucs2_answer_beginning_at re text at ≡ answer_at tree.root (ucs2_text text flags.unicode) at)
+
 -- A search of `text` with the tree `searched` is an iterator `it` (`YieldsMatches`). The results of
 -- any number of calls of its `next` are the matches of `tree` in `text_read`.
 abbrev pub ReturnsMatchesOf : (searched : Tree) (text : Text) → (tree : Tree) (text_read : Text) → (start : ℕ) → Type 0
@@ -41,8 +53,8 @@ ReturnsMatchesOf searched text tree text_read start = (it behind : RemainingView
     → ResultsAreMatchesInOrder (answers_from tree.root text_read start) results
 
 -- The main theorem. A pattern of this syntax is compiled to `re`, and the grammar gives it `tree`.
--- A search with a tree of `re` yields `YieldsMatches` (the clause `answers` of `find_iter` and
--- `find_from`). Then the results of `next` are the matches of `tree`, in each encoding.
+-- A search with a tree of `re` is an iterator with `YieldsMatches` (the clause `answers` of
+-- `find_iter` and `find_from`). Then the results of `next` are the matches of `tree`, in each encoding.
 abbrev pub SearchesReturnMatchesOfPattern : PatternDialect → Type 0
 SearchesReturnMatchesOfPattern s = (flags : Flags) (pattern : List ℕ) (re : Regex) (tree : Tree)
     → IsCompiledWithSyntax s flags pattern re → ParsesBy s flags pattern tree → (text : List ℕ) (start : ℕ)

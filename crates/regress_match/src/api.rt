@@ -17,7 +17,8 @@ pub use self::compile_and_replace_errors::{Error, ReplaceError};
 pub use self::escaping::escape;
 pub use self::flags::Flags;
 pub use self::laws::{
-    call_costs_are_work_spent, calls_within_work_return_matches, matches_lie_in_text_in_order,
+    call_costs_are_work_spent, calls_within_work_return_matches,
+    matches_at_offsets_follow_the_pattern, matches_lie_in_text_in_order,
     searches_follow_the_ecmascript_pattern, searches_follow_the_pattern,
     searches_return_matches_in_order, searches_return_matches_of_pattern,
     searches_return_matches_within_work, work_per_unit_limit_suffices,

@@ -2,11 +2,11 @@
 //! from them.
 
 ghost use Rattle.std.specs.Prelude.{◌≡◌, ◌==◌, ◌≤◌, ◌<◌, ◌+◌, ◌-◌, ℕ, List, [], ◌∷◌, true, false, Option, Some, None, Result, Ok, Err, IfOk, IfSome, IsAscii, chars, codes, if◌then◌else◌, length};
-ghost use Rattle.std.specs.Prelude.{option_map, slice_get, string_bytes};
+ghost use Rattle.std.specs.Prelude.{◌⊎◌, IsCharBoundary, option_map, slice_get, string_bytes};
 ghost use Rattle.std.specs.List.{list_all};
 ghost use Rattle.regex_meaning.specs.{MatchGroupsByNumberAndName.{Answer, answers_from, group_names_by_id}, CodeUnitOffsets.{HasRisingPlaceOffsets, place_at}};
 ghost use Rattle.regex_meaning.specs.{Laws.{AreAscendingDisjointAnswersFrom, Each}, Text.{Text, last_place, utf8_text}, Tree.{Flags, Tree, group_ids}};
-ghost use Rattle.regex_meaning.specs.FlagLettersAndEscaping.{flags_from_letters};
+ghost use Rattle.regex_meaning.specs.{FlagLettersAndEscaping.{flags_from_letters}, SearchAnswers.{answer_at}};
 ghost use Rattle.regex_meaning.specs.{Grammar.{Parses, ParsesBy}, EcmaGrammarWithAnnexB.{ecmascript}, GroupNameScan.{scanned_names_per_capturing_group}, GrammarLaws.{literal_tree}};
 ghost use Rattle.regress_search.specs.{MatchesAsSpecAnswers.{answer_of}, RemainingAnswers.{NextYields, RemainingView}};
 ghost use Rattle.regress_search.specs.MatchesWithinWork.{RemainingAnswersAndWork};
@@ -26,7 +26,8 @@ use regex_meaning::{
     scan_counts_pattern_groups, scan_finds_group_names,
 };
 use regress_match::api::{
-    call_costs_are_work_spent, calls_within_work_return_matches, matches_lie_in_text_in_order,
+    call_costs_are_work_spent, calls_within_work_return_matches,
+    matches_at_offsets_follow_the_pattern, matches_lie_in_text_in_order,
     replacing_by_match_keeps_text, searches_follow_the_ecmascript_pattern,
     searches_follow_the_pattern, searches_return_matches_in_order,
     searches_return_matches_of_pattern, searches_return_matches_within_work,
@@ -97,6 +98,22 @@ pub fn find_each_in_ecmascript<'r, 't>(
 {
     searches_follow_the_ecmascript_pattern();
     re.find_iter(text)
+}
+
+/// Returns the match in `text` that begins at byte offset `at`, a character boundary or past the end.
+/// It is that of the tree that the grammar gives to the pattern.
+///
+/// # Errors
+///
+/// The same as `Regex::match_at`.
+pub fn match_at_offset(re: &Regex, text: &str, at: usize) -> Result<Option<Match>, SearchError>
+    requires { IsCharBoundary text.now at ⊎ (length text.now < at) }
+    ensures { (flags : Flags) (pattern : List ℕ) (tree : Tree) → IsCompiledWith flags pattern re.now
+        → Parses flags pattern tree → IfOk result (λ m. option_map answer_of m
+        ≡ answer_at tree.root (utf8_text text.now flags.unicode) at) }
+{
+    matches_at_offsets_follow_the_pattern();
+    re.match_at(text, at)
 }
 
 /// Replaces each match by itself, which does not change the text.

@@ -2,7 +2,8 @@
 
 ghost use Rattle.regex_meaning.specs.EcmaGrammarWithAnnexB.{ecmascript};
 ghost use Rattle.regex_meaning.specs.Grammar.{profile};
-ghost use Rattle.regress_match.specs.{Laws.{MatchesLieInTextInOrder, SearchesFollowThePattern, SearchesFollowGrammar, SearchesReturnMatchesOfPattern}, SearchResults.{SearchesReturnMatchesInOrder}};
+ghost use Rattle.regress_match.specs.Laws.{MatchesAtOffsetsFollowGrammar, MatchesLieInTextInOrder, SearchesFollowThePattern, SearchesFollowGrammar};
+ghost use Rattle.regress_match.specs.{Laws.{SearchesReturnMatchesOfPattern}, SearchResults.{SearchesReturnMatchesInOrder}};
 ghost use Rattle.regress_match.specs.WorkBounds.{SearchesReturnMatchesWithinWork, CallCostsAreWorkSpent, CallsWithinWorkReturnMatches, WorkPerUnitLimitSuffices};
 
 use regress_search::exec::WorkLimitedProducer;
@@ -56,6 +57,15 @@ pub fn searches_follow_the_pattern()
 /// Statement: `specs/Laws`.
 pub fn searches_follow_the_ecmascript_pattern()
     ensures { SearchesFollowGrammar ecmascript }
+{}
+
+/// A law: the match that begins at an offset (`match_at` and its variants), in each encoding and for
+/// both values of `Syntax`, is that of the tree that the grammar gives to the pattern.
+///
+/// Statement: `specs/Laws`.
+pub fn matches_at_offsets_follow_the_pattern()
+    ensures profile { MatchesAtOffsetsFollowGrammar profile }
+    ensures ecmascript { MatchesAtOffsetsFollowGrammar ecmascript }
 {}
 
 /// The main theorem, as a law: the results of successive calls of `next` are the matches of the

@@ -154,7 +154,7 @@ module _ {tree : Tree} {text : Text} {steps : Option ℕ} {start : ℕ} {before 
           starts = inr past;
           fewer = no_more-trans left' left steps (no_more-after tree text left left' next over.1) f.fewer;
           ranges = f.ranges;
-          stops = ((sym gone.0, sym gone.1), over.0, over.1);
+          stops = (past, (sym gone.0, sym gone.1), over.0, over.1);
         };
         matches = f.count;
         next = refl;

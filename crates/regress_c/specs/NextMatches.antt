@@ -1,5 +1,5 @@
 -- The matches that one call writes, and the offset at which the search continues.
-use Rattle.regex_meaning.specs.CodeUnitOffsets.{IsBoundaryOrPastEnd}
+use Rattle.regex_meaning.specs.CodeUnitOffsets.{IsBoundaryOrPastEnd, units}
 use Rattle.std.specs.Prelude.{◌≡◌, ◌≢◌, ◌<◌, ◌+◌, ◌*◌, ℕ, false, List, [], ◌++◌, Option, Some, None, Result, Ok, Err, IsSome, flat_map, length}
 use Rattle.regex_meaning.specs.Laws.{Each}
 use Rattle.regex_meaning.specs.MatchGroupsByNumberAndName.{Answer}
@@ -45,13 +45,14 @@ number_of_ranges tree = length (group_ids tree.root) + 1
 -- A search with the pattern's tree in a text.
 module _ (tree : Tree) (text : Text) where
   -- Why the call stopped: there is no room for one more match, no match remains, an allocation
-  -- failed, or the steps do not suffice for the next match. Finding that no match remains takes
-  -- exactly the steps that it needs. After an allocation failure, at least as many steps are left
-  -- as after a result.
+  -- failed, or the steps do not suffice for the next match. If no match remains, the search
+  -- continues past the end. Finding this out takes exactly the steps that it needs. After an
+  -- allocation failure, at least as many steps are left as after a result.
   abbrev pub Stops : (room : ℕ) → Run → Stop → Type 0
   Stops room run Full = (room < (length run.found + 1) * number_of_ranges tree) × (run.left ≡ run.steps)
   Stops room run Over =
-      IsExhaustedFrom tree text run.steps run.next × IsExhaustedFrom tree text run.steps run.behind
+      (units text < run.next) × IsExhaustedFrom tree text run.steps run.next
+      × IsExhaustedFrom tree text run.steps run.behind
       × (run.left ≡ step_budget_after_first_match tree text run.steps run.behind)
   Stops room run (Refused Memory) = IsBudgetAtMost run.left run.steps
       × IsBudgetAtMost (step_budget_after_first_match tree text run.steps run.next) run.left

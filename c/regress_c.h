@@ -38,7 +38,8 @@
  *   limit. Find the matches with a limit (regress_c_next_within, regress_c_next_in_work) or in UTF-16, and copy the
  *   text between them.
  * - A limit for a match at one offset, and a limit of steps in UTF-16 and UCS-2. Steps are counted in UTF-8 only.
- * - A limit of the memory, other than that of the process. If an allocation fails, MEMORY is returned.
+ * - A limit of the memory, other than that of the process. If an allocation fails, MEMORY is returned
+ *   (tested).
  * - A pattern that two threads use at the same time. Use a clone for each.
  */
 #ifndef REGRESS_C_H
@@ -73,7 +74,7 @@ enum regress_c_code {
     REGRESS_C_NOT_BOUNDARY = 5,
     /* The buffer is too short, and `count` is the length that is needed. Nothing is written. */
     REGRESS_C_SHORT_BUFFER = 6,
-    /* An allocation failed. */
+    /* An allocation failed (tested). */
     REGRESS_C_MEMORY = 7,
     /* The step limit is reached. */
     REGRESS_C_STEP_LIMIT = 8,
@@ -104,7 +105,7 @@ enum regress_c_code {
     REGRESS_C_UNBOUNDED_BACKREFERENCE = 22,
     /* No bound is known, since counts are too large, or loops are nested too deeply. */
     REGRESS_C_UNBOUNDED_COUNT = 23,
-    /* No bound is known, since it would be too large. */
+    /* No bound is known, since it would be too large, or lookarounds are nested too deeply. */
     REGRESS_C_UNBOUNDED_BOUND_TOO_LARGE = 24
 };
 
@@ -449,7 +450,7 @@ static inline const char *regress_c_message(uint32_t code)
     case REGRESS_C_NO_MATCH: return "no match";
     case REGRESS_C_EMPTY: return "the handle holds no pattern";
     case REGRESS_C_FULL: return "the handle already holds a pattern";
-    case REGRESS_C_NOT_UTF8: return "a text is not valid UTF-8";
+    case REGRESS_C_NOT_UTF8: return "the pattern, the text or the replacement is not valid UTF-8";
     case REGRESS_C_NOT_BOUNDARY: return "the offset splits a character";
     case REGRESS_C_SHORT_BUFFER: return "the buffer is too short";
     case REGRESS_C_MEMORY: return "out of memory";
@@ -466,11 +467,13 @@ static inline const char *regress_c_message(uint32_t code)
     case REGRESS_C_NOT_COUNTED: return "steps are counted in UTF-8 only";
     case REGRESS_C_WORK_LIMIT: return "the work limit is reached";
     case REGRESS_C_UNKNOWN_SYNTAX: return "unknown syntax (syntaxes are 0 and 1)";
-    case REGRESS_C_UNBOUNDED_LOOKAROUND: return "no work bound is known: a lookaround has a loop, or alternatives before its end";
+    case REGRESS_C_UNBOUNDED_LOOKAROUND:
+        return "no work bound is known: a lookaround has a loop, or alternatives before its end";
     case REGRESS_C_UNBOUNDED_BACKREFERENCE: return "no work bound is known: the pattern has a backreference";
     case REGRESS_C_UNBOUNDED_COUNT:
         return "no work bound is known: counts are too large, or loops are nested too deeply";
-    case REGRESS_C_UNBOUNDED_BOUND_TOO_LARGE: return "no work bound is known: the bound of the pattern is too large";
+    case REGRESS_C_UNBOUNDED_BOUND_TOO_LARGE:
+        return "no work bound is known: the bound is too large, or lookarounds are nested too deeply";
     default: return "unknown code";
     }
 }

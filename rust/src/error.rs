@@ -150,7 +150,8 @@ pub enum Unbounded {
     Backreference,
     /// The counts of loops are too large, or loops are nested too deeply.
     Count,
-    /// The bound would be too large, as with many lazy loops in sequence.
+    /// The bound would be too large, as with many lazy loops in sequence, or lookarounds are nested
+    /// too deeply.
     BoundTooLarge,
 }
 
@@ -174,7 +175,9 @@ impl fmt::Display for Unbounded {
             Unbounded::Lookaround => "a lookaround has a loop, or alternatives before its end",
             Unbounded::Backreference => "the pattern has a backreference",
             Unbounded::Count => "counts are too large, or loops are nested too deeply",
-            Unbounded::BoundTooLarge => "the bound of the pattern is too large",
+            Unbounded::BoundTooLarge => {
+                "the bound is too large, or lookarounds are nested too deeply"
+            }
         })
     }
 }

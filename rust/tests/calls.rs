@@ -216,7 +216,7 @@ fn work_is_bounded() {
             Unbounded::Count,
             "counts are too large, or loops are nested too deeply",
         ),
-        (&lazy, Unbounded::BoundTooLarge, "the bound of the pattern is too large"),
+        (&lazy, Unbounded::BoundTooLarge, "the bound is too large, or lookarounds are nested too deeply"),
     ] {
         let re = Regex::new(pattern).unwrap();
         assert_eq!(re.bounded().err(), Some(reason), "{pattern}");

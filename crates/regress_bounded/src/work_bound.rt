@@ -51,9 +51,9 @@ pub enum Unbounded {
     #[error("no work bound is known: counts are too large, or loops are nested too deeply")]
     Count,
     /// The bound does not fit in 64 bits, or is more than 64 times the program's size times its
-    /// largest number of key codes, or the cost of an instruction does not fit in 31 bits. Many
-    /// lazy loops in sequence are one cause.
-    #[error("no work bound is known: the bound of the pattern is too large")]
+    /// largest number of key codes, or the cost of an instruction does not fit in 31 bits, or
+    /// lookarounds are nested more than 64 deep. Many lazy loops in sequence are one cause.
+    #[error("no work bound is known: the bound is too large, or lookarounds are nested too deeply")]
     BoundTooLarge,
 }
 

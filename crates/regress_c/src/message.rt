@@ -12,7 +12,7 @@ pub(crate) fn message_of_code(code: u32) -> &'static str
         1 => "no match",
         2 => "the handle holds no pattern",
         3 => "the handle already holds a pattern",
-        4 => "a text is not valid UTF-8",
+        4 => "the pattern, the text or the replacement is not valid UTF-8",
         5 => "the offset splits a character",
         6 => "the buffer is too short",
         7 => "out of memory",
@@ -32,7 +32,8 @@ pub(crate) fn message_of_code(code: u32) -> &'static str
         21 => "unknown syntax (syntaxes are 0 and 1)",
         22 => "no work bound is known: the pattern has a backreference",
         23 => "no work bound is known: counts are too large, or loops are nested too deeply",
-        24 => "no work bound is known: the bound of the pattern is too large",
+        24 =>
+            "no work bound is known: the bound is too large, or lookarounds are nested too deeply",
         _ => "unknown code",
     }
 }

@@ -60,13 +60,14 @@ impl Regex {
     ///
     /// # Errors
     ///
-    /// Returns the reason why no bound is known. `docs/LINEAR.md` has the full list of causes. It
-    /// is proved when the first two are returned, and tested when the others are.
+    /// Returns the reason why no bound is known for the program for 16-bit units or, if that has one,
+    /// for the program for bytes. `docs/LINEAR.md` has the full list of causes. It is proved when the
+    /// first two are returned, and tested when the others are.
     ///
-    /// - `Backreference` exactly if the pattern has one.
-    /// - Otherwise `Lookaround` exactly if in one of its two programs the contents of a lookaround
-    ///   have a loop, or alternatives that more contents follow. (The program for bytes may have loops
-    ///   over one character with a maximum, but that for 16-bit units has no such loops.)
+    /// - `Backreference` exactly if this program has one.
+    /// - Otherwise `Lookaround` exactly if in this program the contents of a lookaround have a loop, or
+    ///   alternatives that more contents follow. (Loops over one character with a maximum are allowed
+    ///   in the program for bytes. That for 16-bit units has no such loops.)
     /// - `Count` if the counts of its loops are too large, or its loops are nested too deeply.
     /// - `BoundTooLarge` if the bound is too large, or lookarounds are nested too deeply.
     /// - `Memory` if an allocation for computing the bound fails.

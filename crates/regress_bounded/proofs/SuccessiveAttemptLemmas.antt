@@ -24,7 +24,7 @@ use Rattle.regress_memo.specs.declared.analysis_result.MemoAnalysis.{MemoAnalysi
 use Rattle.regress_memo.specs.WorkBound.{all_keys_cost_per_position, work_per_position, initial_threads}
 use Rattle.regress_memo.specs.AnalysisAsPotentials.{insn_analysis_of, analysis_as_liveness, key_code_questions_of, recorded, potentials_of, key_cost_of}
 use Rattle.regress_memo.specs.CheckedAnalysis.{IsAnalysisOf, IsMemoPlanForText}
-use Rattle.regress_memo.proofs.WorkBoundLemmas.{ledgers-bound, prices-of-all}
+use Rattle.regress_memo.proofs.WorkBoundLemmas.{ledgers-bound, costs-of-all}
 use Rattle.regress_memo.proofs.CheckedAnalysisLemmas.{ledgers-serve}
 use Rattle.regress_memo.specs.Laws.{analysis_keys, ListsExactlyKnownKeys}
 use Rattle.regress_memo.specs.MemoContents.{has_failure, IsEmptyMemo}
@@ -66,8 +66,8 @@ module _ (program : Program) (t : MemoAnalysis) (of : IsAnalysisOf program t) (t
   abbrev served : IsMemoPlanForText program t text
   served = ledgers-serve program t of text is_text bytes less
 
-  abbrev price : Key → ℕ
-  price k = key_cost_of t k.ip
+  abbrev key_cost : Key → ℕ
+  key_cost k = key_cost_of t k.ip
 
   abbrev weight : List Thread → ℕ
   weight ts = potential_by program (potentials_of t) (key_cost_of t) (recorded t) ts
@@ -104,14 +104,14 @@ module _ (program : Program) (t : MemoAnalysis) (of : IsAnalysisOf program t) (t
   -- All threads of an attempt are at or behind its start.
   pub in-order : (at : ℕ) (memory : List Key) (work : ℕ) (now : List Key) (u : Thread) (rest : List Entry) → Come at memory work now (one_thread u ∷ rest) → at ≤ offset_of_thread u
   in-order at memory work now u rest h =
-      (turns-go-on program text (analysis_as_liveness t) (analysis_keys program text t) rightwards price weight memory (initial_threads program at) at work now (one_thread u ∷ rest) refl (first-onward at) h.comes).0
+      (turns-go-on program text (analysis_as_liveness t) (analysis_keys program text t) rightwards key_cost weight memory (initial_threads program at) at work now (one_thread u ∷ rest) refl (first-onward at) h.comes).0
 
   module _ (at done : ℕ) (memory : List Key) (walked : Walked at done memory) (answers : Answered at) (more : ℕ) (now : List Key) (row : List Entry) where
     -- The work bound holds in a search after any number of turns.
     stands-so : Come at memory more now row
-        → turns.KeepsResultWithinPotential program text (analysis_as_liveness t) (analysis_keys program text t) rightwards price weight memory (initial_threads program at) more now row answers.found
+        → turns.KeepsResultWithinPotential program text (analysis_as_liveness t) (analysis_keys program text t) rightwards key_cost weight memory (initial_threads program at) more now row answers.found
     stands-so h =
-        work-is-bounded program text (analysis_as_liveness t) (analysis_keys program text t) served.plan.liveness served.serves.keys rightwards price weight memory (initial_threads program at)
+        work-is-bounded program text (analysis_as_liveness t) (analysis_keys program text t) served.plan.liveness served.serves.keys rightwards key_cost weight memory (initial_threads program at)
         answers.turns answers.found walked.is answers.searches more now row h.comes
 
     still-memory : Come at memory more now row → IsMemory program text (analysis_as_liveness t) (analysis_keys program text t) now
@@ -146,13 +146,13 @@ module _ (program : Program) (t : MemoAnalysis) (of : IsAnalysisOf program t) (t
         let here = (stands-so h).bounded in
         let first = one-weighs program (potentials_of t) (key_cost_of t) (recorded t) (one_thread (running (state_before_first_insn program at))) in
         let cost = places-keys.cost (recorded t) (units text) (plan_codes (key_code_questions_of t)) (key_cost_of t) in
-        let prices = ap (λ p. p * n) (prices-of-all t of.coded) in
+        let costs = ap (λ p. p * n) (costs-of-all t of.coded) in
         let some = mul-one (insn_analysis_of t 0).ready (units text) in
         let a = add-mul (1 + work_per_position t) (all_keys_cost_per_position t + (insn_analysis_of t 0).ready) n in
         let b = add-mul (all_keys_cost_per_position t) (insn_analysis_of t 0).ready n in
         let same : (1 + (work_per_position t + (all_keys_cost_per_position t + (insn_analysis_of t 0).ready))) * n ≡ (1 + work_per_position t + (all_keys_cost_per_position t + (insn_analysis_of t 0).ready)) * n = ap (λ m. m * n) (omega arith) in
         let its : (0 + 1 + work_per_position t) * n ≡ (1 + work_per_position t) * n = ap (λ m. m * n) (omega arith) in
-        omega (arith, before, here, first, cost, prices, some, a, b, same, its)
+        omega (arith, before, here, first, cost, costs, some, a, b, same, its)
       where
         mul-one : (r u : ℕ) → r ≤ r * (u + 1)
         mul-one r u = let m = mul-add r u 1 in omega (arith, m)

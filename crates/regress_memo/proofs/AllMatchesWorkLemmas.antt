@@ -17,25 +17,25 @@ use Rattle.regress_memo.specs.MemoSearch.{Key, Keys, Entry, one_thread, thread_g
 use Rattle.regress_memo.specs.AllMatchesWork.{Searched, at_first, failed, found, AllMatchesWorkIsBounded, AllMatchesWorkIsLinear}
 use Rattle.regress_memo.specs.ThreadPotentials.{place_keys}
 use Rattle.regress_memo.proofs.ThreadPotentialLemmas.{places-keys}
-use Rattle.regress_memo.proofs.DistinctListLemmas.{distinct-left, distinct-right, price-few}
+use Rattle.regress_memo.proofs.DistinctListLemmas.{distinct-left, distinct-right, cost-few}
 use Rattle.regress_memo.proofs.MemoSearchLemmas.{work-is-bounded, turns-go-on}
 
--- `times` adds up the prices of keys, each times the cover of its offset.
-abbrev times : (price : Key → ℕ) (cover : ℕ → ℕ) → List Key → ℕ
-times price cover ks = sum_by (λ k. cover k.at * price k) ks
+-- `times` adds up the costs of keys, each times the cover of its offset.
+abbrev times : (key_cost : Key → ℕ) (cover : ℕ → ℕ) → List Key → ℕ
+times key_cost cover ks = sum_by (λ k. cover k.at * key_cost k) ks
 
-times-sum : (price : Key → ℕ) (c e : ℕ → ℕ) (ks : List Key) → times price (λ p. c p + e p) ks ≡ times price c ks + times price e ks
-times-sum price c e [] = refl
-times-sum price c e (k ∷ ks) =
-    let x = sum_by-cons (λ (k : Key). (c k.at + e k.at) * price k) k ks in
-    let y = sum_by-cons (λ (k : Key). c k.at * price k) k ks in
-    let z = sum_by-cons (λ (k : Key). e k.at * price k) k ks in
-    let l = times-sum price c e ks in
+times-sum : (key_cost : Key → ℕ) (c e : ℕ → ℕ) (ks : List Key) → times key_cost (λ p. c p + e p) ks ≡ times key_cost c ks + times key_cost e ks
+times-sum key_cost c e [] = refl
+times-sum key_cost c e (k ∷ ks) =
+    let x = sum_by-cons (λ (k : Key). (c k.at + e k.at) * key_cost k) k ks in
+    let y = sum_by-cons (λ (k : Key). c k.at * key_cost k) k ks in
+    let z = sum_by-cons (λ (k : Key). e k.at * key_cost k) k ks in
+    let l = times-sum key_cost c e ks in
     omega (arith, x, y, z, l)
 
-times-two : (price : Key → ℕ) (ks : List Key) → times price (λ p. 2) ks ≡ 2 * sum_by price ks
-times-two price [] = refl
-times-two price (k ∷ ks) = let x = sum_by-cons (λ (k : Key). 2 * price k) k ks in let y = sum_by-cons price k ks in let l = times-two price ks in omega (arith, x, y, l)
+times-two : (key_cost : Key → ℕ) (ks : List Key) → times key_cost (λ p. 2) ks ≡ 2 * sum_by key_cost ks
+times-two key_cost [] = refl
+times-two key_cost (k ∷ ks) = let x = sum_by-cons (λ (k : Key). 2 * key_cost k) k ks in let y = sum_by-cons key_cost k ks in let l = times-two key_cost ks in omega (arith, x, y, l)
 
 mul-le : (c e p : ℕ) → c ≤ e → c * p ≤ e * p
 mul-le c e p le = mul-le-mul_right p le
@@ -79,16 +79,16 @@ are-between from to (one_thread t ∷ row) h k = are-between from to row h.2 k
 are-between from to (thread_group ts ∷ row) h k = are-between from to row h.1 k
 are-between from to (key_record j ts ∷ row) h k = (record { first = h.0; last = k.0 }, are-between from to row h.1 k.1)
 
-times-between : (price : Key → ℕ) (from to : ℕ) (ks : List Key) → Each (IsBetween from to) ks → times price (between from to) ks ≡ sum_by price ks
-times-between price from to [] h = refl
-times-between price from to (k ∷ ks) h =
-    let x = sum_by-cons (λ (k : Key). between from to k.at * price k) k ks in
-    let y = sum_by-cons price k ks in
-    let l = times-between price from to ks h.1 in
-    let one = ap (λ n. n * price k) (between-one from to k.at h.0.first h.0.last) in
+times-between : (key_cost : Key → ℕ) (from to : ℕ) (ks : List Key) → Each (IsBetween from to) ks → times key_cost (between from to) ks ≡ sum_by key_cost ks
+times-between key_cost from to [] h = refl
+times-between key_cost from to (k ∷ ks) h =
+    let x = sum_by-cons (λ (k : Key). between from to k.at * key_cost k) k ks in
+    let y = sum_by-cons key_cost k ks in
+    let l = times-between key_cost from to ks h.1 in
+    let one = ap (λ n. n * key_cost k) (between-one from to k.at h.0.first h.0.last) in
     omega (arith, x, y, l, one)
 
-module _ (program : Program) (text : Text) (a : Liveness) (keys : Keys) (acc : IsLivenessFor program text a) (are : AreKeys program text a keys) (price : Key → ℕ) (weight : List Thread → ℕ) where
+module _ (program : Program) (text : Text) (a : Liveness) (keys : Keys) (acc : IsLivenessFor program text a) (are : AreKeys program text a keys) (key_cost : Key → ℕ) (weight : List Thread → ℕ) where
   -- A cover counts an offset at most twice, `from` at most once, and no offset behind `from`.
   record IsCover (from : ℕ) (cover : ℕ → ℕ) : Type 0 where
     most : (p : ℕ) → cover p ≤ 2
@@ -99,7 +99,7 @@ module _ (program : Program) (text : Text) (a : Liveness) (keys : Keys) (acc : I
     memory_is : IsMemory program text a keys memory
     cover : ℕ → ℕ
     is_cover : IsCover from cover
-    few : work ≤ ready + sum_by price memory + times price cover keys.all
+    few : work ≤ ready + sum_by key_cost memory + times key_cost cover keys.all
 
   cover-more : (from to next : ℕ) (cover : ℕ → ℕ) → IsCover from cover → to ≤ next → from < next → IsCover next (λ p. cover p + between from to p)
   cover-more from to next cover c le less = record {
@@ -117,7 +117,7 @@ module _ (program : Program) (text : Text) (a : Liveness) (keys : Keys) (acc : I
         ]
       ]
 
-  sums : (from work ready : ℕ) (memory : List Key) → Searched program text a keys price weight from work ready memory → Sum from work ready memory
+  sums : (from work ready : ℕ) (memory : List Key) → Searched program text a keys key_cost weight from work ready memory → Sum from work ready memory
   sums _ _ _ _ at_first = record {
     memory_is = record { known = tt; distinct = tt; inside = tt };
     cover = λ p. 0;
@@ -126,7 +126,7 @@ module _ (program : Program) (text : Text) (a : Liveness) (keys : Keys) (acc : I
   }
   sums _ _ _ _ (failed from work ready more memory now ts turns f s e c) =
       let b = sums from work ready memory s in
-      let h = work-is-bounded program text a keys acc are rightwards price weight memory ts turns f b.memory_is e more now [] c in
+      let h = work-is-bounded program text a keys acc are rightwards key_cost weight memory ts turns f b.memory_is e more now [] c in
       let paid = h.paid in
       let few = b.few in
       record {
@@ -138,17 +138,17 @@ module _ (program : Program) (text : Text) (a : Liveness) (keys : Keys) (acc : I
   sums _ _ _ _ (found from next work ready more memory now t rest ts turns f s e on c le less) =
       let row = one_thread t ∷ rest in
       let to = offset_of_thread t in
-      let onward = turns-go-on program text a keys rightwards price weight memory ts from more now row refl on c in
+      let onward = turns-go-on program text a keys rightwards key_cost weight memory ts from more now row refl on c in
       let between_these = are-between from to rest onward.2 onward.1 in
       let b = sums from work ready memory s in
-      let h = work-is-bounded program text a keys acc are rightwards price weight memory ts turns f b.memory_is e more now row c in
+      let h = work-is-bounded program text a keys acc are rightwards key_cost weight memory ts turns f b.memory_is e more now row c in
       let paid = h.paid in
       let few = b.few in
       let ks = keys_in row in
-      let all = sum_by-append price ks now in
-      let same = times-between price from to ks between_these in
-      let gone = price-few (λ k. between from to k.at * price k) ks keys.all (distinct-left ks now h.stands.distinct) (Each-left (λ j. IsIn j keys.all) ks now h.stands.inside) in
-      let both = times-sum price b.cover (between from to) keys.all in
+      let all = sum_by-append key_cost ks now in
+      let same = times-between key_cost from to ks between_these in
+      let gone = cost-few (λ k. between from to k.at * key_cost k) ks keys.all (distinct-left ks now h.stands.distinct) (Each-left (λ j. IsIn j keys.all) ks now h.stands.inside) in
+      let both = times-sum key_cost b.cover (between from to) keys.all in
       record {
         memory_is = record {
           known = h.stands.known;
@@ -160,22 +160,22 @@ module _ (program : Program) (text : Text) (a : Liveness) (keys : Keys) (acc : I
         few = omega (arith, paid, few, all, same, gone, both);
       }
 
-  together : (from work ready : ℕ) (memory : List Key) → Searched program text a keys price weight from work ready memory → work ≤ ready + 3 * sum_by price keys.all
+  together : (from work ready : ℕ) (memory : List Key) → Searched program text a keys key_cost weight from work ready memory → work ≤ ready + 3 * sum_by key_cost keys.all
   together from work ready memory s =
       let b = sums from work ready memory s in
       let few = b.few in
-      let known = price-few price memory keys.all b.memory_is.distinct b.memory_is.inside in
+      let known = cost-few key_cost memory keys.all b.memory_is.distinct b.memory_is.inside in
       let cover = b.cover in
-      let thrown = sum_by-le-sum_by (λ k. cover k.at * price k) (λ k. 2 * price k) keys.all (λ k. mul-le (cover k.at) 2 (price k) (b.is_cover.most k.at)) in
-      let two = times-two price keys.all in
+      let thrown = sum_by-le-sum_by (λ k. cover k.at * key_cost k) (λ k. 2 * key_cost k) keys.all (λ k. mul-le (cover k.at) 2 (key_cost k) (b.is_cover.most k.at)) in
+      let two = times-two key_cost keys.all in
       omega (arith, few, known, thrown, two)
 
 pub matches-together : AllMatchesWorkIsBounded
-matches-together program text a keys acc are price weight from work ready memory s = together program text a keys acc are price weight from work ready memory s
+matches-together program text a keys acc are key_cost weight from work ready memory s = together program text a keys acc are key_cost weight from work ready memory s
 
 pub linear-in-places : AllMatchesWorkIsLinear
-linear-in-places program text a way ips code codes rows taken acc no_groups tells price weight from work ready memory s =
+linear-in-places program text a way ips code codes rows taken acc no_groups tells key_cost weight from work ready memory s =
     let keys = place_keys program code way ips (units text) codes rows taken in
-    let bound = together program text a keys acc (places-keys.are program text a way ips code codes rows taken acc no_groups tells) (λ k. price k.ip) weight from work ready memory s in
-    let cost = ap (λ n. 3 * n) (places-keys.cost ips (units text) codes price) in
+    let bound = together program text a keys acc (places-keys.are program text a way ips code codes rows taken acc no_groups tells) (λ k. key_cost k.ip) weight from work ready memory s in
+    let cost = ap (λ n. 3 * n) (places-keys.cost ips (units text) codes key_cost) in
     omega (arith, bound, cost)

@@ -43,55 +43,55 @@ module _ (w : Potentials) (ip : ℕ) where
       let l = waiting-weigh (s ∷ ss) h in
       omega (arith, a, b, l)
 
-module _ (program : Program) (w : Potentials) (price : ℕ → ℕ) (ips : List ℕ) where
+module _ (program : Program) (w : Potentials) (key_cost : ℕ → ℕ) (ips : List ℕ) where
   abbrev weight : List Thread → ℕ
-  weight ts = potential_by program w price ips ts
+  weight ts = potential_by program w key_cost ips ts
 
   abbrev cost : Key → ℕ
-  cost k = price k.ip
+  cost k = key_cost k.ip
 
-  scan-weighs : (s : State) (least most : ℕ) (ss : List State) → LimitedRunIsPaid program w price ips least most s.ip
+  scan-weighs : (s : State) (least most : ℕ) (ss : List State) → LimitedRunIsPaid program w key_cost ips least most s.ip
       → length ss ≤ most + 1 - least → Each (λ t. t.ip ≡ s.ip + 2) ss
       → most + 1 + sum_by (entry_potential weight) (thread_entries (first_running_and_others_waiting ss)) ≤ w.left s.ip
   scan-weighs s least most ss enough few there =
-      let x = tries-weigh program w price ips (first_running_and_others_waiting ss) in
+      let x = tries-weigh program w key_cost ips (first_running_and_others_waiting ss) in
       let y = in-turn-weigh w (s.ip + 2) ss there in
       let z = mul-le-mul_right (w.at (s.ip + 2) + 1) few in
       omega (arith, enough, x, y, z)
 
-  scan-paid : AreCostsCovered program w price ips → (code : State → ℕ) (s : State) (least most : ℕ)
-      → LimitedRunIsPaid program w price ips least most s.ip → ScanIsPaid program w price ips code s least most
+  scan-paid : AreCostsCovered program w key_cost ips → (code : State → ℕ) (s : State) (least most : ℕ)
+      → LimitedRunIsPaid program w key_cost ips least most s.ip → ScanIsPaid program w key_cost ips code s least most
   scan-paid paid code s least most enough = record {
     passed = λ n ss le few there off.
-        let x = one-weighs program w price ips (one_thread (running s)) in
+        let x = one-weighs program w key_cost ips (one_thread (running s)) in
         let y = scan-weighs s least most ss enough few there in
         let z = paid.passed s.ip off in
         omega (arith, x, y, z, le);
     recorded = λ n ss le few there on.
         let k = key_of code s in
-        let x = one-weighs program w price ips (one_thread (running s)) in
+        let x = one-weighs program w key_cost ips (one_thread (running s)) in
         let y = scan-weighs s least most ss enough few there in
         let z = paid.recorded s.ip on in
         let more = sum_by-append (entry_potential weight) (thread_entries (first_running_and_others_waiting ss)) (key_record k (running s ∷ []) ∷ []) in
-        let one = one-weighs program w price ips (key_record k (running s ∷ [])) in
+        let one = one-weighs program w key_cost ips (key_record k (running s ∷ [])) in
         let its = ap (sum_by cost) (keys-bare (thread_entries (first_running_and_others_waiting ss)) (key_record k (running s ∷ []) ∷ []) (bare-tries (first_running_and_others_waiting ss))) in
         let last = sum_by-cons cost k [] in
         omega (arith, x, y, z, more, one, its, last, le);
   }
 
-  end-paid : (s : State) → EndIsPaid program w price ips s
+  end-paid : (s : State) → EndIsPaid program w key_cost ips s
   end-paid s = record {
-    known = λ some. let x = one-weighs program w price ips (one_thread (running s)) in omega (arith, x, some);
+    known = λ some. let x = one-weighs program w key_cost ips (one_thread (running s)) in omega (arith, x, some);
     short = λ least n paid le.
-        let x = one-weighs program w price ips (one_thread (running s)) in let y = paid.ready in omega (arith, x, y, le);
+        let x = one-weighs program w key_cost ips (one_thread (running s)) in let y = paid.ready in omega (arith, x, y, le);
     short_lazy = λ least n paid le.
-        let x = one-weighs program w price ips (one_thread (running s)) in let y = paid.ready in omega (arith, x, y, le);
+        let x = one-weighs program w key_cost ips (one_thread (running s)) in let y = paid.ready in omega (arith, x, y, le);
   }
 
 pub others-paid : BoundedLoopCostsAreCovered
 others-paid = record {
-  scans = λ program w price ips paid code s least most enough. scan-paid program w price ips paid code s least most enough;
-  ends = λ program w price ips s. end-paid program w price ips s;
+  scans = λ program w key_cost ips paid code s least most enough. scan-paid program w key_cost ips paid code s least most enough;
+  ends = λ program w key_cost ips s. end-paid program w key_cost ips s;
 }
 
 -- ---- Char loops that leave threads
@@ -136,15 +136,15 @@ scans-give program text a questions way ips taken plan d memory s = scan-gives p
 -- ---- Lookarounds
 
 pub looks-pay : LookaroundCostsAreCovered
-looks-pay program text a keys d price weight memory row work now learned front entries rest us more comes looked =
+looks-pay program text a keys d key_cost weight memory row work now learned front entries rest us more comes looked =
     let ready = sum_by (entry_potential weight) (thread_entries us) in
     let taught = looked.taught in
     let enough = looked.ready in
-    let known : ReachesBySteps program text a keys d price weight memory row (work + (more - ready)) (learned ++ now) (front ++ rest) =
+    let known : ReachesBySteps program text a keys d key_cost weight memory row (work + (more - ready)) (learned ++ now) (front ++ rest) =
     learns work (more - ready) now learned (front ++ rest) comes looked.learns.known (looked.learns.distinct looked.new looked.distinct)
     looked.learns.inside (omega (arith, taught)) in
-    let on : ReachesBySteps program text a keys d price weight memory row (work + (more - ready) + (1 + (more - (more - ready)))) (learned ++ now) (entries ++ rest) =
+    let on : ReachesBySteps program text a keys d key_cost weight memory row (work + (more - ready) + (1 + (more - (more - ready)))) (learned ++ now) (entries ++ rest) =
     gives (work + (more - ready)) (1 + (more - (more - ready))) (learned ++ now) front entries rest looked.front_bare known looked.gives
     (omega (arith, enough)) in
     let same : work + (more - ready) + (1 + (more - (more - ready))) ≡ work + (1 + more) = omega arith in
-    subst (λ n. ReachesBySteps program text a keys d price weight memory row n (learned ++ now) (entries ++ rest)) same on
+    subst (λ n. ReachesBySteps program text a keys d key_cost weight memory row n (learned ++ now) (entries ++ rest)) same on

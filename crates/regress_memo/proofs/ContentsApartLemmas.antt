@@ -1,5 +1,6 @@
 -- Steps stay inside the contents of a lookaround, or outside of them.
-use Rattle.std.proofs.Common.{◌≡◌, ◌≤◌, ◌<◌, ℕ, ◌+◌, Bool, true, false, not, Option, Some, None, List, [], ◌∷◌, ◌++◌, map, refl, sym, ap, subst, ◌∙◌, arith, sum_by, slice_get, if◌then◌else◌, append_assoc, suc, ◌-◌, reverse, length}
+use Rattle.std.proofs.Common.{◌≡◌, ◌≤◌, ◌<◌, ℕ, ◌+◌, Bool, true, false, not, Option, Some, None, List, [], ◌∷◌, ◌++◌, suc, ◌-◌}
+use Rattle.std.proofs.Common.{map, refl, sym, ap, subst, ◌∙◌, arith, sum_by, slice_get, if◌then◌else◌, append_assoc, reverse, length}
 use Rattle.std.specs.Prelude.{nat_lt}
 use mathlib.Core.Logic.{inl, inr}
 use Rattle.std.proofs.lemmas.Bool.{cases_lt, ltb-true}
@@ -28,7 +29,8 @@ use Rattle.regress_memo.specs.declared.successors.Successors.{Successors}
 use Rattle.regress_memo.specs.declared.successors.Successors.TheVariants.{Ends, One, Two, Enter, Again, Run, LookaroundSuccessor, Same}
 use Rattle.regress_memo.specs.Successors.{DeclaredInsnsEqualProgramInsns, successors_of_insn_if_any}
 use Rattle.regress_memo.specs.CheckedAnalysis.{ip_of}
-use Rattle.regress_memo.specs.ContentsApart.{is_in_contents, is_outside_contents, is_on_side_of, IsApartIfLookaround, RepeatsOnSide, FlowsOnSide, StaysOnSide, IsSide, IsArea, IsApart, ContentsAreApart, AreOnSide, IsSearchApart}
+use Rattle.regress_memo.specs.ContentsApart.{is_in_contents, is_outside_contents, is_on_side_of, IsApartIfLookaround, IsSide, IsArea, IsApart}
+use Rattle.regress_memo.specs.ContentsApart.{RepeatsOnSide, FlowsOnSide, StaysOnSide, ContentsAreApart, AreOnSide, IsSearchApart}
 use Rattle.regress_memo.specs.ContentsApart.{StepStaysOnSide, LoopStaysOnSide, LoopThreadsStayOnSide, StepsStayOnSide, KeysOfContentsAreNotPending}
 use Rattle.regress_memo.proofs.AnalysisCheckLemmas.{EnoughBy, has-enough}
 use Rattle.regress_memo.proofs.ClosedLookaroundLemmas.{run-exits}

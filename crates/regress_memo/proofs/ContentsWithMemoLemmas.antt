@@ -13,7 +13,8 @@ use Rattle.regress_machine.proofs.ExecutorLoopLemmas.{left-ends, left-none}
 use Rattle.regress_memo.specs.Liveness.{Liveness, ReadsAsBytes, outermost}
 use Rattle.regress_memo.specs.SkippedLookarounds.{LookaroundInsn, lookaround_at}
 use Rattle.regress_memo.specs.DistinctLists.{IsIn}
-use Rattle.regress_memo.specs.MemoSearch.{Key, Keys, Entry, one_thread, thread_group, key_record, thread_entries, threads_in, keys_in, IsBare, entry_potential, FindEnd, IsMemory, HoldsInvariant, ReachesBySteps, at_first, gives, reaches, learns}
+use Rattle.regress_memo.specs.MemoSearch.{Key, Keys, Entry, one_thread, thread_group, key_record, thread_entries, threads_in, keys_in, IsBare, entry_potential}
+use Rattle.regress_memo.specs.MemoSearch.{FindEnd, IsMemory, HoldsInvariant, ReachesBySteps, at_first, gives, reaches, learns}
 use Rattle.regress_memo.specs.LookaroundsWithSharedMemo.{AreLearned}
 use Rattle.regress_memo.specs.CappedCharLoops.{IsLookaroundContentsSearched}
 use Rattle.regress_memo.specs.AmortizedStepCosts.{potential_by}
@@ -39,35 +40,35 @@ use Rattle.regress_memo.specs.ThreadPotentials.{is_one_of}
 
 -- ---- Parts of searches
 
-module _ (program : Program) (text : Text) (a : Liveness) (keys : Keys) (d : Direction) (price : Key → ℕ) (weight : List Thread → ℕ) (memory : List Key) (row : List Entry) where
+module _ (program : Program) (text : Text) (a : Liveness) (keys : Keys) (d : Direction) (key_cost : Key → ℕ) (weight : List Thread → ℕ) (memory : List Key) (row : List Entry) where
   abbrev Covered : ℕ → List Key → List Entry → Type 0
-  Covered work now to = work + sum_by (entry_potential weight) to + sum_by price (keys_in row ++ memory) ≤ sum_by (entry_potential weight) row + sum_by price (keys_in to ++ now)
+  Covered work now to = work + sum_by (entry_potential weight) to + sum_by key_cost (keys_in row ++ memory) ≤ sum_by (entry_potential weight) row + sum_by key_cost (keys_in to ++ now)
 
-  part-covered : (work : ℕ) (now : List Key) (to : List Entry) → ReachesBySteps program text a keys d price weight memory row work now to → Covered work now to
+  part-covered : (work : ℕ) (now : List Key) (to : List Entry) → ReachesBySteps program text a keys d key_cost weight memory row work now to → Covered work now to
   part-covered _ _ _ at_first = omega arith
   part-covered _ _ _ (gives work more now front entries rest b c g paid) =
       let before = part-covered work now (front ++ rest) c in
       let x = sum_by-append (entry_potential weight) front rest in
       let z = sum_by-append (entry_potential weight) entries rest in
-      let k = ap (λ ks. sum_by price (ks ++ now)) (keys-bare front rest b) in
-      let l = ap (λ ks. sum_by price (ks ++ now)) (keys-joined entries rest) in
-      let o = ap (sum_by price) (append_assoc (keys_in entries) (keys_in rest) now) in
-      let p = sum_by-append price (keys_in entries) (keys_in rest ++ now) in
+      let k = ap (λ ks. sum_by key_cost (ks ++ now)) (keys-bare front rest b) in
+      let l = ap (λ ks. sum_by key_cost (ks ++ now)) (keys-joined entries rest) in
+      let o = ap (sum_by key_cost) (append_assoc (keys_in entries) (keys_in rest) now) in
+      let p = sum_by-append key_cost (keys_in entries) (keys_in rest ++ now) in
       omega (arith, before, paid, x, z, k, l, o, p)
   part-covered _ _ _ (reaches work now k us rest c) =
       let before = part-covered work now (key_record k us ∷ rest) c in
       let x = sum_by-cons (entry_potential weight) (key_record k us) rest in
-      let y = sum-moved price k (keys_in rest) now in
+      let y = sum-moved key_cost k (keys_in rest) now in
       omega (arith, before, x, y)
   part-covered _ _ _ (learns work more now new rest c known distinct inside paid) =
       let before = part-covered work now rest c in
-      let x = sum_by-append price (keys_in rest) now in
-      let y = sum_by-append price (keys_in rest) (new ++ now) in
-      let z = sum_by-append price new now in
+      let x = sum_by-append key_cost (keys_in rest) now in
+      let y = sum_by-append key_cost (keys_in rest) (new ++ now) in
+      let z = sum_by-append key_cost new now in
       omega (arith, before, paid, x, y, z)
 
 pub parts-covered : PartsOfSearchesAreCovered
-parts-covered program text a keys d price weight memory row work now to c = part-covered program text a keys d price weight memory row work now to c
+parts-covered program text a keys d key_cost weight memory row work now to c = part-covered program text a keys d key_cost weight memory row work now to c
 
 -- ---- What is known of a search
 
@@ -81,8 +82,8 @@ module _ (program : Program) (t : MemoAnalysis) (of : IsAnalysisOf program t) (t
   abbrev keys : Keys
   keys = analysis_keys program text t
 
-  abbrev price : Key → ℕ
-  price k = key_cost_of t k.ip
+  abbrev key_cost : Key → ℕ
+  key_cost k = key_cost_of t k.ip
 
   abbrev weight : List Thread → ℕ
   weight ts = potential_by program (potentials_of t) (key_cost_of t) (recorded t) ts
@@ -90,7 +91,7 @@ module _ (program : Program) (t : MemoAnalysis) (of : IsAnalysisOf program t) (t
   module _ (side : ℕ → Bool) (d : Direction) (memory : List Key) (first : List Thread) (work : ℕ) (now : List Key) (row : List Entry) (h : HasComeTo program text t side d memory first work now row)
       (turns : ℕ) (f : Found) (e : search program text turns d first ≡ Some f) where
     abbrev stands : HoldsInvariant program text a keys d now row f
-    stands = (work-is-bounded program text a keys served.plan.liveness served.serves.keys d price weight memory first turns f h.is_memory e work now row h.comes.comes).stands
+    stands = (work-is-bounded program text a keys served.plan.liveness served.serves.keys d key_cost weight memory first turns f h.is_memory e work now row h.comes.comes).stands
 
     memory-stays : HoldsInvariant program text a keys d now row f → IsMemory program text a keys now
     memory-stays s = record {

@@ -14,12 +14,12 @@ module _ {K : Type 0} where
   without k (j ∷ all) (inl e) = all
   without k (j ∷ all) (inr h) = j ∷ without k all h
 
-  sum-without : (price : K → ℕ) (k : K) (all : List K) (h : IsIn k all) → price k + sum_by price (without k all h) ≡ sum_by price all
+  sum-without : (key_cost : K → ℕ) (k : K) (all : List K) (h : IsIn k all) → key_cost k + sum_by key_cost (without k all h) ≡ sum_by key_cost all
   unfolding without
-  sum-without price k [] h = absurd h
-  sum-without price k (j ∷ all) (inl e) = ap (λ i. price i + sum_by price all) (sym e) ∙ sym (sum_by-cons price j all)
-  sum-without price k (j ∷ all) (inr h) =
-      let a = sum-without price k all h in let b = sum_by-cons price j all in let c = sum_by-cons price j (without k all h) in omega (arith, a, b, c)
+  sum-without key_cost k [] h = absurd h
+  sum-without key_cost k (j ∷ all) (inl e) = ap (λ i. key_cost i + sum_by key_cost all) (sym e) ∙ sym (sum_by-cons key_cost j all)
+  sum-without key_cost k (j ∷ all) (inr h) =
+      let a = sum-without key_cost k all h in let b = sum_by-cons key_cost j all in let c = sum_by-cons key_cost j (without k all h) in omega (arith, a, b, c)
 
   in-without : (k : K) (all : List K) (h : IsIn k all) (i : K) → (i ≡ k → ⊥) → IsIn i all → IsIn i (without k all h)
   unfolding without
@@ -33,12 +33,12 @@ module _ {K : Type 0} where
   are-without k all h [] new there = tt
   are-without k all h (i ∷ ks) new there = (in-without k all h i new.0 there.0, are-without k all h ks new.1 there.1)
 
-  pub price-few : (price : K → ℕ) (ks all : List K) → AreDistinct ks → AreIn ks all → sum_by price ks ≤ sum_by price all
-  price-few price [] all distinct there = omega arith
-  price-few price (k ∷ ks) all distinct there =
-      let less = price-few price ks (without k all there.0) distinct.1 (are-without k all there.0 ks distinct.0 there.1) in
-      let a = sum-without price k all there.0 in
-      let b = sum_by-cons price k ks in
+  pub cost-few : (key_cost : K → ℕ) (ks all : List K) → AreDistinct ks → AreIn ks all → sum_by key_cost ks ≤ sum_by key_cost all
+  cost-few key_cost [] all distinct there = omega arith
+  cost-few key_cost (k ∷ ks) all distinct there =
+      let less = cost-few key_cost ks (without k all there.0) distinct.1 (are-without k all there.0 ks distinct.0 there.1) in
+      let a = sum-without key_cost k all there.0 in
+      let b = sum_by-cons key_cost k ks in
       omega (arith, less, a, b)
 
   sum-ones : (ks : List K) → sum_by (λ k. 1) ks ≡ length ks
@@ -46,7 +46,7 @@ module _ {K : Type 0} where
   sum-ones (k ∷ ks) = let a = sum_by-cons (λ (k : K). 1) k ks in let b = sum-ones ks in omega (arith, a, b)
 
   few-number : (ks all : List K) → AreDistinct ks → AreIn ks all → length ks ≤ length all
-  few-number ks all distinct there = let few = price-few (λ k. 1) ks all distinct there in let a = sum-ones ks in let b = sum-ones all in omega (arith, few, a, b)
+  few-number ks all distinct there = let few = cost-few (λ k. 1) ks all distinct there in let a = sum-ones ks in let b = sum-ones all in omega (arith, few, a, b)
 
   -- ---- Joined lists
 
@@ -69,12 +69,12 @@ module _ {K : Type 0} where
   pub in-moved : (k : K) (xs ys all : List K) → AreIn (k ∷ (xs ++ ys)) all → AreIn (xs ++ k ∷ ys) all
   in-moved k xs ys all h = Each-append (λ j. IsIn j all) xs (k ∷ ys) (Each-left (λ j. IsIn j all) xs ys h.1) (h.0, Each-right (λ j. IsIn j all) xs ys h.1)
 
-  pub sum-moved : (price : K → ℕ) (k : K) (xs ys : List K) → sum_by price (xs ++ k ∷ ys) ≡ sum_by price (k ∷ (xs ++ ys))
-  sum-moved price k xs ys =
-      let a = sum_by-append price xs (k ∷ ys) in
-      let b = sum_by-cons price k ys in
-      let c = sum_by-cons price k (xs ++ ys) in
-      let e = sum_by-append price xs ys in
+  pub sum-moved : (key_cost : K → ℕ) (k : K) (xs ys : List K) → sum_by key_cost (xs ++ k ∷ ys) ≡ sum_by key_cost (k ∷ (xs ++ ys))
+  sum-moved key_cost k xs ys =
+      let a = sum_by-append key_cost xs (k ∷ ys) in
+      let b = sum_by-cons key_cost k ys in
+      let c = sum_by-cons key_cost k (xs ++ ys) in
+      let e = sum_by-append key_cost xs ys in
       omega (arith, a, b, c, e)
 
   -- Joined lists are distinct if both are and none has an element of the other.
@@ -90,6 +90,6 @@ module _ {K : Type 0} where
 
 pub distinct-few : DistinctKeysCostAtMostList
 distinct-few = record {
-  price = λ price ks all distinct there. price-few price ks all distinct there;
+  cost = λ key_cost ks all distinct there. cost-few key_cost ks all distinct there;
   number = λ ks all distinct there. few-number ks all distinct there;
 }

@@ -112,9 +112,9 @@ plans-serve program text a questions way ips taken plan =
       keys = are;
       gives = λ d memory s. thread-gives program text a questions way ips taken plan memory s d;
       looks = λ d memory s look is. look-gives program text a questions way ips taken plan memory s d look is;
-      linear = λ price weight row from next looks work memory starts attempts last le.
-          let few = attempts-few program text a (plan_keys program text a questions way ips taken) plan.liveness are (λ k. price k.ip) weight row from next looks work memory starts attempts in
+      linear = λ key_cost weight row from next looks work memory starts attempts last le.
+          let few = attempts-few program text a (plan_keys program text a questions way ips taken) plan.liveness are (λ k. key_cost k.ip) weight row from next looks work memory starts attempts in
           let bound = few.linear last le in
-          let cost = ap (λ n. 3 * n) (places-keys.cost ips (units text) (plan_codes questions) price) in
+          let cost = ap (λ n. 3 * n) (places-keys.cost ips (units text) (plan_codes questions) key_cost) in
           omega (arith, bound, cost);
     }

@@ -19,7 +19,7 @@ use Rattle.regress_memo.specs.StepSoundness.{IsSoundStep}
 use Rattle.regress_memo.specs.SuccessOfThreadLists.{KeyFailsWhenRecordReached}
 use Rattle.regress_memo.proofs.ThreadsThatFailAlone.{splits}
 use Rattle.regress_memo.proofs.FailingThreadLists.{row-takes, row-shared, same-answers}
-use Rattle.regress_memo.proofs.DistinctListLemmas.{distinct-moved, in-moved, sum-moved, distinct-joined, price-few}
+use Rattle.regress_memo.proofs.DistinctListLemmas.{distinct-moved, in-moved, sum-moved, distinct-joined, cost-few}
 
 -- ---- Rows of entries
 
@@ -199,13 +199,13 @@ module _ (program : Program) (text : Text) (a : Liveness) (keys : Keys) (d : Dir
     opened-answer turns vs f e (thread_group us ∷ xs) h = opened-answer turns vs f e xs h
     opened-answer turns vs f e (key_record k us ∷ xs) h = (answers-first h.0.spent turns us h.0.others ts vs f h.0.comes e, opened-answer turns vs f e xs h.1)
 
-  pub turns-go-on : (price : Key → ℕ) (weight : List Thread → ℕ) (memory : List Key) (ts : List Thread) (from work : ℕ) (now : List Key) (row : List Entry) → d ≡ rightwards → AreOnward from (thread_entries ts)
-      → ReachesBySteps program text a keys d price weight memory (thread_entries ts) work now row → AreOnward from row
-  turns-go-on price weight memory ts from _ _ _ e h at_first = h
-  turns-go-on price weight memory ts from _ _ _ e h (gives work more now front entries rest b c g paid) =
-      onward-turn from d e front entries rest b g.onward (turns-go-on price weight memory ts from work now (front ++ rest) e h c)
-  turns-go-on price weight memory ts from _ _ _ e h (reaches work now k us rest c) = (turns-go-on price weight memory ts from work now (key_record k us ∷ rest) e h c).1
-  turns-go-on price weight memory ts from _ _ _ e h (learns work more now new rest c known distinct inside paid) = turns-go-on price weight memory ts from work now rest e h c
+  pub turns-go-on : (key_cost : Key → ℕ) (weight : List Thread → ℕ) (memory : List Key) (ts : List Thread) (from work : ℕ) (now : List Key) (row : List Entry) → d ≡ rightwards → AreOnward from (thread_entries ts)
+      → ReachesBySteps program text a keys d key_cost weight memory (thread_entries ts) work now row → AreOnward from row
+  turns-go-on key_cost weight memory ts from _ _ _ e h at_first = h
+  turns-go-on key_cost weight memory ts from _ _ _ e h (gives work more now front entries rest b c g paid) =
+      onward-turn from d e front entries rest b g.onward (turns-go-on key_cost weight memory ts from work now (front ++ rest) e h c)
+  turns-go-on key_cost weight memory ts from _ _ _ e h (reaches work now k us rest c) = (turns-go-on key_cost weight memory ts from work now (key_record k us ∷ rest) e h c).1
+  turns-go-on key_cost weight memory ts from _ _ _ e h (learns work more now new rest c known distinct inside paid) = turns-go-on key_cost weight memory ts from work now rest e h c
 
   module _ (acc : IsLivenessFor program text a) (are : AreKeys program text a keys) where
     -- No record below is of a key that is opened.
@@ -334,36 +334,36 @@ module _ (program : Program) (text : Text) (a : Liveness) (keys : Keys) (d : Dir
 
     -- ---- Work of a search
 
-    module _ (price : Key → ℕ) (weight : List Thread → ℕ) (memory : List Key) (ts : List Thread) (n : ℕ) (f : Found) (m : IsMemory program text a keys memory) (e : search program text n d ts ≡ Some f) where
+    module _ (key_cost : Key → ℕ) (weight : List Thread → ℕ) (memory : List Key) (ts : List Thread) (n : ℕ) (f : Found) (m : IsMemory program text a keys memory) (e : search program text n d ts ≡ Some f) where
       abbrev Paid : ℕ → List Key → List Entry → Type 0
-      Paid work now row = work + sum_by (entry_potential weight) row + sum_by price memory ≤ sum_by (entry_potential weight) (thread_entries ts) + sum_by price (keys_in row ++ now)
+      Paid work now row = work + sum_by (entry_potential weight) row + sum_by key_cost memory ≤ sum_by (entry_potential weight) (thread_entries ts) + sum_by key_cost (keys_in row ++ now)
 
-      work-done : (work : ℕ) (now : List Key) (row : List Entry) → ReachesBySteps program text a keys d price weight memory (thread_entries ts) work now row → Holds now row f × Paid work now row
+      work-done : (work : ℕ) (now : List Key) (row : List Entry) → ReachesBySteps program text a keys d key_cost weight memory (thread_entries ts) work now row → Holds now row f × Paid work now row
       work-done _ _ _ at_first =
-          let y = ap (λ ks. sum_by price (ks ++ memory)) (keys-tries ts) in
+          let y = ap (λ ks. sum_by key_cost (ks ++ memory)) (keys-tries ts) in
           (turn-begins memory ts n f m e, omega (arith, y))
       work-done _ _ _ (gives work more now front entries rest b c g paid) =
           let h = work-done work now (front ++ rest) c in
           let before = h.1 in
           let x = sum_by-append (entry_potential weight) front rest in
           let z = sum_by-append (entry_potential weight) entries rest in
-          let k = ap (λ ks. sum_by price (ks ++ now)) (keys-bare front rest b) in
-          let l = ap (λ ks. sum_by price (ks ++ now)) (keys-joined entries rest) in
-          let o = ap (sum_by price) (append_assoc (keys_in entries) (keys_in rest) now) in
-          let p = sum_by-append price (keys_in entries) (keys_in rest ++ now) in
+          let k = ap (λ ks. sum_by key_cost (ks ++ now)) (keys-bare front rest b) in
+          let l = ap (λ ks. sum_by key_cost (ks ++ now)) (keys-joined entries rest) in
+          let o = ap (sum_by key_cost) (append_assoc (keys_in entries) (keys_in rest) now) in
+          let p = sum_by-append key_cost (keys_in entries) (keys_in rest ++ now) in
           (turn-turned now front entries rest f b g h.0, omega (arith, before, paid, x, z, k, l, o, p))
       work-done _ _ _ (reaches work now k us rest c) =
           let h = work-done work now (key_record k us ∷ rest) c in
           let before = h.1 in
           let x = sum_by-cons (entry_potential weight) (key_record k us) rest in
-          let y = sum-moved price k (keys_in rest) now in
+          let y = sum-moved key_cost k (keys_in rest) now in
           (turn-reached now k us rest f h.0, omega (arith, before, x, y))
       work-done _ _ _ (learns work more now new rest c known distinct inside paid) =
           let h = work-done work now rest c in
           let before = h.1 in
-          let x = sum_by-append price (keys_in rest) now in
-          let y = sum_by-append price (keys_in rest) (new ++ now) in
-          let z = sum_by-append price new now in (
+          let x = sum_by-append key_cost (keys_in rest) now in
+          let y = sum_by-append key_cost (keys_in rest) (new ++ now) in
+          let z = sum_by-append key_cost new now in (
             record {
               turns = h.0.turns;
               within = h.0.within;
@@ -378,12 +378,12 @@ module _ (program : Program) (text : Text) (a : Liveness) (keys : Keys) (d : Dir
             omega (arith, before, paid, x, y, z),
           )
 
-      pub work-bounded : (work : ℕ) (now : List Key) (row : List Entry) → ReachesBySteps program text a keys d price weight memory (thread_entries ts) work now row
-          → KeepsResultWithinPotential program text a keys d price weight memory ts work now row f
+      pub work-bounded : (work : ℕ) (now : List Key) (row : List Entry) → ReachesBySteps program text a keys d key_cost weight memory (thread_entries ts) work now row
+          → KeepsResultWithinPotential program text a keys d key_cost weight memory ts work now row f
       work-bounded work now row c =
           let h = work-done work now row c in
           let paid = h.1 in
-          let few = price-few price (keys_in row ++ now) keys.all h.0.distinct h.0.inside in
+          let few = cost-few key_cost (keys_in row ++ now) keys.all h.0.distinct h.0.inside in
           record { stands = h.0; paid = paid; bounded = omega (arith, paid, few) }
 
 -- ---- Laws
@@ -395,10 +395,10 @@ pub turns-right : StepsKeepInvariant
 turns-right program text a keys acc are d = turns-of program text a keys d acc are
 
 pub work-is-bounded : WorkIsBounded
-work-is-bounded program text a keys acc are d price weight memory ts n f m e work now row c = work-bounded program text a keys d acc are price weight memory ts n f m e work now row c
+work-is-bounded program text a keys acc are d key_cost weight memory ts n f m e work now row c = work-bounded program text a keys d acc are key_cost weight memory ts n f m e work now row c
 
 pub turns-onward : RightwardSearchesNeverMoveLeft
-turns-onward program text a keys d price weight memory ts from work now row e h c = turns-go-on program text a keys d price weight memory ts from work now row e h c
+turns-onward program text a keys d key_cost weight memory ts from work now row e h c = turns-go-on program text a keys d key_cost weight memory ts from work now row e h c
 
 pub reached-fail : KeyFailsWhenRecordReached
 reached-fail program text a keys acc are d memory k ts rest f h = record-fails program text a keys d acc are memory k ts rest f h

@@ -4,7 +4,7 @@ use Rattle.std.specs.Prelude.{if◌then◌else◌}
 use Rattle.std.proofs.lemmas.List.Sums.{sum_by-cons, sum_by-append}
 use Rattle.regex_meaning.specs.NumberListHelpers.{numbers_from}
 use Rattle.regress_memo.specs.TotalCostsOfRecordingInsns.{unrecorded, RecordingCostsAreLinear}
-use Rattle.regress_memo.proofs.DistinctListLemmas.{price-few}
+use Rattle.regress_memo.proofs.DistinctListLemmas.{cost-few}
 
 -- ---- Sums over lists
 
@@ -69,8 +69,8 @@ module _ (records : ℕ → Bool) (left : ℕ → ℕ) where
           let b = sum_by-cons bare ip (unrecorded records ips) in
           omega (arith, a, b, l)
 
-pub prices-few : RecordingCostsAreLinear
-prices-few e at left t =
+pub costs-few : RecordingCostsAreLinear
+costs-few e at left t =
     let all = numbers_from 0 e.count in
     let off = bare e.records left in
     let on = held e.records left in
@@ -87,5 +87,5 @@ prices-few e at left t =
     let apart = sum-plus (λ ip. e.own ip + sum_by (λ to. e.before to + 1) (e.to ip)) (λ ip. sum_by off (e.to ip)) all in
     let flat = sum-flat off e.to all in
     let alone = bare-alone e.records left (flat_map e.to all) in
-    let few = price-few off (unrecorded e.records (flat_map e.to all)) all t.one_way t.inside in
+    let few = cost-few off (unrecorded e.records (flat_map e.to all)) all t.one_way t.inside in
     omega (arith, parts, whole, whole', ways, apart, flat, alone, few)

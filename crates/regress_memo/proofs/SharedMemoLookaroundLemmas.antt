@@ -32,8 +32,8 @@ distinct-between xs [] zs h k new = h
 distinct-between xs (y ∷ ys) zs h k new =
     distinct-moved y xs (ys ++ zs) (Each-append (λ j. j ≡ y → ⊥) xs (ys ++ zs) new.0 k.0, distinct-between xs ys zs h k.1 new.1)
 
-module _ (program : Program) (text : Text) (a : Liveness) (keys : Keys) (d : Direction) (price : Key → ℕ) (weight : List Thread → ℕ) (memory : List Key) (row : List Entry) where
-  grows : (work : ℕ) (now : List Key) (to : List Entry) → ReachesBySteps program text a keys d price weight memory row work now to → (new : List Key) × (now ≡ new ++ memory)
+module _ (program : Program) (text : Text) (a : Liveness) (keys : Keys) (d : Direction) (key_cost : Key → ℕ) (weight : List Thread → ℕ) (memory : List Key) (row : List Entry) where
+  grows : (work : ℕ) (now : List Key) (to : List Entry) → ReachesBySteps program text a keys d key_cost weight memory row work now to → (new : List Key) × (now ≡ new ++ memory)
   grows _ _ _ at_first = ([], refl)
   grows _ _ _ (gives work more now front entries rest b c g paid) = grows work now (front ++ rest) c
   grows _ _ _ (reaches work now k us rest c) = let g = grows work now (key_record k us ∷ rest) c in (k ∷ g.0, ap (λ ks. k ∷ ks) g.1)
@@ -41,15 +41,15 @@ module _ (program : Program) (text : Text) (a : Liveness) (keys : Keys) (d : Dir
       let g = grows work now rest c in (new ++ g.0, ap (λ ks. new ++ ks) g.1 ∙ sym (append_assoc new g.0 memory))
 
 pub looks-learn : LookaroundsLearnKeys
-looks-learn program text a keys acc are d price weight outer memory us turns f m e work now row c =
-    let g = grows program text a keys d price weight memory (thread_entries us) work now row c in
-    let h = work-is-bounded program text a keys acc are d price weight memory us turns f m e work now row c in
+looks-learn program text a keys acc are d key_cost weight outer memory us turns f m e work now row c =
+    let g = grows program text a keys d key_cost weight memory (thread_entries us) work now row c in
+    let h = work-is-bounded program text a keys acc are d key_cost weight memory us turns f m e work now row c in
     let new = g.0 in
     let is = g.1 in
     let paid = h.paid in
-    let x = sum_by-append price (keys_in row) now in
-    let y = ap (sum_by price) is ∙ sum_by-append price new memory in
-    let z = sum_by-append price (keys_in row) new in
+    let x = sum_by-append key_cost (keys_in row) now in
+    let y = ap (sum_by key_cost) is ∙ sum_by-append key_cost new memory in
+    let z = sum_by-append key_cost (keys_in row) new in
     let known = Each-left (IsKnown program text a keys) new memory (subst (Each (IsKnown program text a keys)) is h.stands.known) in
     let there = Each-left (λ k. IsIn k keys.all) new memory (subst (λ ks. AreIn ks keys.all) is (Each-right (λ k. IsIn k keys.all) (keys_in row) now h.stands.inside)) in
     let here = Each-left (λ k. IsIn k keys.all) (keys_in row) now h.stands.inside in

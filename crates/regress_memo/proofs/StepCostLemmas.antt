@@ -14,18 +14,18 @@ use Rattle.regress_memo.specs.ThreadPotentials.{Potentials, potential_of, each_n
 use Rattle.regress_memo.specs.LoopDataKeyCodes.{Question, key_of}
 use Rattle.regress_memo.specs.CharLoopExitThreadLists.{passing, greedy_loop_threads, pending_loop_threads}
 use Rattle.regress_memo.specs.UnboundedCharLoops.{key_behind}
-use Rattle.regress_memo.specs.AmortizedStepCosts.{potential_by, IsCostCovered, AreCostsCovered, GreedyLoopIsCovered, GreedyLoopCoversGroup, LazyLoopIsCovered, ThreadIsPaid, places_from, key_on, RunTurnsArePaid, RunsAheadArePaid}
-use Rattle.regress_memo.specs.AmortizedStepCosts.{StepCostsAreCovered}
+use Rattle.regress_memo.specs.AmortizedStepCosts.{potential_by, IsCostCovered, AreCostsCovered, GreedyLoopIsCovered, GreedyLoopCoversGroup, LazyLoopIsCovered}
+use Rattle.regress_memo.specs.AmortizedStepCosts.{ThreadIsPaid, places_from, key_on, RunTurnsArePaid, RunsAheadArePaid, StepCostsAreCovered}
 use Rattle.regress_memo.proofs.MemoSearchLemmas.{keys-bare, keys-tries}
 use Rattle.regress_memo.proofs.MemoPlanLemmas.{bare-tries}
 use Rattle.regress_memo.proofs.ThreadPotentialLemmas.{turns-weighed, runs-pay}
 
-module _ (program : Program) (w : Potentials) (price : ℕ → ℕ) (ips : List ℕ) where
+module _ (program : Program) (w : Potentials) (key_cost : ℕ → ℕ) (ips : List ℕ) where
   abbrev weight : List Thread → ℕ
-  weight ts = potential_by program w price ips ts
+  weight ts = potential_by program w key_cost ips ts
 
   abbrev cost : Key → ℕ
-  cost k = price k.ip
+  cost k = key_cost k.ip
 
   pub tries-weigh : (ts : List Thread) → sum_by (entry_potential weight) (thread_entries ts) ≡ sum_by (potential_of w) ts
   tries-weigh [] = refl
@@ -38,8 +38,8 @@ module _ (program : Program) (w : Potentials) (price : ℕ → ℕ) (ips : List 
   pub one-weighs : (e : Entry) → sum_by (entry_potential weight) (e ∷ []) ≡ entry_potential weight e
   one-weighs e = let x = sum_by-cons (entry_potential weight) e [] in omega (arith, x)
 
-  module _ (paid : AreCostsCovered program w price ips) (text : Text) (code : State → ℕ) (d : Direction) (s : State) where
-    thread-paid : ThreadIsPaid program w price ips text code d s
+  module _ (paid : AreCostsCovered program w key_cost ips) (text : Text) (code : State → ℕ) (d : Direction) (s : State) where
+    thread-paid : ThreadIsPaid program w key_cost ips text code d s
     thread-paid = record {
       taken_up = let x = one-weighs (one_thread (running s)) in let y = one-weighs (one_thread (waiting s)) in omega (arith, x, y);
       turned = λ ts e off.
@@ -63,12 +63,12 @@ module _ (program : Program) (w : Potentials) (price : ℕ → ℕ) (ips : List 
     }
 
   module _ (text : Text) (a : Liveness) (questions : ℕ → List Question) (way : ℕ → Direction) (taken : Key → ℕ) (d : Direction) (test : ℕ → Bool) (s : State) (place least : ℕ)
-      (paid : GreedyLoopIsCovered program w price ips least s.ip) where
+      (paid : GreedyLoopIsCovered program w key_cost ips least s.ip) where
     abbrev pair : ℕ → Thread × Key
     pair n = (waiting (behind text d place s n), key_behind program text a questions way ips taken d test s place n)
 
     abbrev places : ℕ → List (Thread × Key)
-    places count = places_from program w price ips text a questions way taken d test s place least count
+    places count = places_from program w key_cost ips text a questions way taken d test s place least count
 
     abbrev its-key : ℕ → Key
     its-key n = key_behind program text a questions way ips taken d test s place n
@@ -85,7 +85,7 @@ module _ (program : Program) (w : Potentials) (price : ℕ → ℕ) (ips : List 
     so-many count =
         length-map (reverse (numbers_from least count)) pair ∙ length-reverse (numbers_from least count) ∙ length-numbers least count
 
-    run-paid : RunTurnsArePaid program w price ips text a questions way taken d test s place least
+    run-paid : RunTurnsArePaid program w key_cost ips text a questions way taken d test s place least
     run-paid = record {
       known = λ n le.
           let many = so-many (n - least) in
@@ -104,7 +104,7 @@ module _ (program : Program) (w : Potentials) (price : ℕ → ℕ) (ips : List 
     }
 
   module _ (text : Text) (a : Liveness) (questions : ℕ → List Question) (way : ℕ → Direction) (taken : Key → ℕ) (d : Direction) (test : ℕ → Bool) (s : State) (place least : ℕ)
-      (paid : GreedyLoopCoversGroup program w price ips least s.ip) where
+      (paid : GreedyLoopCoversGroup program w key_cost ips least s.ip) where
     exits-weigh : (first count : ℕ) → weight (first_running_and_others_waiting (most_first text d first s 0 count)) ≤ w.at (s.ip + 2)
     exits-weigh first count = by (reverse (numbers_from 0 count))
       where
@@ -112,10 +112,10 @@ module _ (program : Program) (w : Potentials) (price : ℕ → ℕ) (ips : List 
         by [] = omega arith
         by (n ∷ ns) = omega arith
 
-    without-group : GreedyLoopIsCovered program w price ips least s.ip
+    without-group : GreedyLoopIsCovered program w key_cost ips least s.ip
     without-group = let enough = paid.ready in record { ready = omega (arith, enough); places = paid.places }
 
-    ahead-paid : RunsAheadArePaid program w price ips text a questions way taken d test s place least
+    ahead-paid : RunsAheadArePaid program w key_cost ips text a questions way taken d test s place least
     ahead-paid n le =
         let group = greedy_loop_threads text test d 0 (moved text d n place) s in
         let xs = places text a questions way taken d test s place least without-group (n - least) in
@@ -129,15 +129,15 @@ module _ (program : Program) (w : Potentials) (price : ℕ → ℕ) (ips : List 
         omega (arith, pay, x, y, few, enough)
 
   module _ (text : Text) (a : Liveness) (questions : ℕ → List Question) (way : ℕ → Direction) (taken : Key → ℕ) (d : Direction) (test : ℕ → Bool) (s : State) (place least : ℕ)
-      (paid : LazyLoopIsCovered program w price ips least s.ip) where
+      (paid : LazyLoopIsCovered program w key_cost ips least s.ip) where
     abbrev first-key : Key
-    first-key = key_on program w price ips text a questions way taken d test s place least 0
+    first-key = key_on program w key_cost ips text a questions way taken d test s place least 0
 
     kept-weighs : (n count : ℕ) → weight (map waiting (fewest_first text d place s n count)) ≤ w.at (s.ip + 2) + 1
     kept-weighs n zero = omega arith
     kept-weighs n (suc count) = omega arith
 
-    lazy-up : IsCostCovered program w price ips (least + 2) (one_thread (running s) ∷ [])
+    lazy-up : IsCostCovered program w key_cost ips (least + 2) (one_thread (running s) ∷ [])
         (one_thread (running (behind text d place s least)) ∷ thread_group (pending_loop_threads text test d (least + 1) place s) ∷ [])
     lazy-up =
         let first = one-weighs (one_thread (running s)) in
@@ -147,7 +147,7 @@ module _ (program : Program) (w : Potentials) (price : ℕ → ℕ) (ips : List 
         let enough = paid.ready in
         omega (arith, first, x, y, rest, enough)
 
-    lazy-again : IsCostCovered program w price ips 2 (thread_group (pending_loop_threads text test d 0 place s) ∷ [])
+    lazy-again : IsCostCovered program w key_cost ips 2 (thread_group (pending_loop_threads text test d 0 place s) ∷ [])
         (one_thread (running (behind text d place s 0)) ∷ thread_group (pending_loop_threads text test d 1 place s) ∷ key_record first-key (pending_loop_threads text test d 0 place s) ∷ [])
     lazy-again =
         let some : passing text test d place + 1 - 0 ≡ suc (passing text test d place) = omega arith in
@@ -164,13 +164,13 @@ module _ (program : Program) (w : Potentials) (price : ℕ → ℕ) (ips : List 
 
 pub turns-paid : StepCostsAreCovered
 turns-paid = record {
-  threads = λ program w price ips paid text code d s. thread-paid program w price ips paid text code d s;
-  runs = λ program w price ips text a questions way taken d test s place least paid.
-      run-paid program w price ips text a questions way taken d test s place least paid;
-  runs_ahead = λ program w price ips text a questions way taken d test s place least paid.
-      ahead-paid program w price ips text a questions way taken d test s place least paid;
-  lazy_runs = λ program w price ips text a questions way taken d test s place least paid. record {
-    taken_up = lazy-up program w price ips text a questions way taken d test s place least paid;
-    again = lazy-again program w price ips text a questions way taken d test s place least paid;
+  threads = λ program w key_cost ips paid text code d s. thread-paid program w key_cost ips paid text code d s;
+  runs = λ program w key_cost ips text a questions way taken d test s place least paid.
+      run-paid program w key_cost ips text a questions way taken d test s place least paid;
+  runs_ahead = λ program w key_cost ips text a questions way taken d test s place least paid.
+      ahead-paid program w key_cost ips text a questions way taken d test s place least paid;
+  lazy_runs = λ program w key_cost ips text a questions way taken d test s place least paid. record {
+    taken_up = lazy-up program w key_cost ips text a questions way taken d test s place least paid;
+    again = lazy-again program w key_cost ips text a questions way taken d test s place least paid;
   };
 }

@@ -91,18 +91,18 @@ onward-from : (low from : ℕ) (ts : List Thread) → low ≤ from → AreOnward
 onward-from low from [] le h = tt
 onward-from low from (t ∷ ts) le h = let on = h.0 in (omega (arith, on, le), h.1, onward-from low from ts le h.2)
 
-module _ (program : Program) (text : Text) (a : Liveness) (keys : Keys) (price : Key → ℕ) (weight : List Thread → ℕ) (row : ℕ → List Thread) where
+module _ (program : Program) (text : Text) (a : Liveness) (keys : Keys) (key_cost : Key → ℕ) (weight : List Thread → ℕ) (row : ℕ → List Thread) where
   abbrev Tried : (from next looks work : ℕ) (memory : List Key) (starts : List ℕ) → Type 0
-  Tried from next looks work memory starts = Attempted program text a keys price weight row from next looks work memory starts
+  Tried from next looks work memory starts = Attempted program text a keys key_cost weight row from next looks work memory starts
 
   abbrev ready : ℕ → ℕ
-  ready at = ready_at program text a keys price weight row at
+  ready at = ready_at program text a keys key_cost weight row at
 
   -- The work so far is that of searches up to an offset that is at most `from`.
   record Low (from work : ℕ) (memory : List Key) (starts : List ℕ) : Type 0 where
     low : ℕ
     le : low ≤ from
-    searched : Searched program text a keys price weight low work (sum_by ready starts) memory
+    searched : Searched program text a keys key_cost weight low work (sum_by ready starts) memory
 
   record Counts (from next looks work : ℕ) (memory : List Key) (starts : List ℕ) : Type 0 where
     order : from ≤ next
@@ -161,7 +161,7 @@ module _ (program : Program) (text : Text) (a : Liveness) (keys : Keys) (price :
           low = l.low;
           le = l.le;
           searched =
-              subst (λ r. Searched program text a keys price weight l.low (work + more) r now) (one-more next starts)
+              subst (λ r. Searched program text a keys key_cost weight l.low (work + more) r now) (one-more next starts)
               (search-failed l.low work (sum_by ready starts) more memory now (row next) turns f l.searched e comes);
         };
       }
@@ -171,7 +171,7 @@ module _ (program : Program) (text : Text) (a : Liveness) (keys : Keys) (price :
       let looked = c.looked in
       let l = c.searched in
       let low_is = l.le in
-      let onward = turns-go-on program text a keys rightwards price weight memory (row next) next more now (one_thread t ∷ rest) refl stands comes in
+      let onward = turns-go-on program text a keys rightwards key_cost weight memory (row next) next more now (one_thread t ∷ rest) refl stands comes in
       let here = onward.0 in
       let reached : next ≤ on = omega (arith, here, le) in
       record {
@@ -182,16 +182,16 @@ module _ (program : Program) (text : Text) (a : Liveness) (keys : Keys) (price :
           low = on;
           le = omega arith;
           searched =
-              subst (λ r. Searched program text a keys price weight on (work + more) r now) (one-more next starts)
+              subst (λ r. Searched program text a keys key_cost weight on (work + more) r now) (one-more next starts)
               (search-found l.low on work (sum_by ready starts) more memory now t rest (row next) turns f l.searched e
               (onward-from l.low next (row next) (omega (arith, low_is, order)) stands) comes le (omega (arith, low_is, less)));
         };
       }
 
 pub attempts-few : TotalWorkIsBounded
-attempts-few program text a keys acc are price weight row from next looks work memory starts s =
-    let c = counts program text a keys price weight row from next looks work memory starts s in
-    let paid = matches-together program text a keys acc are price weight c.searched.low work _ memory c.searched.searched in
+attempts-few program text a keys acc are key_cost weight row from next looks work memory starts s =
+    let c = counts program text a keys key_cost weight row from next looks work memory starts s in
+    let paid = matches-together program text a keys acc are key_cost weight c.searched.low work _ memory c.searched.searched in
     record {
       twice = λ at.
           let few = c.tried_at (is-it at) in
@@ -204,8 +204,8 @@ attempts-few program text a keys acc are price weight row from next looks work m
       linear = λ last le.
           let order = c.order in
           let looked = c.looked in
-          let few = c.tried_at (λ at. ready_at program text a keys price weight row at) in
-          let here = before-rises (λ at. ready_at program text a keys price weight row at) next (last + 1) (omega (arith, le)) in
-          let there = before-rises (λ at. ready_at program text a keys price weight row at) (from + 1) (last + 1) (omega (arith, order, le)) in
+          let few = c.tried_at (λ at. ready_at program text a keys key_cost weight row at) in
+          let here = before-rises (λ at. ready_at program text a keys key_cost weight row at) next (last + 1) (omega (arith, le)) in
+          let there = before-rises (λ at. ready_at program text a keys key_cost weight row at) (from + 1) (last + 1) (omega (arith, order, le)) in
           omega (arith, paid, few, here, there, looked, order, le);
     }

@@ -361,29 +361,29 @@ in-places top codes ip code at le less (i ∷ ips) h = by (i == ip) refl (λ the
         (subst (λ j. IsIn (place ip code at) (rows-of j top 0 (codes j))) (sym (eqb-true i ip e)) (in-rows ip top code at 0 (codes ip) le (omega arith) (omega (arith, less))))
     by false e later = in-joined-right (place ip code at) (rows-of i top 0 (codes i)) (keys_of_insns_at_offsets ips top codes) (later (ap (λ b. b || is_one_of ips ip) (sym e) ∙ h))
 
-row-sum : (price : ℕ → ℕ) (ip code first count : ℕ) → sum_by (λ (k : Key). price k.ip) (row-of ip code first count) ≡ price ip * count
-row-sum price ip code first zero = omega arith
-row-sum price ip code first (suc count) =
-    let x = sum_by-cons (λ (k : Key). price k.ip) (place ip code first) (row-of ip code (first + 1) count) in
-    let y = row-sum price ip code (first + 1) count in
+row-sum : (key_cost : ℕ → ℕ) (ip code first count : ℕ) → sum_by (λ (k : Key). key_cost k.ip) (row-of ip code first count) ≡ key_cost ip * count
+row-sum key_cost ip code first zero = omega arith
+row-sum key_cost ip code first (suc count) =
+    let x = sum_by-cons (λ (k : Key). key_cost k.ip) (place ip code first) (row-of ip code (first + 1) count) in
+    let y = row-sum key_cost ip code (first + 1) count in
     omega (arith, x, y)
 
-rows-sum : (price : ℕ → ℕ) (ip top first count : ℕ) → sum_by (λ (k : Key). price k.ip) (rows-of ip top first count) ≡ price ip * (count * (top + 1))
-rows-sum price ip top first zero = omega arith
-rows-sum price ip top first (suc count) =
-    let x = sum_by-append (λ (k : Key). price k.ip) (row-of ip first 0 (top + 1)) (rows-of ip top (first + 1) count) in
-    let y = row-sum price ip first 0 (top + 1) in
-    let z = rows-sum price ip top (first + 1) count in
+rows-sum : (key_cost : ℕ → ℕ) (ip top first count : ℕ) → sum_by (λ (k : Key). key_cost k.ip) (rows-of ip top first count) ≡ key_cost ip * (count * (top + 1))
+rows-sum key_cost ip top first zero = omega arith
+rows-sum key_cost ip top first (suc count) =
+    let x = sum_by-append (λ (k : Key). key_cost k.ip) (row-of ip first 0 (top + 1)) (rows-of ip top (first + 1) count) in
+    let y = row-sum key_cost ip first 0 (top + 1) in
+    let z = rows-sum key_cost ip top (first + 1) count in
     omega (arith, x, y, z)
 
-places-cost : (top : ℕ) (codes price : ℕ → ℕ) (ips : List ℕ)
-    → sum_by (λ (k : Key). price k.ip) (keys_of_insns_at_offsets ips top codes) ≡ sum_by (λ ip. price ip * codes ip) ips * (top + 1)
-places-cost top codes price [] = omega arith
-places-cost top codes price (ip ∷ ips) =
-    let x = sum_by-append (λ (k : Key). price k.ip) (rows-of ip top 0 (codes ip)) (keys_of_insns_at_offsets ips top codes) in
-    let y = rows-sum price ip top 0 (codes ip) in
-    let z = places-cost top codes price ips in
-    let c = ap (λ n. n * (top + 1)) (sum_by-cons (λ ip. price ip * codes ip) ip ips) in
+places-cost : (top : ℕ) (codes key_cost : ℕ → ℕ) (ips : List ℕ)
+    → sum_by (λ (k : Key). key_cost k.ip) (keys_of_insns_at_offsets ips top codes) ≡ sum_by (λ ip. key_cost ip * codes ip) ips * (top + 1)
+places-cost top codes key_cost [] = omega arith
+places-cost top codes key_cost (ip ∷ ips) =
+    let x = sum_by-append (λ (k : Key). key_cost k.ip) (rows-of ip top 0 (codes ip)) (keys_of_insns_at_offsets ips top codes) in
+    let y = rows-sum key_cost ip top 0 (codes ip) in
+    let z = places-cost top codes key_cost ips in
+    let c = ap (λ n. n * (top + 1)) (sum_by-cons (λ ip. key_cost ip * codes ip) ip ips) in
     omega (arith, x, y, z, c)
 
 module _ (program : Program) (text : Text) (a : Liveness) (no_groups : NoGroupsAreLive a) (code_of : State → ℕ) (tells : Distinguishes a (units text) code_of) where
@@ -505,7 +505,7 @@ module _ (program : Program) (text : Text) (a : Liveness) (no_groups : NoGroupsA
 pub places-keys : OffsetsAndCodesAreKeys
 places-keys = record {
   are = λ program text a way ips code codes rows taken acc no_groups tells. places-are program text a no_groups code tells way ips codes rows taken;
-  cost = λ ips top codes price. places-cost top codes price ips;
+  cost = λ ips top codes key_cost. places-cost top codes key_cost ips;
   alone = λ a top alone. record {
     tells = λ d s t p q place same. record {
       place = place;
@@ -518,12 +518,12 @@ places-keys = record {
 -- ---- Steps of char loops
 
 pub runs-pay : KeysCoverRecordedExits
-runs-pay price weight known [] first ready more le few each = omega (arith, le, few)
-runs-pay price weight known (x ∷ xs) first ready more le few each =
+runs-pay key_cost weight known [] first ready more le few each = omega (arith, le, few)
+runs-pay key_cost weight known (x ∷ xs) first ready more le few each =
     let above = known ++ x.0 ∷ [] in
     let p = sum_by-cons (entry_potential weight) (one_thread x.0) (key_record x.1 above ∷ each_noted above xs) in
     let q = sum_by-cons (entry_potential weight) (key_record x.1 above) (each_noted above xs) in
-    let r = sum_by-cons price x.1 (keys_in (each_noted above xs)) in
-    let l = runs-pay price weight above xs first ready (first + length xs) le (omega arith) each.1 in
+    let r = sum_by-cons key_cost x.1 (keys_in (each_noted above xs)) in
+    let l = runs-pay key_cost weight above xs first ready (first + length xs) le (omega arith) each.1 in
     let one = each.0 in
     omega (arith, p, q, r, l, one, few)

@@ -14,7 +14,7 @@ use Rattle.regress_program.specs.declared.instructions.Insn as declared
 use Rattle.regress_memo.specs.SkippedLookarounds.{LookaroundInsn, lookaround_at}
 use Rattle.regress_machine.specs.SearchFindsFirstOutcomeAtPlace.{state_before_first_insn}
 use Rattle.regress_machine.specs.Machine.{running}
-use Rattle.regress_memo.specs.DelayedMemoizationWorkBudget.{price_at_one, enough_for_one}
+use Rattle.regress_memo.specs.DelayedMemoizationWorkBudget.{all_keys_cost_at_one_offset, enough_for_one}
 use Rattle.regress_memo.specs.LoopDataKeyCodes.{plan_codes}
 use Rattle.regress_memo.specs.AmortizedStepCosts.{potential_by}
 use Rattle.regress_memo.specs.MemoPlanChecksAndGuarantees.{plan_steps_below_record}
@@ -32,14 +32,14 @@ use Rattle.regress_memo.specs.WorkBound.{LookIsBounded, InsnIsBounded, IsStepWor
 use Rattle.regress_memo.specs.WorkBound.{AnalysesBoundTotalWork}
 use Rattle.regress_memo.proofs.CheckedAnalysisLemmas.{ledgers-serve}
 
--- The costs of instructions that record add up to the prices of their lines.
+-- The costs of instructions that record add up to the key costs of their lines.
 pub of-lines : (f : ℕ → ℕ) (first : ℕ) (lines : List InsnAnalysis)
-    → ((i : ℕ) (x : InsnAnalysis) → slice_get lines i ≡ Some x → x.records ≡ true → f (first + i) ≡ x.price * x.codes)
+    → ((i : ℕ) (x : InsnAnalysis) → slice_get lines i ≡ Some x → x.records ≡ true → f (first + i) ≡ x.key_cost * x.codes)
     → sum_by f (recorded_from first lines) ≡ sum_by insn_keys_cost_per_position lines
 of-lines f first [] same = omega arith
 of-lines f first (x ∷ lines) same = by x.records refl (of-lines f (first + 1) lines next)
   where
-    next : (i : ℕ) (y : InsnAnalysis) → slice_get lines i ≡ Some y → y.records ≡ true → f (first + 1 + i) ≡ y.price * y.codes
+    next : (i : ℕ) (y : InsnAnalysis) → slice_get lines i ≡ Some y → y.records ≡ true → f (first + 1 + i) ≡ y.key_cost * y.codes
     next i y e on = let at : first + 1 + i ≡ first + suc i = omega arith in ap f at ∙ same (suc i) y e on
 
     by : (b : Bool) → x.records ≡ b → sum_by f (recorded_from (first + 1) lines) ≡ sum_by insn_keys_cost_per_position lines
@@ -50,11 +50,11 @@ of-lines f first (x ∷ lines) same = by x.records refl (of-lines f (first + 1) 
         let at : first + 0 ≡ first = omega arith in
         let here = same 0 x refl e in
         let there = ap f at in
-        let its : insn_keys_cost_per_position x ≡ x.price * x.codes = ap (λ b. if b then x.price * x.codes else 0) e in
+        let its : insn_keys_cost_per_position x ≡ x.key_cost * x.codes = ap (λ b. if b then x.key_cost * x.codes else 0) e in
         omega (arith, a, b, here, there, its, l)
     by false e l =
         let b = sum_by-cons insn_keys_cost_per_position x lines in
-        let its : insn_keys_cost_per_position x ≡ 0 = ap (λ b. if b then x.price * x.codes else 0) e in
+        let its : insn_keys_cost_per_position x ≡ 0 = ap (λ b. if b then x.key_cost * x.codes else 0) e in
         omega (arith, b, its, l)
 
 nothing : (i : ℕ) (x : InsnAnalysis) → slice_get [] i ≡ Some x → ⊥
@@ -69,15 +69,15 @@ module _ (t : MemoAnalysis) (coded : HasDisjointCodes t) where
   abbrev cost : ℕ → ℕ
   cost ip = key_cost_of t ip * plan_codes (key_code_questions_of t) ip
 
-  as-written : (i : ℕ) (x : InsnAnalysis) → slice_get t.lines.items i ≡ Some x → x.records ≡ true → cost (0 + i) ≡ x.price * x.codes
+  as-written : (i : ℕ) (x : InsnAnalysis) → slice_get t.lines.items i ≡ Some x → x.records ≡ true → cost (0 + i) ≡ x.key_cost * x.codes
   as-written i x e on =
       let at : 0 + i ≡ i = omega arith in
       let there : insn_analysis_of t i ≡ x = ap (λ o. unwrap_or o no_insn_analysis) e in
       let codes : plan_codes (key_code_questions_of t) i ≡ x.codes = coded.counted i (inside t.lines.items i x e) ∙ ap (λ (y : InsnAnalysis). y.codes) there in
-      ap cost at ∙ ap (λ (y : InsnAnalysis). y.price * plan_codes (key_code_questions_of t) i) there ∙ ap (λ n. x.price * n) codes
+      ap cost at ∙ ap (λ (y : InsnAnalysis). y.key_cost * plan_codes (key_code_questions_of t) i) there ∙ ap (λ n. x.key_cost * n) codes
 
-  pub prices-of-all : price_at_one (key_code_questions_of t) (recorded t) (key_cost_of t) ≡ all_keys_cost_per_position t
-  prices-of-all = of-lines cost 0 t.lines.items as-written
+  pub costs-of-all : all_keys_cost_at_one_offset (key_code_questions_of t) (recorded t) (key_cost_of t) ≡ all_keys_cost_per_position t
+  costs-of-all = of-lines cost 0 t.lines.items as-written
 
 pub ledgers-bound : AnalysesBoundTotalWork
 ledgers-bound program t of text is_text bytes less at_first work stages =
@@ -85,37 +85,37 @@ ledgers-bound program t of text is_text bytes less at_first work stages =
     let enough = budgets-enough program text (analysis_as_liveness t) (key_code_questions_of t) (insn_direction t) (recorded t) (plan_steps_below_record program) (key_cost_of t)
     (potential_by program (potentials_of t) (key_cost_of t) (recorded t)) (initial_threads program) plan at_first (insn_analysis_of t 0).ready work
     (λ at. let x = one-weighs program (potentials_of t) (key_cost_of t) (recorded t) (one_thread (running (state_before_first_insn program at))) in omega (arith, x)) stages in
-    let same = prices-of-all t of.coded in
-    let number : enough_for_one at_first (insn_analysis_of t 0).ready (price_at_one (key_code_questions_of t) (recorded t) (key_cost_of t)) ≡ at_first + 1 + work_per_position t =
+    let same = costs-of-all t of.coded in
+    let number : enough_for_one at_first (insn_analysis_of t 0).ready (all_keys_cost_at_one_offset (key_code_questions_of t) (recorded t) (key_cost_of t)) ≡ at_first + 1 + work_per_position t =
     omega (arith, same) in
     let all = ap (λ n. n * (units text + 1)) number in
     omega (arith, enough, all)
 
--- The prices of the first lines and of the next one add up to those of one line more.
-pub price-more : (lines : List InsnAnalysis) (i : ℕ) (x : InsnAnalysis) → slice_get lines i ≡ Some x
+-- The key costs of the first lines and of the next one add up to those of one line more.
+pub cost-more : (lines : List InsnAnalysis) (i : ℕ) (x : InsnAnalysis) → slice_get lines i ≡ Some x
     → sum_by insn_keys_cost_per_position (take (i + 1) lines) ≡ sum_by insn_keys_cost_per_position (take i lines) + insn_keys_cost_per_position x
-price-more [] i x e = absurd (nothing i x e)
-price-more (y ∷ lines) zero x e =
+cost-more [] i x e = absurd (nothing i x e)
+cost-more (y ∷ lines) zero x e =
     let a = sum_by-cons insn_keys_cost_per_position y [] in
     let same : y ≡ x = cc in
     let its = ap insn_keys_cost_per_position same in
     omega (arith, a, its)
-price-more (y ∷ lines) (suc i) x e =
+cost-more (y ∷ lines) (suc i) x e =
     let at : suc i + 1 ≡ suc (i + 1) = omega arith in
     let on = ap (λ n. sum_by insn_keys_cost_per_position (take n (y ∷ lines))) at in
     let a = sum_by-cons insn_keys_cost_per_position y (take (i + 1) lines) in
     let b = sum_by-cons insn_keys_cost_per_position y (take i lines) in
-    let l = price-more lines i x e in
+    let l = cost-more lines i x e in
     omega (arith, on, a, b, l)
 
-pub price-all : (lines : List InsnAnalysis) (i : ℕ) → length lines ≤ i → sum_by insn_keys_cost_per_position (take i lines) ≡ sum_by insn_keys_cost_per_position lines
-price-all [] zero le = refl
-price-all [] (suc i) le = refl
-price-all (y ∷ lines) zero le = absurd (omega (arith, le))
-price-all (y ∷ lines) (suc i) le =
+pub cost-all : (lines : List InsnAnalysis) (i : ℕ) → length lines ≤ i → sum_by insn_keys_cost_per_position (take i lines) ≡ sum_by insn_keys_cost_per_position lines
+cost-all [] zero le = refl
+cost-all [] (suc i) le = refl
+cost-all (y ∷ lines) zero le = absurd (omega (arith, le))
+cost-all (y ∷ lines) (suc i) le =
     let a = sum_by-cons insn_keys_cost_per_position y (take i lines) in
     let b = sum_by-cons insn_keys_cost_per_position y lines in
-    let l = price-all lines i (omega (arith, le)) in
+    let l = cost-all lines i (omega (arith, le)) in
     omega (arith, a, b, l)
 
 -- ---- Checks of each line

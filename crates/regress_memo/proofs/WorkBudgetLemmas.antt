@@ -7,7 +7,7 @@ use Rattle.regex_meaning.specs.CodeUnitOffsets.{units}
 use Rattle.regress_memo.specs.LoopDataKeyCodes.{plan_codes}
 use Rattle.regress_memo.specs.UnboundedCharLoopMemoKeys.{plan_keys}
 use Rattle.regress_memo.specs.SuccessiveMatches.{ready_at}
-use Rattle.regress_memo.specs.DelayedMemoizationWorkBudget.{price_at_one, WorkBudgetsSuffice}
+use Rattle.regress_memo.specs.DelayedMemoizationWorkBudget.{all_keys_cost_at_one_offset, WorkBudgetsSuffice}
 use Rattle.regress_memo.proofs.SuccessiveMatchLemmas.{attempts-few}
 use Rattle.regress_memo.proofs.MemoPlanLemmas.{plans-serve}
 use Rattle.regress_memo.proofs.RecordingCostLemmas.{sum-le}
@@ -22,17 +22,17 @@ sum-same n first (suc count) =
     omega (arith, a, l, m)
 
 -- The bounds of early and late work add up to a bound of all work.
-whole : (n at_first ready price early late : ℕ) → early ≤ at_first * n + n → late ≤ 3 * (ready * n) + 3 * (price * n)
-    → early + late ≤ (at_first + 1 + 3 * (ready + price)) * n
-whole n at_first ready price early late few more =
-    let a = add-mul (at_first + 1) (3 * (ready + price)) n in
+whole : (n at_first ready key_cost early late : ℕ) → early ≤ at_first * n + n → late ≤ 3 * (ready * n) + 3 * (key_cost * n)
+    → early + late ≤ (at_first + 1 + 3 * (ready + key_cost)) * n
+whole n at_first ready key_cost early late few more =
+    let a = add-mul (at_first + 1) (3 * (ready + key_cost)) n in
     let b = add-mul at_first 1 n in
-    let c = add-mul (ready + ready + ready) (price + price + price) n in
+    let c = add-mul (ready + ready + ready) (key_cost + key_cost + key_cost) n in
     let d = add-mul (ready + ready) ready n in
     let e = add-mul ready ready n in
-    let f = add-mul (price + price) price n in
-    let g = add-mul price price n in
-    let same : 3 * (ready + price) ≡ (ready + ready + ready) + (price + price + price) = omega arith in
+    let f = add-mul (key_cost + key_cost) key_cost n in
+    let g = add-mul key_cost key_cost n in
+    let same : 3 * (ready + key_cost) ≡ (ready + ready + ready) + (key_cost + key_cost + key_cost) = omega arith in
     let h = ap (λ m. m * n) same in
     omega (arith, few, more, a, b, c, d, e, f, g, h)
 
@@ -46,18 +46,18 @@ twice ready top from next low high =
     omega (arith, a, b, c, d)
 
 pub budgets-enough : WorkBudgetsSuffice
-budgets-enough program text a questions way ips taken price weight row plan at_first ready work stands s =
+budgets-enough program text a questions way ips taken key_cost weight row plan at_first ready work stands s =
     let keys = plan_keys program text a questions way ips taken in
     let are = (plans-serve program text a questions way ips taken plan).keys in
-    let few = attempts-few program text a keys plan.liveness are (λ k. price k.ip) weight row s.from s.next s.looks s.late s.memory s.starts s.remembered in
+    let few = attempts-few program text a keys plan.liveness are (λ k. key_cost k.ip) weight row s.from s.next s.looks s.late s.memory s.starts s.remembered in
     let paid = few.paid in
-    let same = sum-le (λ at. ready_at program text a keys (λ k. price k.ip) weight row at) (λ at. ready) stands s.starts in
+    let same = sum-le (λ at. ready_at program text a keys (λ k. key_cost k.ip) weight row at) (λ at. ready) stands s.starts in
     let tried = few.tried_at (λ at. ready) in
     let here = sum-same ready 0 s.next in
     let there = sum-same ready 0 (s.from + 1) in
     let up = twice ready (units text) s.from s.next s.from_inside s.next_inside in
-    let cost = places-keys.cost ips (units text) (plan_codes questions) price in
-    let late : s.late ≤ 3 * (ready * (units text + 1)) + 3 * (price_at_one questions ips price * (units text + 1)) = omega (arith, paid, same, tried, here, there, up, cost) in
+    let cost = places-keys.cost ips (units text) (plan_codes questions) key_cost in
+    let late : s.late ≤ 3 * (ready * (units text + 1)) + 3 * (all_keys_cost_at_one_offset questions ips key_cost * (units text + 1)) = omega (arith, paid, same, tried, here, there, up, cost) in
     let all = s.all in
-    let end = whole (units text + 1) at_first ready (price_at_one questions ips price) s.early s.late s.few late in
+    let end = whole (units text + 1) at_first ready (all_keys_cost_at_one_offset questions ips key_cost) s.early s.late s.few late in
     omega (arith, all, end)

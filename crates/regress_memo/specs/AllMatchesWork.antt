@@ -10,7 +10,7 @@ use Rattle.regress_memo.specs.MemoKeys.{NoGroupsAreLive}
 use Rattle.regress_memo.specs.MemoSearch.{Key, Keys, Entry, one_thread, thread_entries, offset_of_thread, entry_potential, AreOnward, AreKeys, ReachesBySteps}
 use Rattle.regress_memo.specs.ThreadPotentials.{Shape, Distinguishes, place_keys}
 
-module _ (program : Program) (text : Text) (a : Liveness) (keys : Keys) (price : Key → ℕ) (weight : List Thread → ℕ)
+module _ (program : Program) (text : Text) (a : Liveness) (keys : Keys) (key_cost : Key → ℕ) (weight : List Thread → ℕ)
   where
     -- The searches so far. The next match is searched for from offset `from` on, `work` units of
     -- work were done, `ready` is the sum of the initial potentials, and `memory` is the memo table.
@@ -20,7 +20,7 @@ module _ (program : Program) (text : Text) (a : Liveness) (keys : Keys) (price :
       failed : (from work ready more : ℕ) (memory now : List Key) (ts : List Thread) (turns : ℕ) (f : Found)
           → Searched from work ready memory
           → search program text turns rightwards ts ≡ Some f
-          → ReachesBySteps program text a keys rightwards price weight memory (thread_entries ts) more now []
+          → ReachesBySteps program text a keys rightwards key_cost weight memory (thread_entries ts) more now []
           → Searched from (work + more) (ready + sum_by (entry_potential weight) (thread_entries ts)) now
       -- A search that ends at an offset. Its waiting threads and records are discarded. The next
       -- search begins at this offset, or further on if this search began there too.
@@ -28,7 +28,7 @@ module _ (program : Program) (text : Text) (a : Liveness) (keys : Keys) (price :
           (ts : List Thread)
           (turns : ℕ) (f : Found) → Searched from work ready memory
           → search program text turns rightwards ts ≡ Some f → AreOnward from (thread_entries ts)
-          → ReachesBySteps program text a keys rightwards price weight memory (thread_entries ts) more now
+          → ReachesBySteps program text a keys rightwards key_cost weight memory (thread_entries ts) more now
           (one_thread t ∷ rest)
           → offset_of_thread t ≤ next → from < next → Searched next (work + more)
           (ready + sum_by (entry_potential weight) (thread_entries ts)) now
@@ -40,9 +40,9 @@ module _ (program : Program) (text : Text) (a : Liveness) (keys : Keys) (price :
 abbrev pub AllMatchesWorkIsBounded : Type 0
 AllMatchesWorkIsBounded = (program : Program) (text : Text) (a : Liveness) (keys : Keys) → IsLivenessFor program text a
     → AreKeys program text a keys
-    → (price : Key → ℕ) (weight : List Thread → ℕ) (from work ready : ℕ) (memory : List Key)
-    → Searched program text a keys price weight from work ready memory
-    → work ≤ ready + 3 * sum_by price keys.all
+    → (key_cost : Key → ℕ) (weight : List Thread → ℕ) (from work ready : ℕ) (memory : List Key)
+    → Searched program text a keys key_cost weight from work ready memory
+    → work ≤ ready + 3 * sum_by key_cost keys.all
 
 -- The same bound, where the cost of all keys is the sum over recording instructions of cost times
 -- codes, times the number of offsets. If positions alone decide, an instruction has one code.
@@ -50,7 +50,7 @@ abbrev pub AllMatchesWorkIsLinear : Type 0
 AllMatchesWorkIsLinear = (program : Program) (text : Text) (a : Liveness) (way : ℕ → Direction) (ips : List ℕ)
     (code : State → ℕ) (codes : ℕ → ℕ) (rows : Key → List Shape) (taken : Key → ℕ)
     → IsLivenessFor program text a → NoGroupsAreLive a → Distinguishes a (units text) code
-    → (price : ℕ → ℕ) (weight : List Thread → ℕ) (from work ready : ℕ) (memory : List Key)
-    → Searched program text a (place_keys program code way ips (units text) codes rows taken) (λ k. price k.ip) weight
-    from work ready memory
-    → work ≤ ready + 3 * (sum_by (λ ip. price ip * codes ip) ips * (units text + 1))
+    → (key_cost : ℕ → ℕ) (weight : List Thread → ℕ) (from work ready : ℕ) (memory : List Key)
+    → Searched program text a (place_keys program code way ips (units text) codes rows taken) (λ k. key_cost k.ip)
+    weight from work ready memory
+    → work ≤ ready + 3 * (sum_by (λ ip. key_cost ip * codes ip) ips * (units text + 1))

@@ -12,7 +12,7 @@ use Rattle.regress_memo.specs.LoopDataKeyCodes.{Question, key_of}
 use Rattle.regress_memo.specs.CharLoopExitThreadLists.{greedy_loop_threads, pending_loop_threads}
 use Rattle.regress_memo.specs.UnboundedCharLoops.{key_behind, placed}
 
-module _ (program : Program) (w : Potentials) (price : ℕ → ℕ) (ips : List ℕ) where
+module _ (program : Program) (w : Potentials) (key_cost : ℕ → ℕ) (ips : List ℕ) where
   -- The potential of a group of threads that wait together is the potential of its first thread.
   abbrev pub potential_by : List Thread → ℕ
   potential_by [] = 0
@@ -23,7 +23,7 @@ module _ (program : Program) (w : Potentials) (price : ℕ → ℕ) (ips : List 
   abbrev pub IsCostCovered : (work : ℕ) (front entries : List Entry) → Type 0
   IsCostCovered work front entries =
       work + sum_by (entry_potential potential_by) entries
-      ≤ sum_by (entry_potential potential_by) front + sum_by (λ (k : Key). price k.ip) (keys_in entries)
+      ≤ sum_by (entry_potential potential_by) front + sum_by (λ (k : Key). key_cost k.ip) (keys_in entries)
 
   -- ---- Checks of a table
 
@@ -31,25 +31,25 @@ module _ (program : Program) (w : Potentials) (price : ℕ → ℕ) (ips : List 
   -- potential and, if it records, by its cost.
   pub record AreCostsCovered : Type 0 where
     pub enough : AreCovering w program
-    pub recorded : (ip : ℕ) → is_one_of ips ip ≡ true → w.left ip + 2 ≤ w.at ip + price ip
+    pub recorded : (ip : ℕ) → is_one_of ips ip ≡ true → w.left ip + 2 ≤ w.at ip + key_cost ip
     pub passed : (ip : ℕ) → is_one_of ips ip ≡ false → w.left ip + 1 ≤ w.at ip
 
   -- The potential of a greedy char loop without a maximum covers the required characters. The cost
   -- of each key of the loop covers one position and one character.
   pub record GreedyLoopIsCovered (least ip : ℕ) : Type 0 where
     pub ready : least + 2 ≤ w.at ip
-    pub places : w.at (ip + 2) + 3 ≤ price (ip + 1)
+    pub places : w.at (ip + 2) + 3 ≤ key_cost (ip + 1)
 
   -- The potential of a greedy char loop also covers a group of exits.
   pub record GreedyLoopCoversGroup (least ip : ℕ) : Type 0 where
     pub ready : least + 2 + w.at (ip + 2) ≤ w.at ip
-    pub places : w.at (ip + 2) + 3 ≤ price (ip + 1)
+    pub places : w.at (ip + 2) + 3 ≤ key_cost (ip + 1)
 
   -- The potential of a lazy char loop also covers its first position, and the group of the other
   -- positions.
   pub record LazyLoopIsCovered (least ip : ℕ) : Type 0 where
     pub ready : least + 2 + (w.at (ip + 2) + (w.at (ip + 2) + 1)) ≤ w.at ip
-    pub places : w.at (ip + 2) + 3 ≤ price (ip + 1)
+    pub places : w.at (ip + 2) + 3 ≤ key_cost (ip + 1)
 
   -- ---- Steps
 
@@ -104,18 +104,18 @@ module _ (program : Program) (w : Potentials) (price : ℕ → ℕ) (ips : List 
 
 -- If a table passes the checks, it covers the steps of threads and char loops.
 pub record StepCostsAreCovered : Type 0 where
-  pub threads : (program : Program) (w : Potentials) (price : ℕ → ℕ) (ips : List ℕ)
-      → AreCostsCovered program w price ips
-      → (text : Text) (code : State → ℕ) (d : Direction) (s : State) → ThreadIsPaid program w price ips text code d s
-  pub runs : (program : Program) (w : Potentials) (price : ℕ → ℕ) (ips : List ℕ) (text : Text) (a : Liveness)
+  pub threads : (program : Program) (w : Potentials) (key_cost : ℕ → ℕ) (ips : List ℕ)
+      → AreCostsCovered program w key_cost ips
+      → (text : Text) (code : State → ℕ) (d : Direction) (s : State) → ThreadIsPaid program w key_cost ips text code d s
+  pub runs : (program : Program) (w : Potentials) (key_cost : ℕ → ℕ) (ips : List ℕ) (text : Text) (a : Liveness)
       (questions : ℕ → List Question) (way : ℕ → Direction) (taken : Key → ℕ) (d : Direction) (test : ℕ → Bool)
-      (s : State) (place least : ℕ) → GreedyLoopIsCovered program w price ips least s.ip
-      → RunTurnsArePaid program w price ips text a questions way taken d test s place least
-  pub runs_ahead : (program : Program) (w : Potentials) (price : ℕ → ℕ) (ips : List ℕ) (text : Text) (a : Liveness)
+      (s : State) (place least : ℕ) → GreedyLoopIsCovered program w key_cost ips least s.ip
+      → RunTurnsArePaid program w key_cost ips text a questions way taken d test s place least
+  pub runs_ahead : (program : Program) (w : Potentials) (key_cost : ℕ → ℕ) (ips : List ℕ) (text : Text) (a : Liveness)
       (questions : ℕ → List Question) (way : ℕ → Direction) (taken : Key → ℕ) (d : Direction) (test : ℕ → Bool)
-      (s : State) (place least : ℕ) → GreedyLoopCoversGroup program w price ips least s.ip
-      → RunsAheadArePaid program w price ips text a questions way taken d test s place least
-  pub lazy_runs : (program : Program) (w : Potentials) (price : ℕ → ℕ) (ips : List ℕ) (text : Text) (a : Liveness)
+      (s : State) (place least : ℕ) → GreedyLoopCoversGroup program w key_cost ips least s.ip
+      → RunsAheadArePaid program w key_cost ips text a questions way taken d test s place least
+  pub lazy_runs : (program : Program) (w : Potentials) (key_cost : ℕ → ℕ) (ips : List ℕ) (text : Text) (a : Liveness)
       (questions : ℕ → List Question) (way : ℕ → Direction) (taken : Key → ℕ) (d : Direction) (test : ℕ → Bool)
-      (s : State) (place least : ℕ) → LazyLoopIsCovered program w price ips least s.ip
-      → LazyTurnsArePaid program w price ips text a questions way taken d test s place least
+      (s : State) (place least : ℕ) → LazyLoopIsCovered program w key_cost ips least s.ip
+      → LazyTurnsArePaid program w key_cost ips text a questions way taken d test s place least

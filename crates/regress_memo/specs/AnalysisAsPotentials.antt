@@ -24,7 +24,7 @@ no_insn_analysis = record {
   records = false;
   ready = 1;
   left = 0;
-  price = 0;
+  key_cost = 0;
   codes = 1;
   base = 0;
 }
@@ -119,7 +119,7 @@ potentials_of t = record { at = λ ip. (insn_analysis_of t ip).ready; left = λ 
 
 -- The cost of a key at an instruction.
 abbrev pub key_cost_of : MemoAnalysis → (ip : ℕ) → ℕ
-key_cost_of t ip = (insn_analysis_of t ip).price
+key_cost_of t ip = (insn_analysis_of t ip).key_cost
 
 -- The direction in which an instruction is searched.
 abbrev pub insn_direction : MemoAnalysis → (ip : ℕ) → Direction

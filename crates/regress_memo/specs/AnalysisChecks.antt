@@ -113,7 +113,7 @@ module _ (t : MemoAnalysis) where
     pub lazy : b.greedy ≡ false
         → b.least + 2 + ((insn_analysis_of t (ip + 2)).ready + ((insn_analysis_of t (ip + 2)).ready + 1))
         ≤ (insn_analysis_of t ip).ready
-    pub places : (insn_analysis_of t (ip + 2)).ready + 3 ≤ (insn_analysis_of t (ip + 1)).price
+    pub places : (insn_analysis_of t (ip + 2)).ready + 3 ≤ (insn_analysis_of t (ip + 1)).key_cost
 
   -- The potential left by a char loop with a maximum covers each exit and each character.
   abbrev pub CoversBoundedLoop : bounds.CharLoopMinMaxAndGreed → (ip : ℕ) → Type 0
@@ -138,7 +138,7 @@ module _ (t : MemoAnalysis) where
   -- instruction.
   pub record IsInsnCostCovered (ip : ℕ) : Type 0 where
     pub recorded : (insn_analysis_of t ip).records ≡ true
-        → (insn_analysis_of t ip).left + 2 ≤ (insn_analysis_of t ip).ready + (insn_analysis_of t ip).price
+        → (insn_analysis_of t ip).left + 2 ≤ (insn_analysis_of t ip).ready + (insn_analysis_of t ip).key_cost
     pub passed : (insn_analysis_of t ip).records ≡ false
         → (insn_analysis_of t ip).left + 1 ≤ (insn_analysis_of t ip).ready
 

@@ -17,7 +17,7 @@ use Rattle.regress_memo.specs.MemoPlanChecksAndGuarantees.{IsPlan, RecordsNewKey
 
 -- ---- Char loops
 
-module _ (program : Program) (w : Potentials) (price : ℕ → ℕ) (ips : List ℕ) where
+module _ (program : Program) (w : Potentials) (key_cost : ℕ → ℕ) (ips : List ℕ) where
   -- The potential left by a char loop with a maximum covers all of its positions and characters.
   abbrev pub LimitedRunIsPaid : (least most ip : ℕ) → Type 0
   LimitedRunIsPaid least most ip = most + 1 + (most + 1 - least) * (w.at (ip + 2) + 1) ≤ w.left ip
@@ -27,12 +27,12 @@ module _ (program : Program) (w : Potentials) (price : ℕ → ℕ) (ips : List 
     -- The step is covered, with or without a record.
     pub record ScanIsPaid : Type 0 where
       pub passed : (n : ℕ) (ss : List State) → n ≤ most → length ss ≤ most + 1 - least → Each (λ t. t.ip ≡ s.ip + 2) ss
-          → is_one_of ips s.ip ≡ false → IsCostCovered program w price ips (n + 1) (one_thread (running s) ∷ [])
+          → is_one_of ips s.ip ≡ false → IsCostCovered program w key_cost ips (n + 1) (one_thread (running s) ∷ [])
           (thread_entries (first_running_and_others_waiting ss))
       pub recorded : (n : ℕ) (ss : List State) → n ≤ most → length ss ≤ most + 1 - least
           → Each (λ t. t.ip ≡ s.ip + 2) ss
           → is_one_of ips s.ip ≡ true
-          → IsCostCovered program w price ips (n + 1) (one_thread (running s) ∷ [])
+          → IsCostCovered program w key_cost ips (n + 1) (one_thread (running s) ∷ [])
           (thread_entries (first_running_and_others_waiting ss) ++ key_record (key_of code s) (running s ∷ []) ∷ [])
 
   -- Steps that leave no thread: of a thread that is known to fail, and of a char loop with too few
@@ -40,11 +40,11 @@ module _ (program : Program) (w : Potentials) (price : ℕ → ℕ) (ips : List 
   module _ (s : State) where
     -- The step of a thread that fails is covered.
     pub record EndIsPaid : Type 0 where
-      pub known : 1 ≤ w.at s.ip → IsCostCovered program w price ips 1 (one_thread (running s) ∷ []) []
-      pub short : (least n : ℕ) → GreedyLoopIsCovered program w price ips least s.ip → n ≤ least
-          → IsCostCovered program w price ips (n + 2) (one_thread (running s) ∷ []) []
-      pub short_lazy : (least n : ℕ) → LazyLoopIsCovered program w price ips least s.ip → n ≤ least
-          → IsCostCovered program w price ips (n + 2) (one_thread (running s) ∷ []) []
+      pub known : 1 ≤ w.at s.ip → IsCostCovered program w key_cost ips 1 (one_thread (running s) ∷ []) []
+      pub short : (least n : ℕ) → GreedyLoopIsCovered program w key_cost ips least s.ip → n ≤ least
+          → IsCostCovered program w key_cost ips (n + 2) (one_thread (running s) ∷ []) []
+      pub short_lazy : (least n : ℕ) → LazyLoopIsCovered program w key_cost ips least s.ip → n ≤ least
+          → IsCostCovered program w key_cost ips (n + 2) (one_thread (running s) ∷ []) []
 
 module _ (program : Program) (text : Text) (a : Liveness) (questions : ℕ → List Question) (way : ℕ → Direction)
     (ips : List ℕ) (taken : Key → ℕ) (d : Direction) (memory : List Key) (s : State) where
@@ -63,7 +63,7 @@ module _ (program : Program) (text : Text) (a : Liveness) (questions : ℕ → L
 -- learned keys. The costs of these keys and the initial potential cover that work. The potential of
 -- the lookaround covers this initial potential, the threads that the lookaround leaves, and its
 -- step.
-module _ (program : Program) (text : Text) (a : Liveness) (keys : Keys) (d : Direction) (price : Key → ℕ)
+module _ (program : Program) (text : Text) (a : Liveness) (keys : Keys) (d : Direction) (key_cost : Key → ℕ)
     (weight : List Thread → ℕ) where
   -- The search of the contents, its keys, and the step of the lookaround satisfy the conditions
   -- above.
@@ -74,7 +74,7 @@ module _ (program : Program) (text : Text) (a : Liveness) (keys : Keys) (d : Dir
       pub learns : AreLearned program text a keys (front ++ rest) now learned
       pub new : Each (λ k. IsNew k (keys_in (front ++ rest))) learned
       pub distinct : AreDistinct (keys_in (front ++ rest) ++ now)
-      pub taught : more ≤ sum_by (entry_potential weight) (thread_entries us) + sum_by price learned
+      pub taught : more ≤ sum_by (entry_potential weight) (thread_entries us) + sum_by key_cost learned
       pub gives : IsMemoStep program text a keys d (learned ++ now) (threads_in front) entries
       pub ready : 1 + sum_by (entry_potential weight) (thread_entries us) + sum_by (entry_potential weight)
           entries ≤ sum_by (entry_potential weight) front
@@ -85,9 +85,9 @@ module _ (program : Program) (text : Text) (a : Liveness) (keys : Keys) (d : Dir
   LooksComeOn =
       (memory : List Key) (row : List Entry) (work : ℕ) (now learned : List Key) (front entries rest : List Entry)
       (us : List Thread) (more : ℕ)
-      → ReachesBySteps program text a keys d price weight memory row work now (front ++ rest)
+      → ReachesBySteps program text a keys d key_cost weight memory row work now (front ++ rest)
       → IsLookaroundContentsSearched now learned front entries rest us more
-      → ReachesBySteps program text a keys d price weight memory row (work + (1 + more)) (learned ++ now)
+      → ReachesBySteps program text a keys d key_cost weight memory row (work + (1 + more)) (learned ++ now)
       (entries ++ rest)
 
 -- ---- Laws
@@ -95,11 +95,12 @@ module _ (program : Program) (text : Text) (a : Liveness) (keys : Keys) (d : Dir
 -- If a table passes the checks, it covers the steps of char loops with a maximum and of failing
 -- threads.
 pub record BoundedLoopCostsAreCovered : Type 0 where
-  pub scans : (program : Program) (w : Potentials) (price : ℕ → ℕ) (ips : List ℕ) → AreCostsCovered program w price ips
-      → (code : State → ℕ) (s : State) (least most : ℕ) → LimitedRunIsPaid program w price ips least most s.ip
-      → ScanIsPaid program w price ips code s least most
-  pub ends : (program : Program) (w : Potentials) (price : ℕ → ℕ) (ips : List ℕ) (s : State)
-      → EndIsPaid program w price ips s
+  pub scans : (program : Program) (w : Potentials) (key_cost : ℕ → ℕ) (ips : List ℕ)
+      → AreCostsCovered program w key_cost ips
+      → (code : State → ℕ) (s : State) (least most : ℕ) → LimitedRunIsPaid program w key_cost ips least most s.ip
+      → ScanIsPaid program w key_cost ips code s least most
+  pub ends : (program : Program) (w : Potentials) (key_cost : ℕ → ℕ) (ips : List ℕ) (s : State)
+      → EndIsPaid program w key_cost ips s
 
 -- The steps of char loops are memo steps.
 abbrev pub CharLoopScansAreMemoSteps : Type 0
@@ -111,5 +112,5 @@ CharLoopScansAreMemoSteps =
 -- The searches and steps of lookarounds are covered.
 abbrev pub LookaroundCostsAreCovered : Type 0
 LookaroundCostsAreCovered =
-    (program : Program) (text : Text) (a : Liveness) (keys : Keys) (d : Direction) (price : Key → ℕ)
-    (weight : List Thread → ℕ) → LooksComeOn program text a keys d price weight
+    (program : Program) (text : Text) (a : Liveness) (keys : Keys) (d : Direction) (key_cost : Key → ℕ)
+    (weight : List Thread → ℕ) → LooksComeOn program text a keys d key_cost weight

@@ -135,10 +135,10 @@ module _ (program : Program) (text : Text) (t : MemoAnalysis) where
 -- costs of the keys that are recorded or become known in it.
 abbrev pub PartsOfSearchesAreCovered : Type 0
 PartsOfSearchesAreCovered = (program : Program) (text : Text) (a : Liveness) (keys : Keys) (d : Direction)
-    (price : Key → ℕ) (weight : List Thread → ℕ) (memory : List Key) (row : List Entry) (work : ℕ) (now : List Key)
-    (to : List Entry) → ReachesBySteps program text a keys d price weight memory row work now to
-    → work + sum_by (entry_potential weight) to + sum_by price (keys_in row ++ memory)
-    ≤ sum_by (entry_potential weight) row + sum_by price (keys_in to ++ now)
+    (key_cost : Key → ℕ) (weight : List Thread → ℕ) (memory : List Key) (row : List Entry) (work : ℕ) (now : List Key)
+    (to : List Entry) → ReachesBySteps program text a keys d key_cost weight memory row work now to
+    → work + sum_by (entry_potential weight) to + sum_by key_cost (keys_in row ++ memory)
+    ≤ sum_by (entry_potential weight) row + sum_by key_cost (keys_in to ++ now)
 
 -- The search of a lookaround's contents begins with the known keys, and comes on, as the one around
 -- it does.

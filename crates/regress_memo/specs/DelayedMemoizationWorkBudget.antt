@@ -13,16 +13,16 @@ use Rattle.regress_memo.specs.MemoPlanChecksAndGuarantees.{IsPlan}
 use Rattle.regress_memo.specs.SuccessiveMatches.{Attempted, ready_at}
 
 -- The cost of all keys at one offset.
-abbrev pub price_at_one : (questions : ℕ → List Question) (ips : List ℕ) (price : ℕ → ℕ) → ℕ
-price_at_one questions ips price = sum_by (λ ip. price ip * plan_codes questions ip) ips
+abbrev pub all_keys_cost_at_one_offset : (questions : ℕ → List Question) (ips : List ℕ) (key_cost : ℕ → ℕ) → ℕ
+all_keys_cost_at_one_offset questions ips key_cost = sum_by (λ ip. key_cost ip * plan_codes questions ip) ips
 
 -- The work that suffices for each offset, if `at_first` is allowed for each offset before
 -- memoization begins.
-abbrev pub enough_for_one : (at_first ready price : ℕ) → ℕ
-enough_for_one at_first ready price = at_first + 1 + 3 * (ready + price)
+abbrev pub enough_for_one : (at_first ready key_cost : ℕ) → ℕ
+enough_for_one at_first ready key_cost = at_first + 1 + 3 * (ready + key_cost)
 
 module _ (program : Program) (text : Text) (a : Liveness) (questions : ℕ → List Question)
-    (way : ℕ → Direction) (ips : List ℕ) (taken : Key → ℕ) (price : ℕ → ℕ) (weight : List Thread → ℕ)
+    (way : ℕ → Direction) (ips : List ℕ) (taken : Key → ℕ) (key_cost : ℕ → ℕ) (weight : List Thread → ℕ)
     (row : ℕ → List Thread) where
   -- A search in two stages. In the first stage, nothing is memoized. It ends with the first step
   -- after which more than `at_first` units of work were done for each offset; a step reads each
@@ -37,7 +37,7 @@ module _ (program : Program) (text : Text) (a : Liveness) (questions : ℕ → L
     pub memory : List Key
     pub starts : List ℕ
     pub few : early ≤ at_first * (units text + 1) + (units text + 1)
-    pub remembered : Attempted program text a (plan_keys program text a questions way ips taken) (λ k. price k.ip)
+    pub remembered : Attempted program text a (plan_keys program text a questions way ips taken) (λ k. key_cost k.ip)
         weight row
         from next looks late memory starts
     pub from_inside : from ≤ units text + 1
@@ -47,16 +47,16 @@ module _ (program : Program) (text : Text) (a : Liveness) (questions : ℕ → L
   -- The initial potential of an attempt at any offset is at most `ready`.
   abbrev pub StandsReady : (ready : ℕ) → Type 0
   StandsReady ready = (at : ℕ) → ready_at program text a (plan_keys program text a questions way ips taken)
-      (λ k. price k.ip) weight row at ≤ ready
+      (λ k. key_cost k.ip) weight row at ≤ ready
 
 -- ---- Laws
 
 -- The work of both stages together is within this budget for each offset.
 abbrev pub WorkBudgetsSuffice : Type 0
 WorkBudgetsSuffice = (program : Program) (text : Text) (a : Liveness) (questions : ℕ → List Question)
-    (way : ℕ → Direction) (ips : List ℕ) (taken : Key → ℕ) (price : ℕ → ℕ) (weight : List Thread → ℕ)
+    (way : ℕ → Direction) (ips : List ℕ) (taken : Key → ℕ) (key_cost : ℕ → ℕ) (weight : List Thread → ℕ)
     (row : ℕ → List Thread)
     → IsPlan program text a questions way ips taken
-    → (at_first ready work : ℕ) → StandsReady program text a questions way ips taken price weight row ready
-    → AreInTwoStages program text a questions way ips taken price weight row at_first work
-    → work ≤ enough_for_one at_first ready (price_at_one questions ips price) * (units text + 1)
+    → (at_first ready work : ℕ) → StandsReady program text a questions way ips taken key_cost weight row ready
+    → AreInTwoStages program text a questions way ips taken key_cost weight row at_first work
+    → work ≤ enough_for_one at_first ready (all_keys_cost_at_one_offset questions ips key_cost) * (units text + 1)

@@ -23,17 +23,17 @@ module _ (program : Program) (text : Text) (a : Liveness) (keys : Keys) where
 
   -- What the search of a lookaround's contents leaves for the enclosing search: new keys, whose
   -- costs cover its work except for the initial potential and discarded records.
-  pub record HasLearned (price : Key → ℕ) (weight : List Thread → ℕ) (outer : List Entry) (memory : List Key)
+  pub record HasLearned (key_cost : Key → ℕ) (weight : List Thread → ℕ) (outer : List Entry) (memory : List Key)
       (us : List Thread) (work : ℕ) (now : List Key) (row : List Entry) : Type 0 where
     pub new : List Key
     pub now_is : now ≡ new ++ memory
     pub learned : AreLearned outer memory new
-    pub paid : work ≤ sum_by (entry_potential weight) (thread_entries us) + sum_by price (keys_in row) + sum_by price
-        new
+    pub paid : work ≤ sum_by (entry_potential weight) (thread_entries us) + sum_by key_cost (keys_in row)
+        + sum_by key_cost new
     -- If the search has found an end, the keys of its pending records are learned too, and no
     -- record is discarded.
     pub found : Each (Succeeds program text a keys) (keys_in row) → AreLearned outer memory (keys_in row ++ new)
-    pub found_paid : work ≤ sum_by (entry_potential weight) (thread_entries us) + sum_by price (keys_in row ++ new)
+    pub found_paid : work ≤ sum_by (entry_potential weight) (thread_entries us) + sum_by key_cost (keys_in row ++ new)
 
 -- ---- Threads stay sound
 
@@ -81,11 +81,11 @@ KnownResultsDecideLookarounds = (program : Program) (text : Text) (d : Direction
 abbrev pub LookaroundsLearnKeys : Type 0
 LookaroundsLearnKeys = (program : Program) (text : Text) (a : Liveness) (keys : Keys) → IsLivenessFor program text a
     → AreKeys program text a keys
-    → (d : Direction) (price : Key → ℕ) (weight : List Thread → ℕ) (outer : List Entry) (memory : List Key)
+    → (d : Direction) (key_cost : Key → ℕ) (weight : List Thread → ℕ) (outer : List Entry) (memory : List Key)
     (us : List Thread) (turns : ℕ) (f : Found) → IsMemory program text a keys memory
     → search program text turns d us ≡ Some f → (work : ℕ) (now : List Key) (row : List Entry)
-    → ReachesBySteps program text a keys d price weight memory (thread_entries us) work now row
-    → HasLearned program text a keys price weight outer memory us work now row
+    → ReachesBySteps program text a keys d key_cost weight memory (thread_entries us) work now row
+    → HasLearned program text a keys key_cost weight outer memory us work now row
 
 module _ (program : Program) (text : Text) (a : Liveness) (keys : Keys) (d : Direction) where
   -- If a thread succeeds, all pending records below it succeed.

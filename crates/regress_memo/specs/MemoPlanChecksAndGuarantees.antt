@@ -71,20 +71,20 @@ module _ (program : Program) (text : Text) (a : Liveness) (questions : ℕ → L
   -- ---- Work
 
   -- The cost of all keys of recording instructions.
-  abbrev pub plan_price : (price : ℕ → ℕ) → ℕ
-  plan_price price = sum_by (λ ip. price ip * plan_codes questions ip) ips * (units text + 1)
+  abbrev pub all_keys_cost : (key_cost : ℕ → ℕ) → ℕ
+  all_keys_cost key_cost = sum_by (λ ip. key_cost ip * plan_codes questions ip) ips * (units text + 1)
 
   -- The work of all attempts in a text, up to the next start position, is linear in the text.
   abbrev pub AttemptsAreLinear : Type 0
-  AttemptsAreLinear = (price : ℕ → ℕ) (weight : List Thread → ℕ) (row : ℕ → List Thread)
+  AttemptsAreLinear = (key_cost : ℕ → ℕ) (weight : List Thread → ℕ) (row : ℕ → List Thread)
       (from next looks work : ℕ) (memory : List Key) (starts : List ℕ)
-      → Attempted program text a (plan_keys program text a questions way ips taken) (λ k. price k.ip) weight row
+      → Attempted program text a (plan_keys program text a questions way ips taken) (λ k. key_cost k.ip) weight row
       from next looks work memory starts
       → (last : ℕ) → next ≤ last
       → work + looks
       ≤ 2 * (sum_by (λ at. ready_at program text a (plan_keys program text a questions way ips taken)
-      (λ k. price k.ip) weight row at) (numbers_from 0 (last + 1)) + last)
-      + 3 * plan_price price
+      (λ k. key_cost k.ip) weight row at) (numbers_from 0 (last + 1)) + last)
+      + 3 * all_keys_cost key_cost
 
   -- What a checked plan guarantees.
   pub record PlanServes : Type 0 where

@@ -13,7 +13,7 @@ abbrev pub times_in : List ℕ → ℕ → ℕ
 times_in starts at = sum_by (λ p. if p == at then 1 else 0) starts
 
 module _ (program : Program) (text : Text) (a : Liveness) (keys : Keys)
-    (price : Key → ℕ) (weight : List Thread → ℕ) where
+    (key_cost : Key → ℕ) (weight : List Thread → ℕ) where
   -- The threads with which an attempt at an offset begins.
   module _ (row : ℕ → List Thread) where
     -- The attempts so far. The next match is searched for from offset `from`, and `next` is the
@@ -28,7 +28,7 @@ module _ (program : Program) (text : Text) (a : Liveness) (keys : Keys)
       -- An attempt fails.
       failed : (from next looks work more : ℕ) (memory now : List Key) (starts : List ℕ) (turns : ℕ) (f : Found)
           → Attempted from next looks work memory starts → search program text turns rightwards (row next) ≡ Some f
-          → ReachesBySteps program text a keys rightwards price weight memory (thread_entries (row next)) more now []
+          → ReachesBySteps program text a keys rightwards key_cost weight memory (thread_entries (row next)) more now []
           → Attempted from (next + 1) (looks + 1) (work + more) now (next ∷ starts)
       -- An attempt finds an end. The next attempt begins there, or further on if the match was
       -- searched for from there.
@@ -36,7 +36,7 @@ module _ (program : Program) (text : Text) (a : Liveness) (keys : Keys)
           (t : Thread) (rest : List Entry)
           → Attempted from next looks work memory starts → search program text turns rightwards (row next) ≡ Some f
           → AreOnward next (thread_entries (row next))
-          → ReachesBySteps program text a keys rightwards price weight memory (thread_entries (row next)) more now
+          → ReachesBySteps program text a keys rightwards key_cost weight memory (thread_entries (row next)) more now
           (one_thread t ∷ rest)
           → offset_of_thread t ≤ on → from < on
           → Attempted on on (looks + 1) (work + more) now (next ∷ starts)
@@ -53,12 +53,12 @@ module _ (program : Program) (text : Text) (a : Liveness) (keys : Keys)
       -- before `next` plus the sum over the positions up to `from`.
       pub tried_at : (count : ℕ → ℕ)
           → sum_by count starts ≤ sum_by count (numbers_from 0 next) + sum_by count (numbers_from 0 (from + 1))
-      pub paid : work ≤ sum_by (λ at. ready_at at) starts + 3 * sum_by price keys.all
+      pub paid : work ≤ sum_by (λ at. ready_at at) starts + 3 * sum_by key_cost keys.all
       -- The work and the looks are linear in the number of positions, up to any position from
       -- `next` on, and in the cost of all keys.
       pub linear : (last : ℕ) → next ≤ last
           → work + looks
-          ≤ 2 * (sum_by (λ at. ready_at at) (numbers_from 0 (last + 1)) + last) + 3 * sum_by price keys.all
+          ≤ 2 * (sum_by (λ at. ready_at at) (numbers_from 0 (last + 1)) + last) + 3 * sum_by key_cost keys.all
 
 -- ---- Laws
 
@@ -66,7 +66,7 @@ module _ (program : Program) (text : Text) (a : Liveness) (keys : Keys)
 abbrev pub TotalWorkIsBounded : Type 0
 TotalWorkIsBounded = (program : Program) (text : Text) (a : Liveness) (keys : Keys)
     → IsLivenessFor program text a → AreKeys program text a keys
-    → (price : Key → ℕ) (weight : List Thread → ℕ) (row : ℕ → List Thread) (from next looks work : ℕ)
+    → (key_cost : Key → ℕ) (weight : List Thread → ℕ) (row : ℕ → List Thread) (from next looks work : ℕ)
     (memory : List Key) (starts : List ℕ)
-    → Attempted program text a keys price weight row from next looks work memory starts
-    → AreFew program text a keys price weight row from next looks work starts
+    → Attempted program text a keys key_cost weight row from next looks work memory starts
+    → AreFew program text a keys key_cost weight row from next looks work starts

@@ -188,11 +188,11 @@ pub record ThreadsLeftFitInsnPotentials : Type 0 where
 -- The potential of a char loop that records each position, plus the costs of these keys, covers its
 -- step. Each key covers a character, a thread and a record.
 abbrev pub KeysCoverRecordedExits : Type 0
-KeysCoverRecordedExits = (price : Key → ℕ) (weight : List Thread → ℕ) (known : List Thread) (xs : List (Thread × Key))
-    (first ready more : ℕ) → first ≤ ready → more ≤ first + length xs
-    → Each (λ x. weight (x.0 ∷ []) + 2 ≤ price x.1) xs
-    → more + sum_by (entry_potential weight) (each_noted known xs) ≤ ready + sum_by price
-    (keys_in (each_noted known xs))
+KeysCoverRecordedExits = (key_cost : Key → ℕ) (weight : List Thread → ℕ) (known : List Thread)
+    (xs : List (Thread × Key)) (first ready more : ℕ) → first ≤ ready → more ≤ first + length xs
+    → Each (λ x. weight (x.0 ∷ []) + 2 ≤ key_cost x.1) xs
+    → more + sum_by (entry_potential weight) (each_noted known xs)
+    ≤ ready + sum_by key_cost (keys_in (each_noted known xs))
 
 -- If a code distinguishes the live data of loops, then instructions, offsets and codes are keys,
 -- also of lists of threads. The cost of all keys is the sum over recording instructions of cost
@@ -202,7 +202,7 @@ pub record OffsetsAndCodesAreKeys : Type 0 where
       (codes : ℕ → ℕ) (rows : Key → List Shape) (taken : Key → ℕ) → IsLivenessFor program text a
       → NoGroupsAreLive a → Distinguishes a (units text) code
       → AreKeys program text a (place_keys program code way ips (units text) codes rows taken)
-  pub cost : (ips : List ℕ) (top : ℕ) (codes price : ℕ → ℕ)
-      → sum_by (λ (k : Key). price k.ip) (keys_of_insns_at_offsets ips top codes) ≡ sum_by (λ ip. price ip * codes ip)
-      ips * (top + 1)
+  pub cost : (ips : List ℕ) (top : ℕ) (codes key_cost : ℕ → ℕ)
+      → sum_by (λ (k : Key). key_cost k.ip) (keys_of_insns_at_offsets ips top codes)
+      ≡ sum_by (λ ip. key_cost ip * codes ip) ips * (top + 1)
   pub alone : (a : Liveness) (top : ℕ) → OnlyPositionsAreLive a → Distinguishes a top (λ s. 0)

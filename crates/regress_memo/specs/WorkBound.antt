@@ -24,7 +24,7 @@ use Rattle.regress_memo.specs.CheckedAnalysis.{IsAnalysisOf}
 
 -- The cost of an instruction's keys at one position. 0 if it does not record.
 abbrev pub insn_keys_cost_per_position : InsnAnalysis → ℕ
-insn_keys_cost_per_position x = if x.records then x.price * x.codes else 0
+insn_keys_cost_per_position x = if x.records then x.key_cost * x.codes else 0
 
 -- The cost of all keys at one position.
 abbrev pub all_keys_cost_per_position : MemoAnalysis → ℕ

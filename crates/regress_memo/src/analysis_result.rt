@@ -42,7 +42,7 @@ pub struct InsnAnalysis {
     /// instruction leaves, and the cost of a key, which its record covers.
     pub ready: u32,
     pub left: u32,
-    pub price: u32,
+    pub key_cost: u32,
     /// The number of codes here, and the number of codes at all recording instructions before this
     /// one.
     pub codes: usize,
@@ -134,7 +134,7 @@ pub(crate) fn default_insn_analysis() -> InsnAnalysis
         records: false,
         ready: 1,
         left: 0,
-        price: 0,
+        key_cost: 0,
         codes: 1,
         base: 0,
     }

@@ -1,6 +1,8 @@
 //! Laws of searches of lookarounds' contents with the memo table.
 
-ghost use Rattle.regress_memo.specs.{ContentsApart.{StepsStayOnSide, KeysOfContentsAreNotPending}, ContentsWithMemo.{PartsOfSearchesAreCovered, SearchesOfContentsComeOn, LookaroundsThatRecordAreCovered, SilentLookaroundsAreCovered}};
+ghost use Rattle.regress_memo.specs.ContentsApart.{StepsStayOnSide, KeysOfContentsAreNotPending};
+ghost use Rattle.regress_memo.specs.ContentsWithMemo.{PartsOfSearchesAreCovered, SearchesOfContentsComeOn};
+ghost use Rattle.regress_memo.specs.ContentsWithMemo.{LookaroundsThatRecordAreCovered, SilentLookaroundsAreCovered};
 
 /// If the contents of a lookaround are apart, steps stay inside them, or outside of them.
 /// Statement: `specs/ContentsApart`.

@@ -31,7 +31,7 @@ impl MemoAnalysis {
                 fields.exit as usize,
             ),
             Successors::Again(begin) => self.has_potential_after_iteration(insns, ip, begin),
-            Successors::Run(bounds) => self.run_is_written(bounds, ip),
+            Successors::Run(bounds) => self.covers_char_loop(bounds, ip),
             Successors::LookaroundSuccessor(look) => self.covers_one_successor(ip, look.past),
             Successors::Same => self.covers_one_successor(ip, ip + 1),
         }
@@ -77,29 +77,29 @@ impl MemoAnalysis {
         let left = u64::from(line.left);
         let ready = u64::from(line.ready);
         if line.records {
-            left + 2 <= ready + u64::from(line.price)
+            left + 2 <= ready + u64::from(line.key_cost)
         } else {
             left + 1 <= ready
         }
     }
 
     // Checks that the body of a char loop has the keys of the loop, and that the loop is covered.
-    fn run_is_written(&self, bounds: CharLoopMinMaxAndGreed, ip: usize) -> bool
+    fn covers_char_loop(&self, bounds: CharLoopMinMaxAndGreed, ip: usize) -> bool
         requires { ip + 2 < 2 ^ 64 }
         ensures { result ≡ true → (program : Program) → IsCharLoopChecked self.now program bounds ip }
     {
         self.insn_analysis_at(ip + 1).forward == self.insn_analysis_at(ip).forward
             && if bounds.most == usize::MAX {
                 self.insn_analysis_at(ip + 1).records
-                    && self.has_rows_of_next(ip + 1)
-                    && self.run_is_enough(bounds, ip)
+                    && self.has_key_code_questions_of_next(ip + 1)
+                    && self.covers_unbounded_loop(bounds, ip)
             } else {
-                self.limited_is_enough(bounds, ip)
+                self.covers_bounded_loop(bounds, ip)
             }
     }
 
-    // Checks that an instruction has the entries of the next one.
-    fn has_rows_of_next(&self, ip: usize) -> bool
+    // Checks that the key codes of an instruction depend on the same loops as those of the next one.
+    fn has_key_code_questions_of_next(&self, ip: usize) -> bool
         requires { ip + 1 < 2 ^ 64 }
         ensures { result ≡ true → key_code_questions_of self.now ip ≡ key_code_questions_of self.now (ip + 1) }
     {
@@ -110,21 +110,21 @@ impl MemoAnalysis {
 
     // Checks that the potential covers a char loop without a maximum, and that the costs of the
     // keys cover its exits.
-    fn run_is_enough(&self, bounds: CharLoopMinMaxAndGreed, ip: usize) -> bool
+    fn covers_unbounded_loop(&self, bounds: CharLoopMinMaxAndGreed, ip: usize) -> bool
         requires { ip + 2 < 2 ^ 64 }
         ensures { result ≡ true → CoversUnboundedLoop self.now bounds ip }
     {
         let behind = u64::from(self.insn_analysis_at(ip + 2).ready);
         let ready = u64::from(self.insn_analysis_at(ip).ready);
         let first = if bounds.greedy { 2 } else { behind * 2 + 3 };
-        behind + 3 <= u64::from(self.insn_analysis_at(ip + 1).price)
+        behind + 3 <= u64::from(self.insn_analysis_at(ip + 1).key_cost)
             && first <= ready
             && bounds.least as u64 <= ready - first
     }
 
     // Checks that the potential left by a char loop with a maximum covers each exit and each
     // character.
-    fn limited_is_enough(&self, bounds: CharLoopMinMaxAndGreed, ip: usize) -> bool
+    fn covers_bounded_loop(&self, bounds: CharLoopMinMaxAndGreed, ip: usize) -> bool
         requires { ip + 2 < 2 ^ 64 }
         ensures { result ≡ true → CoversBoundedLoop self.now bounds ip }
     {

@@ -74,7 +74,7 @@ impl MemoAnalysis {
         let changed = u64::from(line.left) != left || u64::from(line.ready) != ready;
         line.left = left as u32;
         line.ready = ready as u32;
-        line.price = if line.records { left as u32 + 3 } else { 0 };
+        line.key_cost = if line.records { left as u32 + 3 } else { 0 };
         changed
     }
 

@@ -24,20 +24,20 @@ impl MemoAnalysis {
         if !self.all_is_paid(insns) {
             return None;
         }
-        let prices = self.all_keys_cost_per_position()?;
+        let keys = self.all_keys_cost_per_position()?;
         let ready = u64::from(self.insn_analysis_at(0).ready);
-        prices.checked_add(ready)?.checked_mul(3)
+        keys.checked_add(ready)?.checked_mul(3)
     }
 
     // Returns the cost of all keys at one position. Returns `None` on overflow.
     fn all_keys_cost_per_position(&self) -> Option<u64>
-        ensures { IfSome result (λ price. price ≡ all_keys_cost_per_position self.now) }
+        ensures { IfSome result (λ cost. cost ≡ all_keys_cost_per_position self.now) }
     {
         let lines = self.lines.as_slice();
         let mut all = 0u64;
         for line in lines {
-            let price = cost_of_insn_keys(line)?;
-            all = all.checked_add(price)?;
+            let cost = cost_of_insn_keys(line)?;
+            all = all.checked_add(cost)?;
         }
         Some(all)
     }
@@ -115,10 +115,10 @@ impl MemoAnalysis {
 // Returns the cost of an instruction's keys at one position. It is 0 if the instruction does not
 // record. Returns `None` on overflow.
 fn cost_of_insn_keys(line: &InsnAnalysis) -> Option<u64>
-    ensures { IfSome result (λ price. price ≡ insn_keys_cost_per_position line.now) }
+    ensures { IfSome result (λ cost. cost ≡ insn_keys_cost_per_position line.now) }
 {
     if line.records {
-        u64::from(line.price).checked_mul(line.codes as u64)
+        u64::from(line.key_cost).checked_mul(line.codes as u64)
     } else {
         Some(0)
     }

@@ -34,8 +34,8 @@ fn write_recording_insns(
     for (ip, line) in memo_analysis.lines.iter().enumerate() {
         if line.records {
             write!(text, "{ip}x{} ", line.codes)?;
-            let price = u64::from(line.price).saturating_mul(line.codes as u64);
-            all = all.saturating_add(price);
+            let cost = u64::from(line.key_cost).saturating_mul(line.codes as u64);
+            all = all.saturating_add(cost);
         }
     }
     write!(text, "for {all}")

@@ -1,5 +1,5 @@
-use Rattle.regress_memo.proofs.RecordingCostLemmas.{prices-few}
+use Rattle.regress_memo.proofs.RecordingCostLemmas.{costs-few}
 use Rattle.regress_memo.proofs.recording_costs_are_linear.Goals as goal
 
 pub returns : goal.returns
-returns c = prices-few
+returns c = costs-few

@@ -5,4 +5,4 @@ use Rattle.regress_memo.proofs.analysis_result.MemoAnalysis.covers_successors_at
 pub returns-in-Run : goal.returns-in-Run
 returns-in-Run c = λ h program has.
     at-step (λ s. IsCoveredAt c.args.self.now program s c.args.ip) program c.args.insns.now c.args.ip _ has c.in-Run.ensures
-    (c.run_is_written.ensures h program)
+    (c.covers_char_loop.ensures h program)

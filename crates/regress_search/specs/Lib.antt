@@ -8,6 +8,7 @@ pub mod MatchesWithinWork
 pub mod NewExecutorsAndAsciiTexts
 pub mod CostsOfSearches
 pub mod CostsOfCalls
+pub mod EffectsOnSearchState
 pub mod OffsetsAfterMatchedInsns
 pub mod TreePlanAndText
 pub mod CharRuns

@@ -1,6 +1,6 @@
 //! Matches, the iterator over them, and the traits of executors.
 
-ghost use Rattle.std.specs.Prelude.{◌≡◌, ◌≤◌, Bool, map, option_map, IfOk, IfErr, OnErr, OnSome, IfNone, not, Some, None, string_bytes};
+ghost use Rattle.std.specs.Prelude.{◌≡◌, ◌≤◌, Bool, map, option_map, IfOk, IfErr, OnErr, OnSome, IfNone, not, None, string_bytes};
 ghost use Rattle.std.specs.Iterator.{at_most};
 ghost use Rattle.std.specs.Option.{ForSome};
 ghost use Rattle.regex_meaning.specs.{Text.{Text}, CodeUnitOffsets.{HasRisingPlaceOffsets, IsBoundary, IsBoundaryOrPastEnd, is_past, offset_within, units}, SearchAnswers.{first_answer}};
@@ -9,7 +9,8 @@ ghost use Rattle.regex_pattern_front.specs.AstToSpecTree.{tree_of};
 ghost use Rattle.regress_search.specs.SearchEffects.{IsNextStartAfterFirstMatch, SpendsNeedOrReachesLimit, cause_of_error};
 ghost use Rattle.regress_search.specs.RemainingAnswers.{RemainingView, remaining_answers_from, NextYields, EndsAtTextEnd, max_items_left};
 ghost use Rattle.regress_search.specs.MatchesWithinWork.{CallKeepsWorkEnough, SearchKeepsWorkEnough, is_work_enough};
-ghost use Rattle.regress_search.specs.CostsOfSearches.{CallSpendsExactCost, ContinuesAfterCall, IfWorkIsCounted, SearchCosts, SpendsExactCost};
+ghost use Rattle.regress_search.specs.CostsOfSearches.{CallSpendsExactCost, ContinuesAfterCall, IfWorkIsCounted, SearchCosts};
+ghost use Rattle.regress_search.specs.EffectsOnSearchState.{SearchTakesItsCost};
 
 use regress_input::position::PositionType;
 use regress_program::insn::{CompiledRegex, GroupNames};
@@ -143,9 +144,7 @@ pub trait MatchProducer: SearchState {
             (Self.ahead self.old) (at pos) result (Self.enough self.new) (Self.ahead self.new)
             (option_map at next_start.new) (Self.out_of_work self.new) }
         ensures left { Self.left self.new ≤ Self.left self.old }
-        ensures cost { IfWorkIsCounted Self.counts_work (SpendsExactCost (SearchCosts Self.costs (Self.tree self.old)
-            (Self.text self.old) (Self.failures self.old) (Some (Self.Position.offset pos)))
-            (Self.left self.old) result (Self.out_of_work self.new) (Self.left self.new) (Self.failures self.new)) }
+        ensures cost { SearchTakesItsCost Self.SearchState self.old (Self.Position.offset pos) result self.new }
         ensures same { (Self.tree self.new ≡ Self.tree self.old) × (Self.text self.new ≡ Self.text self.old) };
 
     ghost is_text: { (it : Self) → HasRisingPlaceOffsets (Self.text it) };

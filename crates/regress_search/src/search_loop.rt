@@ -1,7 +1,7 @@
 //! The search loop over the candidate starts of a text, shared by all executors.
 
 ghost use Rattle.std.specs.Option.{ForSome};
-ghost use Rattle.std.specs.Prelude.{◌≡◌, ◌+◌, ◌≤◌, ℕ, ⊤, false, IfErr, IfOk, IsOkAnd, IsSome, Some, map, option_map, length};
+ghost use Rattle.std.specs.Prelude.{◌≡◌, ◌+◌, ◌≤◌, ℕ, ⊤, false, IfErr, IfOk, IsSome, Some, map, option_map, length};
 ghost use Rattle.regex_meaning.specs.{CodeUnitOffsets.{HasRisingPlaceOffsets, IsBoundary, IsBoundaryOrPastEnd, units}, SearchAnswers.{answer_at}};
 ghost use Rattle.regex_meaning.specs.{Outcomes.{Groups, group_range}, MatchGroupsByNumberAndName.{group_names_by_id}};
 ghost use Rattle.regex_pattern_front.specs.AstToSpecTree.{tree_of};
@@ -9,9 +9,10 @@ ghost use Rattle.regress_search.specs.MatchesAsSpecAnswers.{answer_from_parts, a
 ghost use Rattle.regress_search.specs.AttemptsAndStarts.{NextStartSkipsNoMatch, NoMatchAt, end_with_groups, match_end_and_groups_at, first_filtered_start, next_filtered_start, next_search_offset};
 ghost use Rattle.regress_search.specs.AttemptsAndStarts.{ticks_of_attempt_at};
 ghost use Rattle.regress_search.specs.OffsetRangeOfPositions.{offset_range_of_positions};
-ghost use Rattle.regress_search.specs.SearchEffects.{SpendsNeedOrReachesLimit, AllocFailureCostsAStep, IsRefusedByWorkLimit, TellsIfStepLimitReached, cause_of_error};
+ghost use Rattle.regress_search.specs.SearchEffects.{SpendsNeedOrReachesLimit, AllocFailureCostsAStep, TellsIfStepLimitReached, cause_of_error};
 ghost use Rattle.regress_search.specs.MatchesWithinWork.{AttemptKeepsWorkEnough};
-ghost use Rattle.regress_search.specs.CostsOfSearches.{IfWorkIsCounted, SkipFromSpendsExactCost, SkipSpendsExactCost, SpendsExactCost, next_attempt_offset};
+ghost use Rattle.regress_search.specs.CostsOfSearches.{IfWorkIsCounted, next_attempt_offset};
+ghost use Rattle.regress_search.specs.EffectsOnSearchState.{AttemptTakesItsCost, SkipsAndPays};
 
 use crate::exec::{Match, MatchProducer, SearchError, SearchState};
 use regress_input::indexing::InputIndexer;
@@ -74,9 +75,7 @@ pub trait SingleAttemptExecutor: SearchState {
             (Self.out_of_work self.new) }
         ensures left { Self.left self.new ≤ Self.left self.old }
         ensures within { IfWorkIsCounted Self.counts_work (IfOk result (λ _. Self.out_of_work self.new ≡ false)) }
-        ensures cost { IfWorkIsCounted Self.counts_work (SpendsExactCost (Self.costs.of_attempt (Self.tree self.old)
-            (Self.text self.old) (Self.failures self.old) (Self.Input.Position.offset pos))
-            (Self.left self.old) result (Self.out_of_work self.new) (Self.left self.new) (Self.failures self.new)) }
+        ensures cost { AttemptTakesItsCost Self.SearchState self.old (Self.Input.Position.offset pos) result self.new }
         ensures same { (Self.tree self.new ≡ Self.tree self.old) × (Self.text self.new ≡ Self.text self.old) };
 
     /// Returns the number of groups of the last attempt that found an end.
@@ -138,11 +137,11 @@ pub trait SingleAttemptExecutor: SearchState {
     /// given position or later.
     ///
     /// An executor that does not pay for skips, or that counts steps, returns the given position.
-    /// The clause `same` says that only the work left changes.
+    /// The clause `effect` says what the skip costs and what it leaves unchanged.
     ///
     /// # Errors
     ///
-    /// Returns `Err` if the skip costs more work than is left. The clauses `refused` and `paid` say
+    /// Returns `Err` if the skip costs more work than is left. `refused` and `paid` of `effect` say
     /// that it is for no other reason.
     fn skip_to_candidate(
         &mut self,
@@ -151,17 +150,7 @@ pub trait SingleAttemptExecutor: SearchState {
         requires { IsBoundary (Self.text self.old) (Self.Input.Position.offset from) }
         ensures next { let at = Self.Input.Position.offset in IfOk result (λ to.
             NextStartSkipsNoMatch (Self.tree self.old) (Self.text self.old) (at from) (option_map at to)) }
-        ensures counted { let at = Self.Input.Position.offset in IsSome (Self.budget self.old)
-            → IsOkAnd result (λ to. option_map at to ≡ Some (at from)) }
-        ensures refused { IfErr result (λ e. IsRefusedByWorkLimit e (Self.out_of_steps self.new)
-            (Self.out_of_work self.new) (Self.enough self.old)) }
-        ensures paid { let at = Self.Input.Position.offset in IfWorkIsCounted Self.counts_work
-            (SkipSpendsExactCost at Self.costs.may_skip (Self.tree self.old) (Self.text self.old) (at from)
-            (Self.left self.old) result (Self.left self.new)) }
-        ensures left { Self.left self.new ≤ Self.left self.old }
-        ensures same { (Self.tree self.new ≡ Self.tree self.old) × (Self.text self.new ≡ Self.text self.old)
-            × (Self.budget self.new ≡ Self.budget self.old) × (Self.enough self.new ≡ Self.enough self.old)
-            × (Self.ahead self.new ≡ Self.ahead self.old) × (Self.failures self.new ≡ Self.failures self.old) }
+        ensures effect { SkipsAndPays Self.SearchState Self.Input.Position.offset (Some from) self.old result self.new }
     {
         Ok(Some(from))
     }
@@ -172,7 +161,7 @@ pub trait SingleAttemptExecutor: SearchState {
     /// later.
     ///
     /// Unless an executor can use that no match begins at `tried`, this is `skip_to_candidate` of
-    /// `next`. The clauses `counted`, `refused`, `paid` and `same` are those of `skip_to_candidate`.
+    /// `next`. The clause `effect` is that of `skip_to_candidate`.
     ///
     /// # Errors
     ///
@@ -188,17 +177,7 @@ pub trait SingleAttemptExecutor: SearchState {
             NextStartSkipsNoMatch (Self.tree self.old) (Self.text self.old) (at tried + 1) (Some (at next)) }
         ensures next { let at = Self.Input.Position.offset in IfOk result (λ to.
             NextStartSkipsNoMatch (Self.tree self.old) (Self.text self.old) (at next) (option_map at to)) }
-        ensures counted { let at = Self.Input.Position.offset in IsSome (Self.budget self.old)
-            → IsOkAnd result (λ to. option_map at to ≡ Some (at next)) }
-        ensures refused { IfErr result (λ e. IsRefusedByWorkLimit e (Self.out_of_steps self.new)
-            (Self.out_of_work self.new) (Self.enough self.old)) }
-        ensures paid { let at = Self.Input.Position.offset in IfWorkIsCounted Self.counts_work
-            (SkipSpendsExactCost at Self.costs.may_skip (Self.tree self.old) (Self.text self.old) (at next)
-            (Self.left self.old) result (Self.left self.new)) }
-        ensures left { Self.left self.new ≤ Self.left self.old }
-        ensures same { (Self.tree self.new ≡ Self.tree self.old) × (Self.text self.new ≡ Self.text self.old)
-            × (Self.budget self.new ≡ Self.budget self.old) × (Self.enough self.new ≡ Self.enough self.old)
-            × (Self.ahead self.new ≡ Self.ahead self.old) × (Self.failures self.new ≡ Self.failures self.old) }
+        ensures effect { SkipsAndPays Self.SearchState Self.Input.Position.offset (Some next) self.old result self.new }
     {
         self.skip_to_candidate(next)
     }
@@ -298,16 +277,7 @@ fn skip_from<A: SingleAttemptExecutor>(
         → NextStartSkipsNoMatch (A.tree executor.old) (A.text executor.old) from (option_map at to)) }
     ensures candidate { let at = A.Input.Position.offset in IfOk result (λ to. ForSome next (λ p.
         NextStartSkipsNoMatch (A.tree executor.old) (A.text executor.old) (at p) (option_map at to))) }
-    ensures counted { let at = A.Input.Position.offset in IsSome (A.budget executor.old)
-        → IsOkAnd result (λ to. option_map at to ≡ option_map at next) }
-    ensures refused { IfErr result (λ e. IsRefusedByWorkLimit e (A.out_of_steps executor.new)
-        (A.out_of_work executor.new) (A.enough executor.old)) }
-    ensures paid { IfWorkIsCounted A.counts_work (SkipFromSpendsExactCost A.Input.Position.offset A.costs.may_skip
-        (A.tree executor.old) (A.text executor.old) next (A.left executor.old) result (A.left executor.new)) }
-    ensures left { A.left executor.new ≤ A.left executor.old }
-    ensures same { (A.tree executor.new ≡ A.tree executor.old) × (A.text executor.new ≡ A.text executor.old)
-        × (A.budget executor.new ≡ A.budget executor.old) × (A.enough executor.new ≡ A.enough executor.old)
-        × (A.ahead executor.new ≡ A.ahead executor.old) × (A.failures executor.new ≡ A.failures executor.old) }
+    ensures effect { SkipsAndPays A.SearchState A.Input.Position.offset next executor.old result executor.new }
 {
     let Some(from) = next else {
         return Ok(None);
@@ -331,16 +301,7 @@ fn skip_from_failed<A: SingleAttemptExecutor>(
         NextStartSkipsNoMatch (A.tree executor.old) (A.text executor.old) (at tried + 1) (option_map at to)) }
     ensures candidate { let at = A.Input.Position.offset in IfOk result (λ to. ForSome next (λ p.
         NextStartSkipsNoMatch (A.tree executor.old) (A.text executor.old) (at p) (option_map at to))) }
-    ensures counted { let at = A.Input.Position.offset in IsSome (A.budget executor.old)
-        → IsOkAnd result (λ to. option_map at to ≡ option_map at next) }
-    ensures refused { IfErr result (λ e. IsRefusedByWorkLimit e (A.out_of_steps executor.new)
-        (A.out_of_work executor.new) (A.enough executor.old)) }
-    ensures paid { IfWorkIsCounted A.counts_work (SkipFromSpendsExactCost A.Input.Position.offset A.costs.may_skip
-        (A.tree executor.old) (A.text executor.old) next (A.left executor.old) result (A.left executor.new)) }
-    ensures left { A.left executor.new ≤ A.left executor.old }
-    ensures same { (A.tree executor.new ≡ A.tree executor.old) × (A.text executor.new ≡ A.text executor.old)
-        × (A.budget executor.new ≡ A.budget executor.old) × (A.enough executor.new ≡ A.enough executor.old)
-        × (A.ahead executor.new ≡ A.ahead executor.old) × (A.failures executor.new ≡ A.failures executor.old) }
+    ensures effect { SkipsAndPays A.SearchState A.Input.Position.offset next executor.old result executor.new }
 {
     let Some(from) = next else {
         return Ok(None);

@@ -1,4 +1,4 @@
-use Rattle.std.proofs.Common.{◌∙◌, arith}
+use Rattle.std.proofs.Common.{◌∙◌, arith, refl, rules}
 use Rattle.std.specs.Prelude.{option_map}
 use Rattle.regex_pattern_front.specs.AstToSpecTree.{tree_of}
 use Rattle.regress_backtrack.proofs.PlannedTreeLemmas.{can-be, end-context, next-tree, refused-skip, search-run}
@@ -23,13 +23,20 @@ returns-clause-next g c =
     let can = can-be s.same s.searched.well_formed s.searched.unicode s.searched.bytes in
     next-tree s.program.wide (tree_of s.program.regex) _ can.well_formed (g.Input.Position.PositionType.offset c.args.next) (option_map g.Input.Position.PositionType.offset c.skip_past_loop-start.result.0) c.skip_past_loop-start.ensures.next
 
-pub returns-in_err-pay_or_refuse_search-clause-paid : goal.returns-in_err-pay_or_refuse_search-clause-paid
-returns-in_err-pay_or_refuse_search-clause-paid g c =
+pub returns-in_err-pay_or_refuse_search-clause-effect : goal.returns-in_err-pay_or_refuse_search-clause-effect
+returns-in_err-pay_or_refuse_search-clause-effect g c =
     let s = c.args.self.now.executor.search in
     let can = can-be s.same s.searched.well_formed s.searched.unicode s.searched.bytes in
     let offset = g.Input.Position.PositionType.offset in
     let tree = tree_of s.program.regex in
     let text = g.Input.InputIndexer.text s.searched.input in
     let next = option_map offset c.skip_past_loop-start.result.0 in
-    refused-skip offset tree text (offset c.args.next) next c.skip_past_loop-start.result.1 _ _ c.from_residual.result c.in_err-pay_or_refuse_search.field-0.0 _ c.from_residual.ensures.1
-    (next-tree s.program.wide tree text can.well_formed (offset c.args.next) next c.skip_past_loop-start.ensures.next) c.skip_past_loop-start.ensures.skipped c.in_err-pay_or_refuse_search.ensures.refused
+    record {
+      counted = λ some. absurd (let no : ⊥ = cc some in no);
+      refused = search rules;
+      paid =
+          refused-skip offset tree text (offset c.args.next) next c.skip_past_loop-start.result.1 _ _ c.from_residual.result c.in_err-pay_or_refuse_search.field-0.0 _ c.from_residual.ensures.1
+          (next-tree s.program.wide tree text can.well_formed (offset c.args.next) next c.skip_past_loop-start.ensures.next) c.skip_past_loop-start.ensures.skipped c.in_err-pay_or_refuse_search.ensures.refused;
+      left = search (rules, arith);
+      same = record { tree = refl; text = refl; budget = refl; enough = refl; ahead = refl; failures = refl };
+    }

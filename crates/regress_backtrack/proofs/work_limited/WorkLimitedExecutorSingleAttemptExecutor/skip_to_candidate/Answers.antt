@@ -1,4 +1,4 @@
-use Rattle.std.proofs.Common.{◌≤◌, arith}
+use Rattle.std.proofs.Common.{◌≤◌, arith, refl, rules}
 use Rattle.std.specs.Prelude.{option_map}
 use Rattle.regex_pattern_front.specs.AstToSpecTree.{tree_of}
 use Rattle.regress_backtrack.proofs.PlannedTreeLemmas.{can-be, next-tree, refused-skip, search-run}
@@ -16,13 +16,20 @@ returns-clause-next g c =
     let offset = g.Input.Position.PositionType.offset in
     next-tree s.program.wide (tree_of s.program.regex) _ can.well_formed (offset c.args.from) (option_map offset c.skip_by_prefilter-next.result.0) c.skip_by_prefilter-next.ensures.next
 
-pub returns-in_err-pay_or_refuse_search-clause-paid : goal.returns-in_err-pay_or_refuse_search-clause-paid
-returns-in_err-pay_or_refuse_search-clause-paid g c =
+pub returns-in_err-pay_or_refuse_search-clause-effect : goal.returns-in_err-pay_or_refuse_search-clause-effect
+returns-in_err-pay_or_refuse_search-clause-effect g c =
     let s = c.args.self.now.executor.search in
     let can = can-be s.same s.searched.well_formed s.searched.unicode s.searched.bytes in
     let offset = g.Input.Position.PositionType.offset in
     let tree = tree_of s.program.regex in
     let text = g.Input.InputIndexer.text s.searched.input in
     let next = option_map offset c.skip_by_prefilter-next.result.0 in
-    refused-skip offset tree text (offset c.args.from) next c.skip_by_prefilter-next.result.1 _ _ c.from_residual.result c.in_err-pay_or_refuse_search.field-0.0 _ c.from_residual.ensures.1
-    (next-tree s.program.wide tree text can.well_formed (offset c.args.from) next c.skip_by_prefilter-next.ensures.next) c.skip_by_prefilter-next.ensures.skipped c.in_err-pay_or_refuse_search.ensures.refused
+    record {
+      counted = λ some. absurd (let no : ⊥ = cc some in no);
+      refused = search rules;
+      paid =
+          refused-skip offset tree text (offset c.args.from) next c.skip_by_prefilter-next.result.1 _ _ c.from_residual.result c.in_err-pay_or_refuse_search.field-0.0 _ c.from_residual.ensures.1
+          (next-tree s.program.wide tree text can.well_formed (offset c.args.from) next c.skip_by_prefilter-next.ensures.next) c.skip_by_prefilter-next.ensures.skipped c.in_err-pay_or_refuse_search.ensures.refused;
+      left = search (rules, arith);
+      same = record { tree = refl; text = refl; budget = refl; enough = refl; ahead = refl; failures = refl };
+    }

@@ -35,22 +35,22 @@ places-init g c =
     record {
       walk = record {
         walks = walk-begins tree text is pos next c.requires skips;
-        spent = subst (λ b. IsSpent tree text budget b (need_from tree text pos) next) (sym skip.ensures.same.2)
-            (spent-begins tree text is budget pos next c.requires (λ some. skip.ensures.counted some ∙ first.ensures.counted some));
+        spent = subst (λ b. IsSpent tree text budget b (need_from tree text pos) next) (sym skip.ensures.effect.same.budget)
+            (spent-begins tree text is budget pos next c.requires (λ some. skip.ensures.effect.counted some ∙ first.ensures.counted some));
       };
-      same_tree = skip.ensures.same.0;
-      same_text = skip.ensures.same.1;
-      turn = λ begins. ap₂ (λ e h. is_work_enough e h next) skip.ensures.same.3 skip.ensures.same.4 ∙ enough-next enough ahead tree text pos next skips begins;
+      same_tree = skip.ensures.effect.same.tree;
+      same_text = skip.ensures.effect.same.text;
+      turn = λ begins. ap₂ (λ e h. is_work_enough e h next) skip.ensures.effect.same.enough skip.ensures.effect.same.ahead ∙ enough-next enough ahead tree text pos next skips begins;
       next_start = refl;
-      left = skip.ensures.left;
+      left = skip.ensures.effect.left;
       progress =
           let left = a.left c.args.self.now in
           let failures = a.failures c.args.self.now in
           let behind = a.left c.skip_from.new.executor in
           counted₂ a.counts_work
-          (λ begins paid. subst (λ f. Failing a.costs tree text failures pos left f behind next) (sym skip.ensures.same.5)
+          (λ begins paid. subst (λ f. Failing a.costs tree text failures pos left f behind next) (sym skip.ensures.effect.same.failures)
           (failing-skips a.costs tree text refl refl failures left behind _ offset first.result skip.next (failing-begins a.costs tree text failures pos left (option_map offset first.result) begins) paid skip.ensures.candidate))
-          first.ensures.next_if_work_counted skip.ensures.paid;
+          first.ensures.next_if_work_counted skip.ensures.effect.paid;
     }
 
 pub next_search_pos-requires : goal.next_search_pos-requires
@@ -104,7 +104,7 @@ places-smaller g c =
     let goes = goes-there offset (g.A.SingleAttemptExecutor.groups c.attempt.new.self) (g.met.A.SingleAttemptExecutor.is_text c.args.self.now)
     c.places.invariant.walk c.in-Some.is c.places.invariant.same_tree c.places.invariant.same_text c.in_ok-end.ensures.found c.in_ok-end.ensures.steps
     c.in_default-2.is c.in_ok-end.ensures.same.0 c.in_ok-end.ensures.same.1 skip.ensures.next
-    (λ some. skip.ensures.counted some ∙ further.ensures.counted some) in
+    (λ some. skip.ensures.effect.counted some ∙ further.ensures.counted some) in
     let text = g.A.SearchState.text c.args.self.now in
     subst (λ o. untried text (option_map offset skip.next) < untried text (option_map offset o)) (sym c.in-Some.is) goes.less
 
@@ -125,29 +125,29 @@ places-preserved g c =
     let same_text = c.in_ok-end.ensures.same.1 ∙ invariant.same_text in
     let goes = goes-there offset (g.A.SingleAttemptExecutor.groups new) (g.met.A.SingleAttemptExecutor.is_text self)
     invariant.walk c.in-Some.is invariant.same_tree invariant.same_text c.in_ok-end.ensures.found c.in_ok-end.ensures.steps
-    c.in_default-2.is c.in_ok-end.ensures.same.0 c.in_ok-end.ensures.same.1 skips (λ some. skip.ensures.counted some ∙ further.ensures.counted some) in
+    c.in_default-2.is c.in_ok-end.ensures.same.0 c.in_ok-end.ensures.same.1 skips (λ some. skip.ensures.effect.counted some ∙ further.ensures.counted some) in
     record {
-      walk = subst (λ b. Walk (a.tree self) (a.text self) (offset c.args.pos) (a.budget self) b next) (sym skip.ensures.same.2) goes.walk;
-      same_tree = skip.ensures.same.0 ∙ same_tree;
-      same_text = skip.ensures.same.1 ∙ same_text;
+      walk = subst (λ b. Walk (a.tree self) (a.text self) (offset c.args.pos) (a.budget self) b next) (sym skip.ensures.effect.same.budget) goes.walk;
+      same_tree = skip.ensures.effect.same.tree ∙ same_tree;
+      same_text = skip.ensures.effect.same.text ∙ same_text;
       turn = λ begins.
-          ap₂ (λ e h. is_work_enough e h next) skip.ensures.same.3 skip.ensures.same.4
+          ap₂ (λ e h. is_work_enough e h next) skip.ensures.effect.same.enough skip.ensures.effect.same.ahead
           ∙ enough-next (a.enough new) (a.ahead new) (a.tree new) (a.text new) (start + 1) next skips
           (turn-behind (a.enough old) (a.ahead old) (a.enough new) (a.ahead new) (a.out_of_work new) offset c.places.next _ None c.in-Some.start
           c.in-Some.is (invariant.turn begins) c.in_ok-end.ensures.work c.in_default-2.is);
       next_start = invariant.next_start;
-      left = omega (arith, skip.ensures.left, c.in_ok-end.ensures.left, invariant.left);
+      left = omega (arith, skip.ensures.effect.left, c.in_ok-end.ensures.left, invariant.left);
       progress =
           let behind = a.left c.skip_from_failed.new.executor in
           counted₂ a.counts_work
-          (λ f paid. subst (λ x. Failing a.costs (a.tree self) (a.text self) (a.failures self) (offset c.args.pos) (a.left self) x behind next) (sym skip.ensures.same.5)
+          (λ f paid. subst (λ x. Failing a.costs (a.tree self) (a.text self) (a.failures self) (offset c.args.pos) (a.left self) x behind next) (sym skip.ensures.effect.same.failures)
           (failing-skips a.costs (a.tree new) (a.text new) same_tree same_text (a.failures new) (a.left new) behind _ offset further.result skip.next f paid skip.ensures.candidate))
           (counted₃ a.counts_work
           (λ f takes on. failing-goes a.costs offset c.places.next c.in-Some.start c.in-Some.is (a.tree old) (a.text old) invariant.same_tree invariant.same_text (a.failures old) (a.left old) f
           (g.A.SingleAttemptExecutor.groups new) _ c.in_ok-end.ensures.found c.in_default-2.is (option_map offset further.result) (a.tree new) (a.text new)
           c.in_ok-end.ensures.same.0 c.in_ok-end.ensures.same.1 (a.failures new) (a.left new) takes on)
           invariant.progress c.in_ok-end.ensures.cost further.ensures.next_if_work_counted)
-          skip.ensures.paid;
+          skip.ensures.effect.paid;
     }
 
 pub returns-in_err-end-clause-steps : goal.returns-in_err-end-clause-steps
@@ -227,10 +227,10 @@ returns-in_err-next-clause-cost g c =
     let first = c.first_start_to_try_from-first in
     counted₂ a.counts_work
     (λ begins paid. handed-cost costs (a.left self) c.from_residual.result c.in_err-next.field-0.0 (a.out_of_work new) (a.left new) (a.failures new) c.from_residual.ensures.1
-    (stops-out costs (a.left self) (a.out_of_work new) (a.left new) c.in_err-next.ensures.refused.2
+    (stops-out costs (a.left self) (a.out_of_work new) (a.left new) c.in_err-next.ensures.effect.refused.2
     (failing-refuses a.costs (a.tree self) (a.text self) refl refl (a.failures self) (a.left self) (a.left new) _ offset first.result c.in_err-next.field-0.0
     (failing-begins a.costs (a.tree self) (a.text self) (a.failures self) pos (a.left self) (option_map offset first.result) begins) paid)))
-    first.ensures.next_if_work_counted c.in_err-next.ensures.paid
+    first.ensures.next_if_work_counted c.in_err-next.ensures.effect.paid
 
 pub returns-in_err-next-2-clause-cost : goal.returns-in_err-next-2-clause-cost
 returns-in_err-next-2-clause-cost g c =
@@ -247,11 +247,11 @@ returns-in_err-next-2-clause-cost g c =
     let same_text = c.in_ok-end.ensures.same.1 ∙ invariant.same_text in
     counted₂ a.counts_work
     (λ f paid. handed-cost costs (a.left self) c.from_residual-in_err-next-2.result c.in_err-next-2.field-0.0 (a.out_of_work new) (a.left new) (a.failures new) c.from_residual-in_err-next-2.ensures.1
-    (stops-out costs (a.left self) (a.out_of_work new) (a.left new) c.in_err-next-2.ensures.refused.2
+    (stops-out costs (a.left self) (a.out_of_work new) (a.left new) c.in_err-next-2.ensures.effect.refused.2
     (failing-refuses a.costs (a.tree tried) (a.text tried) same_tree same_text (a.failures tried) (a.left tried) (a.left new) _ offset further.result c.in_err-next-2.field-0.0 f paid)))
     (counted₃ a.counts_work
     (λ f takes on. failing-goes a.costs offset c.places.next c.in-Some.start c.in-Some.is (a.tree old) (a.text old) invariant.same_tree invariant.same_text (a.failures old) (a.left old) f
     (g.A.SingleAttemptExecutor.groups tried) _ c.in_ok-end.ensures.found c.in_default-2.is (option_map offset further.result) (a.tree tried) (a.text tried)
     c.in_ok-end.ensures.same.0 c.in_ok-end.ensures.same.1 (a.failures tried) (a.left tried) takes on)
     invariant.progress c.in_ok-end.ensures.cost further.ensures.next_if_work_counted)
-    c.in_err-next-2.ensures.paid
+    c.in_err-next-2.ensures.effect.paid

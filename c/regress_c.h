@@ -288,14 +288,16 @@ regress_c_reply regress_c_match_at_ucs2(regress_c_pattern *pattern, const uint16
 /* ---- Within a work limit */
 
 /*
- * Sets `per_unit` to the work bound of the pattern, and returns DONE: on a text of n bytes, `per_unit` * (n + 1) work
- * is enough for all matches together. (That it is enough for the calls below is tested.) Returns EMPTY or MEMORY, or
- * one of the UNBOUNDED codes if no bound is known (docs/LINEAR.md), and then `per_unit` is unchanged. A pattern with a
- * backreference is UNBOUNDED_BACKREFERENCE. Another one may be UNBOUNDED_LOOKAROUND if it has a lookaround.
+ * Sets `per_unit` to the work bound of the pattern, and returns DONE. On a text of n bytes, `per_unit` * (n + 1) work
+ * is enough for all matches together. Tests check that it is enough for the calls below.
  *
- * A unit of bounded work is one step of a thread, one character that a loop over characters examines, one code unit that
- * a search skips, one way back to a waiting thread, one thread that is dropped since it is known to fail, or one record
- * of a failure that is reached.
+ * If no bound is known (docs/LINEAR.md), the call returns one of the UNBOUNDED codes. For a pattern with a
+ * backreference, the code is UNBOUNDED_BACKREFERENCE. For another pattern with a lookaround, it may be
+ * UNBOUNDED_LOOKAROUND. The call may also return EMPTY or MEMORY. If it does not return DONE, `per_unit` is unchanged.
+ *
+ * Each of these events takes one unit of bounded work. A thread executes one step. A loop over characters examines one
+ * character. A search skips one code unit. A search resumes a waiting thread. A search drops a thread that is known to
+ * fail. A search reaches the record of a failure.
  */
 uint32_t regress_c_work_per_unit(regress_c_pattern *pattern, uint64_t *per_unit);
 

@@ -29,8 +29,9 @@ abbrev pub is_goal_at : Option Insn → Bool
 is_goal_at (Some x) = is_goal_insn x
 is_goal_at None = false
 
--- Whether an instruction of the code is a loop, other than a loop over one character with a maximum,
--- or a jump to an instruction other than a goal. Such a jump ends an alternative that others follow.
+-- Whether an instruction of the code repeats or joins. A loop repeats, unless it is a loop over one
+-- character that has a maximum. A jump joins, unless its target is a goal. Such a jump ends an
+-- alternative that other contents follow.
 abbrev pub repeats_or_joins : (code : List Insn) → Option Insn → Bool
 repeats_or_joins code (Some (EnterLoop f)) = true
 repeats_or_joins code (Some (Loop1CharBody least most greedy)) = most == unlimited

@@ -8,8 +8,9 @@ ghost use Rattle.regress_bounded.specs.Unboundedness.{is_complex_lookaround, is_
 
 use regress_program::insn::Insn;
 
-/// Checks whether a program has a lookaround whose contents have a loop, other than a loop over one
-/// character with a maximum, or an alternative that other contents follow.
+/// Checks whether a program has a lookaround with complex contents. Contents are complex if they have
+/// a loop, or an alternative that other contents follow. A loop over one character that has a maximum
+/// does not count.
 pub(crate) fn has_complex_lookaround(insns: &[Insn]) -> bool
     ensures { let code = map insn_as_spec_insn insns.now in
         result ≡ list_any (is_complex_lookaround code) (numbers_from 0 (length code)) }

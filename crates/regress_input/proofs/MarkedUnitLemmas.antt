@@ -1,5 +1,6 @@
 -- A comparison of 32 masked units marks exactly those that have the given bits.
-use Rattle.std.proofs.Common.{◌≡◌, ℕ, ◌+◌, ◌-◌, ◌%◌, ◌^◌, ◌<◌, ◌≤◌, ◌==◌, List, [], ◌∷◌, zero, suc, Fits, w8, Bool, true, false, cond, eqb, length, get_or, map, replicate, refl, sym, ap, subst, ◌∙◌, arith, bit_and}
+use Rattle.std.proofs.Common.{◌≡◌, ℕ, ◌+◌, ◌-◌, ◌%◌, ◌^◌, ◌<◌, ◌≤◌, ◌==◌, List, [], ◌∷◌, zero, suc, Fits, w8, Bool, true, false, cond, eqb}
+use Rattle.std.proofs.Common.{length, get_or, map, replicate, refl, sym, ap, subst, ◌∙◌, arith, bit_and}
 use Rattle.std.specs.Prelude.{slice_index}
 use Rattle.std.specs.Int.{bit_at}
 use Rattle.std.specs.Simd.Lanes.{chunk, zip2, mask_l, top, Each1}

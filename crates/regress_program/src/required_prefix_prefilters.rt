@@ -424,28 +424,32 @@ impl KeySelection for Prefix {
 
 // Returns the longest sequence of positions below `len` that allow one unit each.
 fn longest_literal(common_bits: &[CommonBitsOfUnits; 16], len: usize) -> Literal {
-    let none = Literal {
-        units: [0; 15],
-        len: 0,
-        ahead: 0,
-    };
-    let mut longest_literal = none;
-    let mut row = none;
+    let mut longest = 0;
+    let mut first = 0;
+    let mut from = 0;
     for ahead in 0..MOST {
-        if ahead < len && common_bits[ahead].is_unit() && row.len < MOST {
-            row.units[row.len] = common_bits[ahead].all;
-            row.len += 1;
+        if ahead < len && common_bits[ahead].is_unit() {
+            let row = (ahead + 1).saturating_sub(from);
+            if row > longest {
+                longest = row;
+                first = from;
+            }
         } else {
-            row = Literal {
-                ahead: ahead + 1,
-                ..none
-            };
-        }
-        if row.len > longest_literal.len {
-            longest_literal = row;
+            from = ahead + 1;
         }
     }
-    longest_literal
+    literal_at(common_bits, first, longest)
+}
+
+// Returns the literal of `len` units at the positions from `ahead` on.
+fn literal_at(common_bits: &[CommonBitsOfUnits; 16], ahead: usize, len: usize) -> Literal {
+    let mut units = [0; 15];
+    for i in 0..len.min(MOST) {
+        if let Some(common) = common_bits.get(ahead.saturating_add(i)) {
+            units[i] = common.all;
+        }
+    }
+    Literal { units, len, ahead }
 }
 
 // Adds a key at each position below `len` at which its mask allows it.
@@ -492,14 +496,26 @@ fn least(numbers: &[u32; 16]) -> usize
     at
 }
 
+/// An estimate of how often each unit below 128 occurs in texts, in a thousand: 150 for a space, 50
+/// for the twelve most frequent letters, 10 for `v`, `k`, `.` and `,`, 20 for other small letters
+/// but the four rarest, for digits and for the end of a line, 3 for capital letters, and 5 for all
+/// others.
+static FREQUENCIES: [u8; 128] = [
+    5, 5, 5, 5, 5, 5, 5, 5, 5, 5, 20, 5, 5, 5, 5, 5, 5, 5, 5, 5, 5, 5, 5, 5, 5, 5, 5, 5, 5, 5, 5,
+    5, 150, 5, 5, 5, 5, 5, 5, 5, 5, 5, 5, 5, 10, 5, 10, 5, 20, 20, 20, 20, 20, 20, 20, 20, 20, 20,
+    5, 5, 5, 5, 5, 5, 5, 3, 3, 3, 3, 3, 3, 3, 3, 3, 3, 3, 3, 3, 3, 3, 3, 3, 3, 3, 3, 3, 3, 3, 3, 3,
+    3, 5, 5, 5, 5, 5, 5, 50, 20, 20, 50, 50, 20, 20, 50, 50, 5, 10, 50, 20, 50, 50, 20, 5, 50, 50,
+    50, 50, 10, 20, 5, 20, 5, 5, 5, 5, 5, 5,
+];
+
+/// The frequency of a unit of 128 or more.
+const FREQUENCY_BEYOND_ASCII: u8 = 5;
+
 /// Estimates how often a unit occurs in texts, in a thousand.
+#[inline]
 pub(crate) fn frequency(unit: u8) -> u8 {
-    match unit {
-        b' ' => 150,
-        b'e' | b't' | b'a' | b'o' | b'i' | b'n' | b's' | b'r' | b'h' | b'l' | b'd' | b'u' => 50,
-        b'c' | b'm' | b'f' | b'p' | b'g' | b'w' | b'y' | b'b' | b'0'..=b'9' | b'\n' => 20,
-        b'v' | b'k' | b'.' | b',' => 10,
-        b'A'..=b'Z' => 3,
-        _ => 5,
+    match FREQUENCIES.get(usize::from(unit)) {
+        Some(frequency) => *frequency,
+        None => FREQUENCY_BEYOND_ASCII,
     }
 }

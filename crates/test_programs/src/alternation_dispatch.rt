@@ -13,7 +13,7 @@ pub(crate) fn write_arms_by_key(
     tree: &Regex,
 ) -> Result<(), AllocError> {
     match emit(alloc, tree) {
-        Ok(program) => write_each(text, &program.plan().choices),
+        Ok(program) => write_each(text, &program.plan().arm_dispatch_tables),
         Err(_) => Ok(()),
     }
 }
@@ -25,7 +25,7 @@ pub(crate) fn write_unit_arms_by_key(
     tree: &Regex,
 ) -> Result<(), AllocError> {
     match emit_units(alloc, tree) {
-        Ok(program) => write_each(text, &program.plan().choices),
+        Ok(program) => write_each(text, &program.plan().arm_dispatch_tables),
         Err(_) => Ok(()),
     }
 }

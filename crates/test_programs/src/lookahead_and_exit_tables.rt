@@ -15,7 +15,7 @@ pub(crate) fn write_lookaheads(
     tree: &Regex,
 ) -> Result<(), AllocError> {
     match emit(alloc, tree) {
-        Ok(program) => write_each(text, &program.plan().decided),
+        Ok(program) => write_each(text, &program.plan().lookahead_and_exit_tables),
         Err(_) => Ok(()),
     }
 }
@@ -27,7 +27,7 @@ pub(crate) fn write_unit_lookaheads(
     tree: &Regex,
 ) -> Result<(), AllocError> {
     match emit_units(alloc, tree) {
-        Ok(program) => write_each(text, &program.plan().decided),
+        Ok(program) => write_each(text, &program.plan().lookahead_and_exit_tables),
         Err(_) => Ok(()),
     }
 }

@@ -12,7 +12,7 @@ pub(crate) fn write_must_iterate(
     tree: &Regex,
 ) -> Result<(), AllocError> {
     match emit(alloc, tree) {
-        Ok(program) => write_each(text, &program.plan().rounds),
+        Ok(program) => write_each(text, &program.plan().must_iterate_tables),
         Err(_) => Ok(()),
     }
 }
@@ -24,7 +24,7 @@ pub(crate) fn write_unit_must_iterate(
     tree: &Regex,
 ) -> Result<(), AllocError> {
     match emit_units(alloc, tree) {
-        Ok(program) => write_each(text, &program.plan().rounds),
+        Ok(program) => write_each(text, &program.plan().must_iterate_tables),
         Err(_) => Ok(()),
     }
 }

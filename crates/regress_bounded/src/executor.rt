@@ -5,16 +5,18 @@ ghost use Rattle.std.specs.Option.{ForSome, option_map_or};
 ghost use Rattle.std.specs.Arc.{arc_value};
 ghost use Rattle.std.specs.Coded.{codes};
 ghost use Rattle.std.proofs.Props.{props};
-ghost use Rattle.regex_meaning.specs.{CodeUnitOffsets.{units, IsBoundaryOrPastEnd, is_past}, Text.{ascii_text, ucs2_text, utf16_text, utf8_text}};
+ghost use Rattle.regex_meaning.specs.{CodeUnitOffsets.{IsBoundary, IsBoundaryOrPastEnd, is_past, units}, Text.{ascii_text, ucs2_text, utf16_text, utf8_text}};
 ghost use Rattle.regex_pattern_front.specs.AstToSpecTree.{tree_of};
 ghost use Rattle.regex_pattern_front.specs.contracts.ir.Node as node;
+ghost use Rattle.regress_search.specs.AttemptsAndStarts.{end_with_groups, match_end_and_groups_at};
 ghost use Rattle.regress_search.specs.CostsOfCalls.{without_costs};
+ghost use Rattle.regress_search.specs.{CostsOfSearches.{SpendsExactCost}, MatchesWithinWork.{AttemptKeepsWorkEnough}};
 ghost use Rattle.regress_search.specs.declared.exec.SearchError.TheVariants.{Memory};
 ghost use Rattle.regress_pikevm.specs.States.{groups_as_offset_ranges};
 ghost use Rattle.regress_backtrack.specs.{State.{current_thread_state_of}, WorkOfAttempts.{no_failures}};
 ghost use Rattle.regress_bounded.specs.WorkBoundForAllMatches.{TreeHasWorkBound, HasMadeNoAttempt, YieldsMatchesIfWorkSuffices, first_stage_work_per_position};
 ghost use Rattle.regress_bounded.specs.WorkBoundForAllMatches.{is_work_enough_for_text, second_stage_work_per_position};
-ghost use Rattle.regress_bounded.specs.CostsOfAttempts.{NoFailuresAreKnown, IteratorBeginsSearches, failures_of};
+ghost use Rattle.regress_bounded.specs.CostsOfAttempts.{AttemptCosts, NoFailuresAreKnown, IteratorBeginsSearches, failures_of};
 ghost use Rattle.regress_bounded.specs.CostsOfStages.{costs_of_stages};
 
 use crate::memoizing_executor::MemoizingExecutor;
@@ -112,10 +114,7 @@ impl<'r, Input: InputIndexer> SingleAttemptExecutor for BoundedExecutor<'r, Inpu
             self.out = true;
             return result;
         }
-        let mut second = self.new_second_stage()?;
-        let result = second.attempt(pos);
-        self.second = Some(second);
-        result
+        self.repeat_in_second_stage(pos)
     }
 
     fn group_count(&self) -> usize {
@@ -237,7 +236,48 @@ impl<'r, Input: InputIndexer> BoundedExecutor<'r, Input> {
         })
     }
 
+    // Begins the second stage, and repeats the attempt there for which the first stage lacked work. It
+    // is not inlined, because that happens at most once, and most attempts are made in the first stage.
+    // Contract: the clauses are those of `SingleAttemptExecutor::attempt`, for an attempt of the second
+    // stage that knows no failures and has the work that is left for it. By `first`, the program, the
+    // text and the first stage stay the same.
+    #[inline(never)]
+    fn repeat_in_second_stage(
+        &mut self,
+        pos: Input::Position,
+    ) -> Result<Option<Input::Position>, SearchError>
+        requires at { IsBoundary (Input.text self.old.first.executor.search.searched.input)
+            (Input.Position.offset pos) }
+        requires first_stage { (self.old.second ≡ None) × (self.old.out ≡ false) }
+        requires exhausted { self.old.first.progress.steps.out ≡ true }
+        ensures found { let at = Input.Position.offset in IfOk result (λ end. end_with_groups at end
+            (option_map_or (λ m. groups_as_offset_ranges at m.groups.items) self.new.second
+            (current_thread_state_of self.new.first.executor.memory 0 0).groups) ≡ match_end_and_groups_at
+            (tree_of self.old.first.executor.search.program.regex)
+            (Input.text self.old.first.executor.search.searched.input) (at pos)) }
+        ensures cause { IfErr result (λ e. e ≡ Memory) }
+        ensures work { let at = Input.Position.offset in let second = self.new.second in
+            AttemptKeepsWorkEnough at self.old.enough 0 (at pos) result
+            (option_map_or (λ m. m.enough) second self.new.enough) (option_map_or (λ m. m.ahead) second 0)
+            (option_map_or (λ m. m.out) second self.new.out) }
+        ensures left { option_map_or (λ m. m.progress.left) self.new.second
+            (self.new.first.progress.steps.left + self.new.reserve) ≤ self.old.reserve }
+        ensures within { IfOk result (λ _. option_map_or (λ m. m.out) self.new.second self.new.out ≡ false) }
+        ensures cost { let first = self.old.first.executor.search in let second = self.new.second in
+            SpendsExactCost (AttemptCosts (tree_of first.program.regex) (Input.text first.searched.input) no_failures
+            (Input.Position.offset pos)) self.old.reserve result (option_map_or (λ m. m.out) second self.new.out)
+            (option_map_or (λ m. m.progress.left) second (self.new.first.progress.steps.left + self.new.reserve))
+            (option_map_or (λ m. failures_of m.progress.memo) second no_failures) }
+        ensures first { self.new.first ≡ self.old.first }
+    {
+        let mut second = self.new_second_stage()?;
+        let result = second.attempt(pos);
+        self.second = Some(second);
+        result
+    }
+
     // Creates the second stage, which has made no attempt and has the work that is left for it.
+    #[inline(never)]
     fn new_second_stage(&self) -> Result<MemoizingExecutor<'r, Input>, SearchError>
         ensures program { IfOk result (λ m. m.searched.program.now ≡ self.now.first.executor.search.program.regex) }
         ensures text { IfOk result (λ m. Input.text m.searched.input

@@ -129,6 +129,7 @@ impl<'r, Input: InputIndexer> MemoizingExecutor<'r, Input> {
     /// Returns the end of the match of highest priority that begins at `pos`. After that, `groups` are
     /// its groups. The clauses are those of `SingleAttemptExecutor::attempt`; by `searched`, the program
     /// and the text stay the same.
+    #[inline(never)]
     pub(crate) fn attempt(
         &mut self,
         pos: Input::Position,

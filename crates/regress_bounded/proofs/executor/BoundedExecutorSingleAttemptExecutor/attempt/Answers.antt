@@ -1,4 +1,4 @@
-use Rattle.std.proofs.Common.{◌≡◌, ◌≤◌, ◌<◌, ◌+◌, ◌*◌, ℕ, Bool, true, false, Option, Some, None, ap, ap₂, refl, sym, subst, ◌∙◌, arith}
+use Rattle.std.proofs.Common.{◌≡◌, ◌≤◌, ◌+◌, true, false, Some, None, ap, ap₂, refl, sym, subst, ◌∙◌, arith}
 use Rattle.std.specs.Option.{option_map_or}
 use Rattle.regex_pattern_front.specs.AstToSpecTree.{tree_of}
 use Rattle.regress_search.specs.AttemptsAndStarts.{match_end_and_groups_at, ticks_of_attempt_at}
@@ -7,10 +7,7 @@ use Rattle.regress_search.specs.MatchesWithinWork.{IsOrderedAttempt}
 use Rattle.regress_backtrack.specs.WorkOfAttempts.{no_failures}
 use Rattle.regress_bounded.specs.CostsOfAttempts.{AttemptCosts, failures_of}
 use Rattle.regress_bounded.specs.CostsOfStages.{FirstStageCosts, StagesCost}
-use Rattle.regress_bounded.specs.WorkBoundForAllMatches.{TreeHasWorkBound, second_stage_work_per_position}
-use Rattle.regex_meaning.specs.CodeUnitOffsets.{units}
-use Rattle.std.specs.Arc.{arc_value}
-use Rattle.regress_bounded.proofs.StagesLemmas.{costs-same, held, made-in-first, made-in-second, made-in-both, more-than-first-left, no-failures-known, ok-map, unlimited-cause, unlimited-steps}
+use Rattle.regress_bounded.proofs.StagesLemmas.{costs-same, held, made-in-first, made-in-second, made-in-both, more-than-first-left, ok-map, unlimited-cause, unlimited-steps}
 use Rattle.regress_bounded.proofs.executor.BoundedExecutorSingleAttemptExecutor.attempt.Goals as goal
 
 -- ---- The second stage has begun
@@ -87,35 +84,25 @@ returns-then-self-eq0-clause-cost g c =
 
 -- ---- It begins
 
-pub invariant_of-self-2 : goal.invariant_of-self-2
-invariant_of-self-2 g c =
-    let self = c.args.self.now in
-    let first = c.attempt-result.new.self in
-    let same = c.attempt-result.ensures.same in
-    record {
-      bounded = subst (λ t. TreeHasWorkBound t self.bound) (sym same.0) self.bounded;
-      program = λ x some. held (λ m. m.searched.program.now ≡ first.executor.search.program.regex) c.attempt-result-2.new.self x some
-          (ap (λ s. s.program.now) c.attempt-result-2.ensures.searched ∙ c.in_ok-second.ensures.program);
-      text = λ x some. held (λ m. g.Input.InputIndexer.text m.searched.input ≡ g.Input.InputIndexer.text first.executor.search.searched.input) c.attempt-result-2.new.self x some
-          (ap (λ s. g.Input.InputIndexer.text s.input) c.attempt-result-2.ensures.searched ∙ c.in_ok-second.ensures.text);
-      sum = let less = c.attempt-result.ensures.left in let sum = self.sum in omega (arith, less, sum);
-      suffices = λ e. subst (λ t. second_stage_work_per_position (arc_value self.bound.memo_analysis) * (units t + 1) ≤ self.reserve) (sym same.1) (self.suffices e);
-      all_given = self.all_given;
-      spent = λ e. absurd (let no : ⊥ = cc in no);
-    }
-
 pub returns-clause-found : goal.returns-clause-found
 returns-clause-found g c =
     let same = c.attempt-result.ensures.same in
-    ok-map c.attempt-result-2.result (λ end found. found
-    ∙ ap₂ (λ tree text. match_end_and_groups_at tree text (g.Input.Position.PositionType.offset c.args.pos)) (ap tree_of c.in_ok-second.ensures.program ∙ same.0) (c.in_ok-second.ensures.text ∙ same.1)) c.attempt-result-2.ensures.found
+    ok-map c.repeat_in_second_stage.result (λ end found. found
+    ∙ ap₂ (λ tree text. match_end_and_groups_at tree text (g.Input.Position.PositionType.offset c.args.pos)) same.0 same.1) c.repeat_in_second_stage.ensures.found
 
 pub returns-clause-work : goal.returns-clause-work
 returns-clause-work g c = λ ordered.
     let self = c.args.self.now in
     let at = g.Input.Position.PositionType.offset c.args.pos in
-    let first : IsOrderedAttempt self.enough 0 at = subst (λ o. IsOrderedAttempt (option_map_or (λ m. m.enough) o self.enough) (option_map_or (λ m. m.ahead) o 0) at) c.in-None.is ordered in
-    c.attempt-result-2.ensures.work (record { is = c.in_ok-second.ensures.enough ∙ first.is; past = subst (λ n. n ≤ at) (sym c.in_ok-second.ensures.ahead) first.past })
+    c.repeat_in_second_stage.ensures.work (subst (λ o. IsOrderedAttempt (option_map_or (λ m. m.enough) o self.enough) (option_map_or (λ m. m.ahead) o 0) at) c.in-None.is ordered)
+
+pub returns-clause-left : goal.returns-clause-left
+returns-clause-left g c =
+    let self = c.args.self.now in
+    let new = c.repeat_in_second_stage.new.self in
+    let left = option_map_or (λ m. m.progress.left) new.second (new.first.progress.steps.left + new.reserve) in
+    subst (λ o. left ≤ option_map_or (λ m. m.progress.left) o (self.first.progress.steps.left + self.reserve)) (sym c.in-None.is)
+    (let less = c.repeat_in_second_stage.ensures.left in omega (arith, less))
 
 pub returns-clause-cost : goal.returns-clause-cost
 returns-clause-cost g c =
@@ -125,22 +112,23 @@ returns-clause-cost g c =
     let tree = tree_of self.first.executor.search.program.regex in
     let text = g.Input.InputIndexer.text self.first.executor.search.searched.input in
     let same = c.attempt-result.ensures.same in
-    let begun = c.in_ok-second.second in
-    let new = c.attempt-result-2.new.self in
-    let r = c.attempt-result-2.result in
+    let new = c.repeat_in_second_stage.new.self in
+    let r = c.repeat_in_second_stage.result in
+    let out = option_map_or (λ m. m.out) new.second new.out in
+    let left = option_map_or (λ m. m.progress.left) new.second (new.first.progress.steps.left + new.reserve) in
+    let after = option_map_or (λ m. failures_of m.progress.memo) new.second no_failures in
     let exhausted = sym c.is_work_exhausted.ensures.limit ∙ c.if-not-is_work_exhausted.false in
     let more = more-than-first-left (FirstStageCosts e tree text no_failures at) self.first.progress.steps.left c.attempt-result.new.self.progress.steps.left c.attempt-result.result c.attempt-result.new.self.progress.steps.out
     no_failures c.attempt-result.ensures.within exhausted c.attempt-result.ensures.cost in
-    let second = costs-same (ap tree_of c.in_ok-second.ensures.program ∙ same.0) (c.in_ok-second.ensures.text ∙ same.1)
-    (no-failures-known (failures_of begun.progress.memo) c.in_ok-second.ensures.fresh) c.in_ok-second.ensures.left at r new.out new.progress.left (failures_of new.progress.memo) c.attempt-result-2.ensures.cost in
+    let second = costs-same same.0 same.1 refl refl at r out left after c.repeat_in_second_stage.ensures.cost in
     subst (λ o. SpendsExactCost (StagesCost e tree text (option_map_or (λ m. failures_of m.progress.memo) o no_failures) at)
-    (option_map_or (λ m. m.progress.left) o (self.first.progress.steps.left + self.reserve)) r new.out new.progress.left (failures_of new.progress.memo)) (sym c.in-None.is)
-    (made-in-both e tree text no_failures at self.first.progress.steps.left self.reserve new.progress.left r new.out (failures_of new.progress.memo) more second)
+    (option_map_or (λ m. m.progress.left) o (self.first.progress.steps.left + self.reserve)) r out left after) (sym c.in-None.is)
+    (made-in-both e tree text no_failures at self.first.progress.steps.left self.reserve left r out after more second)
 
 pub returns-clause-steps : goal.returns-clause-steps
 returns-clause-steps g c =
     let first = c.args.self.now.first.executor.search in
-    unlimited-steps (ticks_of_attempt_at (tree_of first.program.regex) (g.Input.InputIndexer.text first.searched.input) (g.Input.Position.PositionType.offset c.args.pos)) c.attempt-result-2.result c.attempt-result-2.ensures.cause
+    unlimited-steps (ticks_of_attempt_at (tree_of first.program.regex) (g.Input.InputIndexer.text first.searched.input) (g.Input.Position.PositionType.offset c.args.pos)) c.repeat_in_second_stage.result c.repeat_in_second_stage.ensures.cause
 
 pub returns-clause-cause : goal.returns-clause-cause
-returns-clause-cause g c = unlimited-cause c.attempt-result-2.result c.attempt-result-2.ensures.cause
+returns-clause-cause g c = unlimited-cause c.repeat_in_second_stage.result c.repeat_in_second_stage.ensures.cause

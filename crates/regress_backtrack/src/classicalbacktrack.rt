@@ -24,7 +24,7 @@ use crate::program_plan_and_text::{ProgramAndPlan, ProgramPlanAndText};
 use crate::state::BacktrackState;
 use crate::step_and_work_budgets::{UnlimitedCounter, WorkBounded};
 pub use crate::step_limited::LimitedExecutor;
-pub use crate::work_limited::WorkLimitedExecutor;
+pub use crate::work_limited::{FirstStageExecutor, WorkLimitedExecutor};
 use regress_input::indexing::{AsciiInput, InputIndexer, Ucs2Input, Utf8Input, Utf16Input};
 use regress_input::position::PositionType;
 use regress_program::insn::{CompiledRegex, CompiledRegexFor16BitUnits, Program};

@@ -5,6 +5,7 @@ ghost use Rattle.std.proofs.Common.{sym, true≢false};
 ghost use Rattle.regress_backtrack.specs.BudgetAccounting.{Budget, IsTakenFromBudget, IsRefusedByBudget};
 
 use std::alloc::AllocError;
+use std::marker::PhantomData;
 
 /// A search stopped without a result: an allocation failed, too much work was done, or, if steps
 /// are counted, too few steps were left. The type has no fields, so that a result with a position
@@ -283,16 +284,35 @@ impl StepCounter for LimitedStepCounter {
     ghost unpaid = { λ free one another. refl };
 }
 
+/// The part of a search that an executor with a work budget makes. Each implementation is a type of
+/// its own, so that each has its own copy of the interpreter, with a single call site where it is
+/// inlined: see `interpret`.
+pub trait SearchStage: Copy {}
+
+/// The executor makes the whole search.
+#[derive(Clone, Copy)]
+pub struct OnlyStage;
+
+impl SearchStage for OnlyStage {}
+
+/// The executor makes the first of two stages of a search.
+#[derive(Clone, Copy)]
+pub struct FirstStage;
+
+impl SearchStage for FirstStage {}
+
 /// A counter without a step limit, with a budget from which work is paid.
 #[derive(Clone, Copy)]
-pub struct WorkBudget {
+pub struct WorkBudget<Stage: SearchStage> {
     /// The work that is left.
     pub left: u64,
     /// Whether work was refused.
     pub out: bool,
+    /// The stage whose work is paid.
+    pub stage: PhantomData<Stage>,
 }
 
-impl StepCounter for WorkBudget {
+impl<Stage: SearchStage> StepCounter for WorkBudget<Stage> {
     ghost COUNTS = { false };
 
     const COUNTS: bool = false;

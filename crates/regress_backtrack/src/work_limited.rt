@@ -20,7 +20,7 @@ use crate::classicalbacktrack::{
 use crate::failure_memo::{NoMemo, StepsAndMemo};
 use crate::leap_memory::LeapSchedule;
 use crate::next_candidate_start_by_plan::is_candidate_start;
-use crate::step_and_work_budgets::{StepCounter, WorkBudget};
+use crate::step_and_work_budgets::{FirstStage, OnlyStage, SearchStage, StepCounter, WorkBudget};
 use regress_input::indexing::{AsciiInput, InputIndexer, Ucs2Input, Utf8Input, Utf16Input};
 use regress_program::insn::{CompiledRegex, CompiledRegexFor16BitUnits, Program};
 use regress_program::leading_char_loop::LeadingCharLoop;
@@ -35,6 +35,7 @@ use regress_search::search_context::{
 };
 use regress_search::search_loop::SingleAttemptExecutor;
 use std::alloc::AllocError;
+use std::marker::PhantomData;
 
 /// Searches a text like `BacktrackExecutor`, but does at most a given amount of work for all matches
 /// together. It records no failures.
@@ -44,15 +45,21 @@ use std::alloc::AllocError;
 /// attempt, the leading loop is skipped too, and a leap is made if one is due. A skip takes one unit
 /// for each code unit that is skipped. What a search costs does not depend on the work that is left.
 #[derive(Drop)]
-pub struct WorkLimitedExecutor<'r, Input: InputIndexer> {
+pub struct WorkPayingExecutor<'r, Input: InputIndexer, Stage: SearchStage> {
     executor: BacktrackExecutor<'r, Input>,
     // The work that is left, and whether the last attempt was refused some.
-    progress: StepsAndMemo<WorkBudget, NoMemo>,
+    progress: StepsAndMemo<WorkBudget<Stage>, NoMemo>,
     // When leaps are made, and how far they may read ahead.
     leaps: LeapsWithinWork,
     // No work is left after some was refused.
     ghost spent: { progress.steps.out ≡ true → progress.steps.left ≡ 0 } by { Prim.hlevel props },
 }
+
+/// An executor that makes whole searches with a limited amount of work.
+pub type WorkLimitedExecutor<'r, Input> = WorkPayingExecutor<'r, Input, OnlyStage>;
+
+/// An executor that makes the first of two stages of a search, with a limited amount of work.
+pub type FirstStageExecutor<'r, Input> = WorkPayingExecutor<'r, Input, FirstStage>;
 
 /// The leaps of a search with a limited amount of work. They read at most as many units beyond the
 /// starts to which they lead as units of work were paid before, so that what they read is paid for
@@ -95,7 +102,7 @@ impl LeapsWithinWork {
     }
 }
 
-impl<'r, Input: InputIndexer> WorkLimitedExecutor<'r, Input> {
+impl<'r, Input: InputIndexer, Stage: SearchStage> WorkPayingExecutor<'r, Input, Stage> {
     // Limits the work of an executor.
     fn from_executor(executor: BacktrackExecutor<'r, Input>, work: u64) -> Self
         ensures tree { tree_of result.executor.search.program.regex
@@ -108,12 +115,13 @@ impl<'r, Input: InputIndexer> WorkLimitedExecutor<'r, Input> {
             schedule: LeapSchedule::new(&executor.search.program.plan().leap),
             covered: work,
         };
-        WorkLimitedExecutor {
+        WorkPayingExecutor {
             executor,
             progress: StepsAndMemo {
                 steps: WorkBudget {
                     left: work,
                     out: false,
+                    stage: PhantomData,
                 },
                 memo: NoMemo,
                 end: None,
@@ -130,7 +138,7 @@ impl<'r, Input: InputIndexer> WorkLimitedExecutor<'r, Input> {
     }
 }
 
-impl<'r, 't> WorkLimitedExecutor<'r, Utf8Input<'t>> {
+impl<'r, 't, Stage: SearchStage> WorkPayingExecutor<'r, Utf8Input<'t>, Stage> {
     /// Creates an executor that searches `text` with the program `re`, in at most `work` units of
     /// work.
     ///
@@ -138,19 +146,19 @@ impl<'r, 't> WorkLimitedExecutor<'r, Utf8Input<'t>> {
     ///
     /// Returns `Err` if an allocation fails.
     pub fn new(re: &'r CompiledRegex, text: &'t str, work: u64) -> Result<Self, AllocError>
-        ensures tree { IfOk result (λ e. ⟦<WorkLimitedExecutor<'r, Utf8Input<'t>> as SearchState>⟧.tree e
+        ensures tree { IfOk result (λ e. ⟦<WorkPayingExecutor<'r, Utf8Input<'t>, Stage> as SearchState>⟧.tree e
             ≡ tree_of re.now) }
-        ensures text { IfOk result (λ e. ⟦<WorkLimitedExecutor<'r, Utf8Input<'t>> as SearchState>⟧.text e
+        ensures text { IfOk result (λ e. ⟦<WorkPayingExecutor<'r, Utf8Input<'t>, Stage> as SearchState>⟧.text e
             ≡ utf8_text text.now (tree_of re.now).flags.unicode) }
-        ensures left { IfOk result (λ e. ⟦<WorkLimitedExecutor<'r, Utf8Input<'t>> as SearchState>⟧.left e
+        ensures left { IfOk result (λ e. ⟦<WorkPayingExecutor<'r, Utf8Input<'t>, Stage> as SearchState>⟧.left e
             ≡ work) }
     {
         let executor = BacktrackExecutor::<Utf8Input>::new(re, text)?;
-        Ok(WorkLimitedExecutor::from_executor(executor, work))
+        Ok(WorkPayingExecutor::from_executor(executor, work))
     }
 }
 
-impl<'r, 't> WorkLimitedExecutor<'r, AsciiInput<'t>> {
+impl<'r, 't, Stage: SearchStage> WorkPayingExecutor<'r, AsciiInput<'t>, Stage> {
     /// Creates an executor that searches an ASCII text (`is_ascii`) with the program `re`, in at
     /// most `work` units of work.
     ///
@@ -159,19 +167,19 @@ impl<'r, 't> WorkLimitedExecutor<'r, AsciiInput<'t>> {
     /// Returns `Err` if an allocation fails.
     pub fn new_ascii(re: &'r CompiledRegex, text: &'t str, work: u64) -> Result<Self, AllocError>
         requires { IsAscii text.now }
-        ensures tree { IfOk result (λ e. ⟦<WorkLimitedExecutor<'r, AsciiInput<'t>> as SearchState>⟧.tree e
+        ensures tree { IfOk result (λ e. ⟦<WorkPayingExecutor<'r, AsciiInput<'t>, Stage> as SearchState>⟧.tree e
             ≡ tree_of re.now) }
-        ensures text { IfOk result (λ e. ⟦<WorkLimitedExecutor<'r, AsciiInput<'t>> as SearchState>⟧.text e
+        ensures text { IfOk result (λ e. ⟦<WorkPayingExecutor<'r, AsciiInput<'t>, Stage> as SearchState>⟧.text e
             ≡ ascii_text text.now (tree_of re.now).flags.unicode) }
-        ensures left { IfOk result (λ e. ⟦<WorkLimitedExecutor<'r, AsciiInput<'t>> as SearchState>⟧.left e
+        ensures left { IfOk result (λ e. ⟦<WorkPayingExecutor<'r, AsciiInput<'t>, Stage> as SearchState>⟧.left e
             ≡ work) }
     {
         let executor = BacktrackExecutor::<AsciiInput>::new(re, text)?;
-        Ok(WorkLimitedExecutor::from_executor(executor, work))
+        Ok(WorkPayingExecutor::from_executor(executor, work))
     }
 }
 
-impl<'r, 't> WorkLimitedExecutor<'r, Utf16Input<'t>> {
+impl<'r, 't, Stage: SearchStage> WorkPayingExecutor<'r, Utf16Input<'t>, Stage> {
     /// Creates an executor that searches 16-bit units, read as UTF-16, with the program `re`, in
     /// at most `work` units of work.
     ///
@@ -183,19 +191,19 @@ impl<'r, 't> WorkLimitedExecutor<'r, Utf16Input<'t>> {
         text: &'t [u16],
         work: u64,
     ) -> Result<Self, AllocError>
-        ensures tree { IfOk result (λ e. ⟦<WorkLimitedExecutor<'r, Utf16Input<'t>> as SearchState>⟧.tree e
+        ensures tree { IfOk result (λ e. ⟦<WorkPayingExecutor<'r, Utf16Input<'t>, Stage> as SearchState>⟧.tree e
             ≡ tree_of re.now) }
-        ensures text { IfOk result (λ e. ⟦<WorkLimitedExecutor<'r, Utf16Input<'t>> as SearchState>⟧.text e
+        ensures text { IfOk result (λ e. ⟦<WorkPayingExecutor<'r, Utf16Input<'t>, Stage> as SearchState>⟧.text e
             ≡ utf16_text text.now (tree_of re.now).flags.unicode) }
-        ensures left { IfOk result (λ e. ⟦<WorkLimitedExecutor<'r, Utf16Input<'t>> as SearchState>⟧.left e
+        ensures left { IfOk result (λ e. ⟦<WorkPayingExecutor<'r, Utf16Input<'t>, Stage> as SearchState>⟧.left e
             ≡ work) }
     {
         let executor = BacktrackExecutor::<Utf16Input>::new_utf16(re, text)?;
-        Ok(WorkLimitedExecutor::from_executor(executor, work))
+        Ok(WorkPayingExecutor::from_executor(executor, work))
     }
 }
 
-impl<'r, 't> WorkLimitedExecutor<'r, Ucs2Input<'t>> {
+impl<'r, 't, Stage: SearchStage> WorkPayingExecutor<'r, Ucs2Input<'t>, Stage> {
     /// Creates an executor that searches 16-bit units, each of which is a character, with the
     /// program `re`, in at most `work` units of work.
     ///
@@ -207,19 +215,20 @@ impl<'r, 't> WorkLimitedExecutor<'r, Ucs2Input<'t>> {
         text: &'t [u16],
         work: u64,
     ) -> Result<Self, AllocError>
-        ensures tree { IfOk result (λ e. ⟦<WorkLimitedExecutor<'r, Ucs2Input<'t>> as SearchState>⟧.tree e
+        ensures tree { IfOk result (λ e. ⟦<WorkPayingExecutor<'r, Ucs2Input<'t>, Stage> as SearchState>⟧.tree e
             ≡ tree_of re.now) }
-        ensures text { IfOk result (λ e. ⟦<WorkLimitedExecutor<'r, Ucs2Input<'t>> as SearchState>⟧.text e
+        ensures text { IfOk result (λ e. ⟦<WorkPayingExecutor<'r, Ucs2Input<'t>, Stage> as SearchState>⟧.text e
             ≡ ucs2_text text.now (tree_of re.now).flags.unicode) }
-        ensures left { IfOk result (λ e. ⟦<WorkLimitedExecutor<'r, Ucs2Input<'t>> as SearchState>⟧.left e
+        ensures left { IfOk result (λ e. ⟦<WorkPayingExecutor<'r, Ucs2Input<'t>, Stage> as SearchState>⟧.left e
             ≡ work) }
     {
         let executor = BacktrackExecutor::<Ucs2Input>::new_ucs2(re, text)?;
-        Ok(WorkLimitedExecutor::from_executor(executor, work))
+        Ok(WorkPayingExecutor::from_executor(executor, work))
     }
 }
 
-impl<'r, Input: InputIndexer> SearchState for WorkLimitedExecutor<'r, Input> {
+impl<'r, Input: InputIndexer, Stage: SearchStage> SearchState
+    for WorkPayingExecutor<'r, Input, Stage> {
     ghost tree = { λ e. tree_of e.executor.search.program.regex };
 
     ghost text = { λ e. Input.text e.executor.search.searched.input };
@@ -235,7 +244,8 @@ impl<'r, Input: InputIndexer> SearchState for WorkLimitedExecutor<'r, Input> {
     ghost costs = { work_costs Input.Units.encoding };
 }
 
-impl<'r, Input: InputIndexer> SingleAttemptExecutor for WorkLimitedExecutor<'r, Input> {
+impl<'r, Input: InputIndexer, Stage: SearchStage> SingleAttemptExecutor
+    for WorkPayingExecutor<'r, Input, Stage> {
     type Input = Input;
 
     ghost groups = { λ e. (current_thread_state_of e.executor.memory 0 0).groups };
@@ -316,10 +326,13 @@ impl<'r, Input: InputIndexer> SingleAttemptExecutor for WorkLimitedExecutor<'r, 
 // left, and the result is an error. `SearchError` has no variant for the work limit.
 // `is_work_exhausted` tells whether it was reached.
 #[inline(always)]
-fn pay_or_refuse_search(work: &mut WorkBudget, units: usize) -> Result<(), SearchError>
-    ensures paid { let budget = ⟦<WorkBudget as StepCounter>⟧.work in
+fn pay_or_refuse_search<Stage: SearchStage>(
+    work: &mut WorkBudget<Stage>,
+    units: usize,
+) -> Result<(), SearchError>
+    ensures paid { let budget = ⟦<WorkBudget<Stage> as StepCounter>⟧.work in
         OnOk result (IsTakenFromBudget true units (budget work.old) (budget work.new)) }
-    ensures refused { let budget = ⟦<WorkBudget as StepCounter>⟧.work in
+    ensures refused { let budget = ⟦<WorkBudget<Stage> as StepCounter>⟧.work in
         OnErr result (IsRefusedByBudget true units (budget work.old) (budget work.new)) }
     ensures cause { IfErr result (λ e. e ≡ Memory) }
 {
@@ -552,7 +565,7 @@ fn candidate_past_loop<W: SearchContext>(
 }
 
 // Does what `candidate_past_loop` does, if `from` is a candidate start that may be in the loop.
-#[inline(always)]
+#[inline(never)]
 fn next_start_past_loop_within<W: SearchContext>(
     context: &W,
     opens: usize,
@@ -569,7 +582,8 @@ fn next_start_past_loop_within<W: SearchContext>(
     next_candidate_start_within(context, past, limit)
 }
 
-impl<'r, Input: InputIndexer> WorkLimitedProducer for WorkLimitedExecutor<'r, Input> {
+impl<'r, Input: InputIndexer, Stage: SearchStage> WorkLimitedProducer
+    for WorkPayingExecutor<'r, Input, Stage> {
     fn work_left(&self) -> u64 {
         self.progress.steps.left
     }

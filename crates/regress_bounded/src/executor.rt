@@ -21,7 +21,7 @@ ghost use Rattle.regress_bounded.specs.CostsOfStages.{costs_of_stages};
 
 use crate::memoizing_executor::MemoizingExecutor;
 use crate::work_bound::{FIRST_STAGE_WORK_PER_POSITION, WorkBound};
-use regress_backtrack::classicalbacktrack::WorkLimitedExecutor;
+use regress_backtrack::classicalbacktrack::FirstStageExecutor;
 use regress_input::indexing::{AsciiInput, InputIndexer, Ucs2Input, Utf8Input, Utf16Input};
 use regress_input::position::PositionType;
 use regress_program::insn::{CompiledRegex, CompiledRegexFor16BitUnits, Program};
@@ -41,7 +41,7 @@ use regress_search::search_loop::{SingleAttemptExecutor, position_range_of_group
 /// function returns the executor itself, because `SearchError` has no such variant.
 #[derive(Drop)]
 pub struct BoundedExecutor<'r, Input: InputIndexer> {
-    first: WorkLimitedExecutor<'r, Input>,
+    first: FirstStageExecutor<'r, Input>,
     bound: WorkBound,
     // The work of the second stage, until that begins.
     reserve: u64,
@@ -201,7 +201,7 @@ impl<'r, Input: InputIndexer> BoundedExecutor<'r, Input> {
     // clauses say what the executor has: this program and text, this work, whether it suffices for all
     // matches, and that it is in the first stage. An error is an allocation failure.
     fn from_first_stage(
-        first: WorkLimitedExecutor<'r, Input>,
+        first: FirstStageExecutor<'r, Input>,
         given: u64,
         unit_count: usize,
         bound: &WorkBound,
@@ -383,7 +383,7 @@ impl<'r, 't> BoundedExecutor<'r, Ucs2Input<'t>> {
         let searched = ProgramAndInput::pair_with_ucs2_text(re, text);
         let unit_count = searched.input.unit_count();
         let given = first_stage_work(unit_count, work);
-        let first = WorkLimitedExecutor::<Ucs2Input>::new_ucs2(re, text, given)?;
+        let first = FirstStageExecutor::<Ucs2Input>::new_ucs2(re, text, given)?;
         BoundedExecutor::from_first_stage(first, given, unit_count, bound, work)
     }
 }
@@ -438,7 +438,7 @@ impl<'r, 't> BoundedExecutor<'r, Utf8Input<'t>> {
         let searched = ProgramAndInput::pair_with_utf8_text(re, text);
         let unit_count = searched.input.unit_count();
         let given = first_stage_work(unit_count, work);
-        let first = WorkLimitedExecutor::<Utf8Input>::new(re, text, given)?;
+        let first = FirstStageExecutor::<Utf8Input>::new(re, text, given)?;
         BoundedExecutor::from_first_stage(first, given, unit_count, bound, work)
     }
 }
@@ -495,7 +495,7 @@ impl<'r, 't> BoundedExecutor<'r, AsciiInput<'t>> {
         let searched = ProgramAndInput::pair_with_ascii_text(re, text);
         let unit_count = searched.input.unit_count();
         let given = first_stage_work(unit_count, work);
-        let first = WorkLimitedExecutor::<AsciiInput>::new_ascii(re, text, given)?;
+        let first = FirstStageExecutor::<AsciiInput>::new_ascii(re, text, given)?;
         BoundedExecutor::from_first_stage(first, given, unit_count, bound, work)
     }
 }
@@ -550,7 +550,7 @@ impl<'r, 't> BoundedExecutor<'r, Utf16Input<'t>> {
         let searched = ProgramAndInput::pair_with_utf16_text(re, text);
         let unit_count = searched.input.unit_count();
         let given = first_stage_work(unit_count, work);
-        let first = WorkLimitedExecutor::<Utf16Input>::new_utf16(re, text, given)?;
+        let first = FirstStageExecutor::<Utf16Input>::new_utf16(re, text, given)?;
         BoundedExecutor::from_first_stage(first, given, unit_count, bound, work)
     }
 }

@@ -3,7 +3,7 @@ use Rattle.std.specs.Prelude.{option_map}
 use Rattle.regex_pattern_front.specs.AstToSpecTree.{tree_of}
 use Rattle.regress_search.specs.AttemptsAndStarts.{NextStartSkipsNoMatch}
 use Rattle.regress_search.specs.CostsOfSearches.{next_attempt_offset}
-use Rattle.regress_backtrack.proofs.work_limited.WorkLimitedExecutorSingleAttemptExecutor.next_start_after_failure.Goals as goal
+use Rattle.regress_backtrack.proofs.work_limited.WorkPayingExecutorSingleAttemptExecutor.next_start_after_failure.Goals as goal
 
 pub returns-clause-next : goal.returns-clause-next
 returns-clause-next g c =

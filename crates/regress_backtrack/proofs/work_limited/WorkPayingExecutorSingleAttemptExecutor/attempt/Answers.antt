@@ -6,7 +6,7 @@ use Rattle.regress_backtrack.specs.ProgramsAndPlans.{executed_tree_of}
 use Rattle.regress_backtrack.specs.State.{current_thread_state_of}
 use Rattle.regress_backtrack.proofs.PaidAttemptLemmas.{paid-with-tree}
 use Rattle.regress_backtrack.proofs.PlannedTreeLemmas.{can-be, can-run, ends-context, spends-unlimited}
-use Rattle.regress_backtrack.proofs.work_limited.WorkLimitedExecutorSingleAttemptExecutor.attempt.Goals as goal
+use Rattle.regress_backtrack.proofs.work_limited.WorkPayingExecutorSingleAttemptExecutor.attempt.Goals as goal
 
 pub attempt-requires-clause-executable : goal.attempt-requires-clause-executable
 attempt-requires-clause-executable g c =

@@ -2,7 +2,7 @@ use Rattle.std.proofs.Common.{◌∙◌, arith, refl, rules}
 use Rattle.std.specs.Prelude.{option_map}
 use Rattle.regex_pattern_front.specs.AstToSpecTree.{tree_of}
 use Rattle.regress_backtrack.proofs.PlannedTreeLemmas.{can-be, end-context, next-tree, refused-skip, search-run}
-use Rattle.regress_backtrack.proofs.work_limited.WorkLimitedExecutorSingleAttemptExecutor.skip_after_failure.Goals as goal
+use Rattle.regress_backtrack.proofs.work_limited.WorkPayingExecutorSingleAttemptExecutor.skip_after_failure.Goals as goal
 
 pub skip_past_loop-start-requires : goal.skip_past_loop-start-requires
 skip_past_loop-start-requires g c =

@@ -2,7 +2,7 @@ use Rattle.std.proofs.Common.{◌≤◌, arith, refl, rules}
 use Rattle.std.specs.Prelude.{option_map}
 use Rattle.regex_pattern_front.specs.AstToSpecTree.{tree_of}
 use Rattle.regress_backtrack.proofs.PlannedTreeLemmas.{can-be, next-tree, refused-skip, search-run}
-use Rattle.regress_backtrack.proofs.work_limited.WorkLimitedExecutorSingleAttemptExecutor.skip_to_candidate.Goals as goal
+use Rattle.regress_backtrack.proofs.work_limited.WorkPayingExecutorSingleAttemptExecutor.skip_to_candidate.Goals as goal
 
 pub skip_by_prefilter-next-requires-clause-executable : goal.skip_by_prefilter-next-requires-clause-executable
 skip_by_prefilter-next-requires-clause-executable g c =

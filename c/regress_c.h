@@ -310,8 +310,8 @@ uint32_t regress_c_work_per_unit(regress_c_pattern *pattern, uint64_t *per_unit)
  * codes if no bound is known. These and refusals of the handle, the text or the start take no work.
  *
  * A loop over characters examines no more of them than the work that is left pays for. The clauses of this call do not
- * say how much work it did, only that the work left never rises; those of regress_c_next_in_work say exactly what each
- * search costs, in a unit of their own.
+ * say how much work it did, only that the work left never rises; those of regress_c_next_in_work say what each search
+ * without an error costs, in a unit of their own.
  *
  * Each call computes the bound again. Only a search of much work takes memory for the failures that it records: some bits
  * for each byte of the text.
@@ -397,8 +397,8 @@ regress_c_reply regress_c_next_within(regress_c_pattern *pattern, regress_c_sear
  * number may serve many calls. Any pattern may be searched for: no work bound is needed.
  *
  * A unit of work is one executed operation, one character that a loop over characters tries, one code unit that a
- * backreference compares or a search skips, or one resumed choice point. Each search for a match takes exactly a cost
- * that the definition allows; no clause says which starts are skipped. The work that a search took suffices to search
+ * backreference compares or a search skips, or one resumed choice point. A search without an error takes exactly a
+ * cost that the definition allows; no clause says which starts are skipped. The work that a search took suffices to search
  * again (tested). No number suffices for every text, since a search may take exponential work.
  * regress_c_find_all_utf8_in_work has a number that suffices, but it counts another kind of work.
  *

@@ -337,9 +337,9 @@ impl Regex {
     /// code unit that a backreference compares, a resumed choice point, or a code unit that the
     /// search skips: a skip from offset p to offset q costs q - p. No clause says which starts are
     /// skipped: those that a prefilter excludes, and after a failed attempt the positions in a
-    /// leading loop, whatever work is left. Each call of `next` takes exactly a cost of its search.
-    /// The item is `WorkLimit` only if a beginning of the search costs more than is left; then no
-    /// work is left, and no item follows. The law `calls_within_work_return_matches` states the
+    /// leading loop, whatever work is left. A call of `next` without an error takes exactly a cost of
+    /// its search. The item is `WorkLimit` only if a beginning of the search costs more than is left;
+    /// then no work is left, and no item follows. The law `calls_within_work_return_matches` states the
     /// results of successive calls. The iterator's `work_left` returns how much work is left.
     ///
     /// No number suffices for all texts, because a search may take exponential work: failures are

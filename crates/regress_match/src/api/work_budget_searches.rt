@@ -21,8 +21,9 @@ use std::marker::Model;
 /// remaining answers, how much work is left, and whether that suffices for all of them.
 pub type MatchesInWork<'r, Input> = WorkMatches<BoundedExecutor<'r, Input>>;
 
-/// A pattern with a known work bound: on a text of n units, all matches together take at most
-/// `work_per_unit` × (n + 1) work. A unit of a text is a byte or a 16-bit code unit.
+/// A pattern with a known work bound: with a budget of `work_per_unit` × (n + 1), all matches in a text
+/// of n units are found, and together they take at most that work. A unit of a text is a byte or a
+/// 16-bit code unit.
 ///
 /// A search begins as `Regex::find_from_in_work` does, with 16 units of work for each position. If
 /// they do not suffice, it goes on with an executor that remembers failures: in one bit for each
@@ -30,8 +31,8 @@ pub type MatchesInWork<'r, Input> = WorkMatches<BoundedExecutor<'r, Input>>;
 ///
 /// A unit of work is one step of a thread, one backtrack to a pending thread, one thread that is
 /// dropped because it is known to fail, one character that a char loop examines, one code unit that
-/// a search skips, or one record of a failure that is reached (`docs/LINEAR.md`). Each call of `next`
-/// takes exactly a cost of its search (`CostsInWork`).
+/// a search skips, or one record of a failure that is reached (`docs/LINEAR.md`). A call of `next`
+/// without an error takes exactly a cost of its search (`CostsInWork`).
 ///
 /// Contracts see the pattern, and the number that `work_per_unit` returns.
 #[derive(Drop)]

@@ -2,8 +2,10 @@
 //! character of a text.
 #![tactic(auto)]
 
+mod all_matches;
 mod laws;
 
+use crate::all_matches::all_matches;
 use crate::laws::{compile_literal, find_each_in_ecmascript, find_first, replace_by_itself};
 use anyhow::{Result, bail};
 use regress_match::backends::{emit, try_parse};
@@ -97,5 +99,14 @@ fn main(rt: HostRuntime) -> Result<()> {
         println!(rt; "{first} {last}")?;
     }
     print_literal_matches(&rt, "a.b..c")?;
-    print_uppercase_letters(&rt, "aÉ")
+    print_uppercase_letters(&rt, "aÉ")?;
+    let numbers = all_matches(
+        rt.alloc(),
+        r"\d+",
+        SearchFlags::default(),
+        Syntax::EcmaScript2018,
+        "1, 23",
+    )?;
+    println!(rt; "{} numbers", numbers.len())?;
+    Ok(())
 }

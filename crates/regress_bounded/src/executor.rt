@@ -54,8 +54,10 @@ pub struct BoundedExecutor<'r, Input: InputIndexer> {
     out: bool,
     second: Option<MemoizingExecutor<'r, Input>>,
     ghost bounded: { TreeHasWorkBound (tree_of first.executor.search.program.regex) bound } by { Prim.hlevel props },
-    ghost program: { ForSome second (λ m. m.searched.program.now ≡ first.executor.search.program.regex) } by { Prim.hlevel (props, codes, node.the_row.coded) },
-    ghost text: { ForSome second (λ m. Input.text m.searched.input ≡ Input.text first.executor.search.searched.input) } by { Prim.hlevel props },
+    ghost program: { ForSome second (λ m. m.searched.program.now
+        ≡ first.executor.search.program.regex) } by { Prim.hlevel (props, codes, node.the_row.coded) },
+    ghost text: { ForSome second (λ m. Input.text m.searched.input
+        ≡ Input.text first.executor.search.searched.input) } by { Prim.hlevel props },
     ghost sum: { first.progress.steps.left + reserve < 2 ^ 64 },
     ghost suffices: { enough ≡ true → second_stage_work_per_position (arc_value bound.memo_analysis)
         * (units (Input.text first.executor.search.searched.input) + 1) ≤ reserve } by { Prim.hlevel props },

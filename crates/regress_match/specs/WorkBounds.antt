@@ -89,8 +89,7 @@ NextCallsYieldWithinWork before (r ∷ rs) behind = (next : RemainingAnswersAndW
     × NextCallsYieldWithinWork next rs behind
 
 -- The results are the matches of the list, one after another. After the last match or an error, and
--- only then, each call returns `None`. The error is an allocation failure, or `WorkLimit` if
--- `too_little` holds.
+-- only then, each call returns `None`. The error is `Memory`, or `WorkLimit` if `too_little` holds.
 abbrev pub ResultsAreMatchesWithinWork : (too_little : Type 0) → List Answer → List WorkLimitedNextResult → Type 0
 ResultsAreMatchesWithinWork too_little matches [] = Unit {0}
 ResultsAreMatchesWithinWork too_little matches (Some (Ok m) ∷ rs) =

@@ -100,8 +100,8 @@ pub fn find_each_in_ecmascript<'r, 't>(
     re.find_iter(text)
 }
 
-/// Returns the match in `text` that begins at byte offset `at`, a character boundary or past the end.
-/// It is that of the tree that the grammar gives to the pattern.
+/// Returns the match in `text` that begins at byte offset `at`, a character boundary or past the
+/// end. It is that of the tree that the grammar gives to the pattern.
 ///
 /// # Errors
 ///

@@ -21,18 +21,16 @@ use std::marker::Model;
 /// remaining answers, how much work is left, and whether that suffices for all of them.
 pub type MatchesInWork<'r, Input> = WorkMatches<BoundedExecutor<'r, Input>>;
 
-/// A pattern with a known work bound: with a budget of `work_per_unit` × (n + 1), all matches in a text
-/// of n units are found, and together they take at most that work. A unit of a text is a byte or a
-/// 16-bit code unit.
+/// A pattern with a known work bound: with a budget of `work_per_unit` × (n + 1), all matches in a
+/// text of n units are found, and together they take at most that work. A unit of a text is a byte or
+/// a 16-bit code unit.
 ///
 /// A search begins as `Regex::find_from_in_work` does, with 16 units of work for each position. If
 /// they do not suffice, it goes on with an executor that remembers failures: in one bit for each
 /// position, each instruction that records, and each state of the loops around it.
 ///
-/// A unit of work is one step of a thread, one backtrack to a pending thread, one thread that is
-/// dropped because it is known to fail, one character that a char loop examines, one code unit that
-/// a search skips, or one record of a failure that is reached (`docs/LINEAR.md`). A call of `next`
-/// without an error takes exactly a cost of its search (`CostsInWork`).
+/// `docs/LINEAR.md` says what a unit of work is. A call of `next` without an error takes exactly a
+/// cost of its search (`CostsInWork`).
 ///
 /// Contracts see the pattern, and the number that `work_per_unit` returns.
 #[derive(Drop)]
@@ -61,13 +59,13 @@ impl Regex {
     ///
     /// # Errors
     ///
-    /// Returns the reason why no bound is known for the program for 16-bit units or, if that has one,
-    /// for the program for bytes. `docs/LINEAR.md` has the full list of causes. It is proved when the
-    /// first two are returned, and tested when the others are.
+    /// Returns the reason why no bound is known for the program for 16-bit units or, if that has
+    /// one, for the program for bytes. `docs/LINEAR.md` has the full list of causes. It is proved
+    /// when the first two are returned, and tested when the others are.
     ///
     /// - `Backreference` exactly if this program has one.
-    /// - Otherwise `Lookaround` exactly if in this program the contents of a lookaround have a loop, or
-    ///   alternatives that more contents follow. (Loops over one character with a maximum are allowed
+    /// - Otherwise `Lookaround` exactly if in this program the contents of a lookaround have a loop,
+    ///   or alternatives that more contents follow. (Loops over one character with a maximum are allowed
     ///   in the program for bytes. That for 16-bit units has no such loops.)
     /// - `Count` if the counts of its loops are too large, or its loops are nested too deeply.
     /// - `BoundTooLarge` if the bound is too large, or lookarounds are nested too deeply.

@@ -22,8 +22,8 @@ use std::marker::Model;
 pub type MatchesInWork<'r, Input> = WorkMatches<BoundedExecutor<'r, Input>>;
 
 /// A pattern with a known work bound: with a budget of `work_per_unit` × (n + 1), all matches in a
-/// text of n units are found, and together they take at most that work. A unit of a text is a byte or
-/// a 16-bit code unit.
+/// text of n units are found unless an allocation fails, and together they take at most that work. A
+/// unit of a text is a byte or a 16-bit code unit.
 ///
 /// A search begins as `Regex::find_from_in_work` does, with 16 units of work for each position. If
 /// they do not suffice, it goes on with an executor that remembers failures: in one bit for each

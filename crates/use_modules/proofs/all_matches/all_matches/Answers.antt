@@ -6,12 +6,16 @@ use Rattle.regex_meaning.specs.Tree.{Tree}
 use Rattle.regex_parser.specs.SyntaxDialects.{spec_syntax_of}
 use Rattle.regex_parser.specs.declared.syntax.Syntax.{Syntax}
 use Rattle.regex_parser.specs.declared.syntax.Syntax.TheVariants.{Profile, EcmaScript2018}
-use Rattle.regress_match.specs.ProgramTreesAndAnswers.{IsCompiledWithSyntax, utf8_answers}
+use Rattle.regress_match.specs.ProgramTreesAndAnswers.{IsCompiledWithSyntax, tree_for_16_bit_units, utf8_answers}
 use Rattle.regress_match.specs.PublicFlagsAsSpecFlags.{spec_flags_of}
 use Rattle.use_modules.proofs.all_matches.all_matches.Goals as goal
 
-pub returns-in-Ok : goal.returns-in-Ok
-returns-in-Ok c = λ tree parsed. c.in-Ok.ensures ∙ answers c.args.syntax tree c.in_ok-re.ensures.compiled parsed
+pub returns-in-Ok-clause-matches : goal.returns-in-Ok-clause-matches
+returns-in-Ok-clause-matches c =
+    let re = c.in_ok-re.re in
+    let tree = tree_for_16_bit_units re in
+    let is = c.in_ok-re.ensures.compiled in
+    (tree, is.parsed, c.in-Ok.ensures ∙ answers c.args.syntax tree is is.parsed)
   where
     answers : (s : Syntax) (tree : Tree)
         → IsCompiledWithSyntax (spec_syntax_of s) (spec_flags_of c.args.flags) (chars c.args.pattern.now) c.in_ok-re.re
